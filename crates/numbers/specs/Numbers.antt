@@ -1,0 +1,43 @@
+-- Document 01, "Numbers given back": the number of each refusal, and the values that it carries.
+use mathlib.Core.List.{List, [], _∷_}
+use Prim.Native.Nat.{ℕ}
+use lib.ListN.{getD}
+use Rattle.numbers.specs.declared.Refusal.{Refusal}
+use Rattle.numbers.specs.declared.Refusal.the-variants.{TooFewBytes, RunsPastEnd, CutShort, LeftOver, BadValue, NoEntry, NoRoom, ValueTooLong, NeverRead, TableFull, StoreTooSmall, PayloadTooLong, OutputTooSmall, ListTooShort, NotFound, UnknownKind}
+
+-- What a call answers in document 01's words: what it gives, or the number of its refusal with the values that stand beside it.
+pub data Answer (A : Type 0) : Type 0 where
+  gives : A → Answer A
+  refuses : ℕ → List ℕ → Answer A
+
+-- The number of each refusal and its values: "All but 13 and these [the walk's, which carry an offset] carry no other number."
+abbrev pub numbered : Refusal → ℕ × List ℕ
+numbered TooFewBytes = (1, [])
+numbered RunsPastEnd = (2, [])
+numbered CutShort = (3, [])
+numbered LeftOver = (4, [])
+numbered BadValue = (5, [])
+numbered NoEntry = (6, [])
+numbered NoRoom = (7, [])
+numbered ValueTooLong = (8, [])
+numbered NeverRead = (9, [])
+numbered TableFull = (10, [])
+numbered StoreTooSmall = (11, [])
+numbered PayloadTooLong = (12, [])
+numbered (OutputTooSmall length) = (13, length ∷ [])
+numbered ListTooShort = (14, [])
+numbered NotFound = (15, [])
+numbered UnknownKind = (16, [])
+
+abbrev pub number : Refusal → ℕ
+number r = numbered r .0
+
+abbrev pub values : Refusal → List ℕ
+values r = numbered r .1
+
+abbrev pub told : {A : Type 0} → Refusal → Answer A
+told r = refuses (number r) (values r)
+
+-- the first of the values, 0 where there is none
+abbrev pub carried : Refusal → ℕ
+carried r = getD (values r) 0 0

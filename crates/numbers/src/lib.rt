@@ -1,0 +1,87 @@
+// The refusals of document 01, "Numbers given back": one enum for all layers.
+ghost use mathlib.Core.Path.{_≡_};
+ghost use Rattle.numbers.specs.Numbers.{number, carried};
+
+// Why a call refused. A caller passes a refusal of a layer below on by this name and never makes it anew, so that what a case carries can grow.
+pub enum Refusal {
+    // 1: fewer than 3 bytes for a TLV, or 8 for a CMDU header
+    TooFewBytes,
+    // 2: the declared value runs past the end
+    RunsPastEnd,
+    // 3: a typed value ends inside its layout
+    CutShort,
+    // 4: bytes left over in a kind that takes none
+    LeftOver,
+    // 5: role not 0, association bits 0-6 set, profile 0
+    BadValue,
+    // 6: no entry with these numbers
+    NoEntry,
+    // 7: lent room smaller than what is to be written
+    NoRoom,
+    // 8: value to be written above 65,535
+    ValueTooLong,
+    // 9: a record that reading never gives
+    NeverRead,
+    // 10: no free place, or no free key
+    TableFull,
+    // 11: store below 47,744
+    StoreTooSmall,
+    // 12: fragment payload above 1,492; program input above 47,744
+    PayloadTooLong,
+    // 13: two or more fragments join, but into more bytes than the output has; with their length
+    OutputTooSmall(usize),
+    // 14: TLV list too short for the walk
+    ListTooShort,
+    // 15: find: none
+    NotFound,
+    // 16: kind not among the 21
+    UnknownKind,
+}
+
+// Document 01's number of a refusal.
+pub fn number_of(refusal: Refusal) -> u8
+    ensures { λ r. ⌜ r ≡ number refusal ⌝ }
+{
+    match refusal {
+        Refusal::TooFewBytes => 1,
+        Refusal::RunsPastEnd => 2,
+        Refusal::CutShort => 3,
+        Refusal::LeftOver => 4,
+        Refusal::BadValue => 5,
+        Refusal::NoEntry => 6,
+        Refusal::NoRoom => 7,
+        Refusal::ValueTooLong => 8,
+        Refusal::NeverRead => 9,
+        Refusal::TableFull => 10,
+        Refusal::StoreTooSmall => 11,
+        Refusal::PayloadTooLong => 12,
+        Refusal::OutputTooSmall(_) => 13,
+        Refusal::ListTooShort => 14,
+        Refusal::NotFound => 15,
+        Refusal::UnknownKind => 16,
+    }
+}
+
+// What a refusal carries besides its number: the length of 13, and 0 where it carries nothing.
+pub fn carried_by(refusal: Refusal) -> usize
+    ensures { λ r. ⌜ r ≡ carried refusal ⌝ }
+{
+    match refusal {
+        Refusal::OutputTooSmall(length) => length,
+        Refusal::TooFewBytes => 0,
+        Refusal::RunsPastEnd => 0,
+        Refusal::CutShort => 0,
+        Refusal::LeftOver => 0,
+        Refusal::BadValue => 0,
+        Refusal::NoEntry => 0,
+        Refusal::NoRoom => 0,
+        Refusal::ValueTooLong => 0,
+        Refusal::NeverRead => 0,
+        Refusal::TableFull => 0,
+        Refusal::StoreTooSmall => 0,
+        Refusal::PayloadTooLong => 0,
+        Refusal::ListTooShort => 0,
+        Refusal::NotFound => 0,
+        Refusal::UnknownKind => 0,
+    }
+}
