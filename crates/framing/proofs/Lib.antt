@@ -1,0 +1,6 @@
+pub mod Copying
+pub mod Firm
+pub mod Heading
+pub mod Reading
+pub mod RoundTrip
+pub mod Writing

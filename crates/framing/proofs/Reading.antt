@@ -1,0 +1,55 @@
+-- Laws of `readTlv`: its three cases, and what a TLV that reads says of the bytes.
+use mathlib.Core.Path.{_≡_, refl, sym, ap, _∙_}
+use mathlib.Core.Bool.{Bool, true, false, cond}
+use mathlib.Core.List.{List, [], _∷_, _++_}
+use Prim.Native.Nat.{ℕ, _+_, _-_, _<_, _≤_}
+use native.Mathlib.Omega.{arith}
+use lib.Dec.{ltb}
+use lib.ListN.{length, getD, take, drop}
+use borrow.Author.Tests.{ltb-false, ltb-true, lt-ltb, le-ltb}
+use Rattle.numbers.specs.Numbers.{Answer, gives, refuses, told}
+use Rattle.framing.specs.Tlv.{TlvRead, readTlv, declared, valueIn}
+
+pub short : (s : List ℕ) → length s < 3 → refuses 1 [] ≡ readTlv s
+unfolding readTlv
+short s h = simp (lt-ltb (length s) 3 h)
+
+-- `n` is how the code came by the declared length
+pub past : (s : List ℕ) (n : ℕ) → n ≡ declared s → 3 ≤ length s → length s - 3 < n → refuses 2 [] ≡ readTlv s
+unfolding readTlv
+past s n e h l = simp (le-ltb (length s) 3 h, lt-ltb (length s - 3) (declared s) (rw e at l))
+
+pub whole : (s : List ℕ) (n : ℕ) → n ≡ declared s → 3 ≤ length s → n ≤ length s - 3 → gives (record { tlv-type = getD s 0 0; value-length = n; consumed = 3 + n }) ≡ readTlv s
+unfolding readTlv
+whole s n e h l = rw e (simp (le-ltb (length s) 3 h, le-ltb (length s - 3) (declared s) (rw e at l)))
+
+-- what a TLV that reads says of the bytes
+pub record Reads (s : List ℕ) (t : TlvRead) : Type 0 where
+  pub typed : t .tlv-type ≡ getD s 0 0
+  pub long : t .value-length ≡ declared s
+  pub all : t .consumed ≡ 3 + t .value-length
+  pub inside : t .consumed ≤ length s
+
+by-tests : (x y : Bool) (t u : TlvRead) → gives t ≡ cond x (refuses 1 []) (cond y (refuses 2 []) (gives u)) → (x ≡ false) × ((y ≡ false) × (t ≡ u))
+by-tests true y t u e = let z : _≡_ {A = ℕ} 0 1 = cc in absurd (omega arith)
+by-tests false true t u e = let z : _≡_ {A = ℕ} 0 1 = cc in absurd (omega arith)
+by-tests false false t u e = (refl, (refl, cc))
+
+pub reads : (s : List ℕ) (t : TlvRead) → gives t ≡ readTlv s → Reads s t
+unfolding readTlv
+reads s t e =
+    let h = by-tests (ltb (length s) 3) (ltb (length s - 3) (declared s)) t _ e in
+    let long = ltb-false (length s) 3 (h .0) in
+    let fits = ltb-false (length s - 3) (declared s) (h .1 .0) in
+    record {
+      typed = ap (λ (u : TlvRead). u .tlv-type) (h .1 .1);
+      long = ap (λ (u : TlvRead). u .value-length) (h .1 .1);
+      all = ap (λ (u : TlvRead). u .consumed) (h .1 .1) ∙ ap (λ (n : ℕ). 3 + n) (sym (ap (λ (u : TlvRead). u .value-length) (h .1 .1)));
+      inside = omega (arith, ap (λ (u : TlvRead). u .consumed) (h .1 .1), long, fits);
+    }
+
+pub value-given : (s : List ℕ) (t : TlvRead) → gives t ≡ readTlv s → take (t .consumed - 3) (drop 3 s) ≡ valueIn (readTlv s) s
+value-given s t e = let l : t .consumed - 3 ≡ t .value-length = omega (arith, reads s t e .all) in rw (← e, l)
+
+pub value-refused : (s : List ℕ) (n : ℕ) (vs : List ℕ) → refuses n vs ≡ readTlv s → [] ≡ valueIn (readTlv s) s
+value-refused s n vs e = rw (← e)

@@ -1,0 +1,2 @@
+pub mod Cmdu
+pub mod Tlv

@@ -1,0 +1,58 @@
+-- A TLV: "one type byte, a big-endian 16-bit length, then that many bytes" (document 01, "Framing"; IEEE 1905.1, clause 6.4).
+use mathlib.Core.Bool.{cond}
+use mathlib.Core.List.{List, [], _∷_, _++_}
+use Prim.Native.Nat.{ℕ, _+_, _*_, _-_, _/_, _%_}
+use lib.Dec.{ltb}
+use lib.ListN.{length, take, drop, getD}
+use Rattle.numbers.specs.Numbers.{Answer, gives, refuses, told}
+use Rattle.framing.specs.declared.Read.{Read}
+use Rattle.framing.specs.declared.Read.the-variants as Read
+use Rattle.framing.specs.declared.Written.{Written}
+use Rattle.framing.specs.declared.Written.the-variants as Written
+
+-- what reading gives: the type, how long the value is that stands behind the three header bytes, and the bytes consumed
+pub record TlvRead : Type 0 where
+  pub tlv-type : ℕ
+  pub value-length : ℕ
+  pub consumed : ℕ
+
+-- what each answer of `read_tlv` says
+abbrev pub readOf : Read → Answer TlvRead
+readOf (Read.Whole t n c) = gives (record { tlv-type = t; value-length = n; consumed = c })
+readOf (Read.Refused r) = told r
+
+-- the big-endian number in bytes 1 and 2
+abbrev pub declared : List ℕ → ℕ
+declared s = getD s 1 0 * 256 + getD s 2 0
+
+unfoldable pub readTlv : List ℕ → Answer TlvRead
+readTlv s =
+    cond (ltb (length s) 3) (refuses 1 [])
+    (cond (ltb (length s - 3) (declared s)) (refuses 2 [])
+    (gives (record { tlv-type = getD s 0 0; value-length = declared s; consumed = 3 + declared s })))
+
+-- the value of a TLV that reads as said, as a part of the bytes; where none reads, their empty start
+abbrev pub valueIn : Answer TlvRead → List ℕ → List ℕ
+valueIn (gives t) s = take (t .value-length) (drop 3 s)
+valueIn (refuses n vs) s = []
+
+-- the three header bytes of a TLV whose value has n bytes, and the whole TLV
+abbrev pub header : ℕ → ℕ → List ℕ
+header t n = t ∷ n / 256 ∷ n % 256 ∷ []
+
+abbrev pub tlvBytes : ℕ → List ℕ → List ℕ
+tlvBytes t v = header t (length v) ++ v
+
+-- what each answer of a writing call says
+abbrev pub writtenOf : Written → Answer ℕ
+writtenOf (Written.Bytes n) = gives n
+writtenOf (Written.Refused r) = told r
+
+-- a TLV whose value has n bytes, into a buffer with room for so many: 8, then 7, or the bytes written
+unfoldable pub writeSize : ℕ → ℕ → Answer ℕ
+writeSize n room = cond (ltb 65535 n) (refuses 8 []) (cond (ltb room (3 + n)) (refuses 7 []) (gives (3 + n)))
+
+-- what a buffer holds after some bytes were to be written at its start: "bytes past the TLV stay as lent", on a refusal all do
+abbrev pub leaves : Answer ℕ → List ℕ → List ℕ → List ℕ
+leaves (gives n) bytes out = bytes ++ drop (length bytes) out
+leaves (refuses n vs) bytes out = out

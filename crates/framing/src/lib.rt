@@ -1,0 +1,149 @@
+// Framing, the lowest layer of the protocol: a TLV read and written, and the CMDU header. The walk over a payload's TLVs is the crate `walking`.
+use numbers::Refusal;
+ghost use mathlib.Core.Path.{_≡_};
+ghost use mathlib.Core.List.{_++_};
+ghost use Prim.Native.Nat.{ℕ, _+_, _*_, _-_, _<_, _≤_};
+ghost use lib.ListN.{length, take, drop, getD};
+ghost use Rattle.framing.specs.Tlv.{readOf, readTlv, valueIn, writtenOf, writeSize, header, tlvBytes, leaves};
+ghost use Rattle.framing.specs.Cmdu.{headerOf, readHeader};
+
+// What reading a TLV finds: its type, the length of its value, and the bytes consumed. The value stands behind the three header bytes.
+pub enum Read {
+    Whole {
+        tlv_type: u8,
+        length: usize,
+        consumed: usize,
+    },
+    Refused(Refusal),
+}
+
+// How many bytes were written, at the start of the lent buffer.
+pub enum Written {
+    Bytes(usize),
+    Refused(Refusal),
+}
+
+// The header of a CMDU, every field as it stands there. `last_fragment` is bit 7 of `flags`.
+pub struct CmduHeader {
+    pub message_version: u8,
+    pub reserved: u8,
+    pub message_type: u16,
+    pub message_id: u16,
+    pub fragment: u8,
+    pub flags: u8,
+    pub last_fragment: bool,
+}
+
+pub enum HeaderRead {
+    Header(CmduHeader),
+    Refused(Refusal),
+}
+
+fn wide(x: u8) -> usize
+    ensures { λ r. ⌜ (r ≡ x) × (r < 256) ⌝ }
+{
+    x as usize
+}
+
+// The TLV at the start of s.
+pub fn read_tlv(s: &[u8]) -> Read
+    ensures { λ r. ⌜ readOf r ≡ readTlv (now (s .entry)) ⌝ }
+{
+    if s.len() < 3 {
+        return Read::Refused(Refusal::TooFewBytes);
+    }
+    let length = wide(s[1]) * 256 + wide(s[2]);
+    if s.len() - 3 < length {
+        return Read::Refused(Refusal::RunsPastEnd);
+    }
+    Read::Whole {
+        tlv_type: s[0],
+        length,
+        consumed: 3 + length,
+    }
+}
+
+// The value of the TLV at the start of s, as a part of s; the empty start of s where no TLV reads.
+pub fn value(s: &[u8]) -> &[u8]
+    ensures { λ r. ⌜ now r ≡ valueIn (readTlv (now (s .entry))) (now (s .entry)) ⌝ }
+{
+    match read_tlv(s) {
+        Read::Whole {
+            tlv_type: _,
+            length: _,
+            consumed,
+        } => &s[3..consumed],
+        Read::Refused(_) => &s[0..0],
+    }
+}
+
+// The three header bytes of a TLV whose value has so many bytes, where the buffer has room for the whole TLV. What writes the value is then
+// lent the part from byte 3 onward.
+pub fn write_header(tlv_type: u8, value_length: usize, out: &mut [u8]) -> Written
+    ensures answer { λ r. ⌜ writtenOf r ≡ writeSize «value_length» (length (now (out .entry))) ⌝ }
+    ensures bytes { λ _. ⌜ now (out .exit) ≡ leaves (writeSize «value_length» (length (now (out .entry)))) (header «tlv_type» «value_length») (now (out .entry)) ⌝ }
+{
+    if 65535 < value_length {
+        return Written::Refused(Refusal::ValueTooLong);
+    }
+    let size = 3 + value_length;
+    if out.len() < size {
+        return Written::Refused(Refusal::NoRoom);
+    }
+    out[0] = tlv_type;
+    out[1] = (value_length / 256) as u8;
+    out[2] = (value_length % 256) as u8;
+    Written::Bytes(size)
+}
+
+// The bytes go to the start of the buffer.
+fn put_bytes(bytes: &[u8], out: &mut [u8])
+    requires { ⌜ length (now bytes) ≤ length (now out) ⌝ }
+    ensures { λ _. ⌜ now (out .exit) ≡ now (bytes .entry) ++ drop (length (now (bytes .entry))) (now (out .entry)) ⌝ }
+{
+    let mut i = 0;
+    while i < bytes.len() {
+        out[i] = bytes[i];
+        i += 1;
+    }
+}
+
+// The TLV with this type and this value, at the start of the buffer.
+pub fn write_tlv(tlv_type: u8, bytes: &[u8], out: &mut [u8]) -> Written
+    ensures answer { λ r. ⌜ writtenOf r ≡ writeSize (length (now (bytes .entry))) (length (now (out .entry))) ⌝ }
+    ensures bytes { λ _. ⌜ now (out .exit) ≡ leaves (writeSize (length (now (bytes .entry))) (length (now (out .entry)))) (tlvBytes «tlv_type» (now (bytes .entry))) (now (out .entry)) ⌝ }
+{
+    match write_header(tlv_type, bytes.len(), out) {
+        Written::Bytes(size) => {
+            put_bytes(bytes, &mut out[3..]);
+            Written::Bytes(size)
+        }
+        Written::Refused(refusal) => Written::Refused(refusal),
+    }
+}
+
+fn wide16(high: u8, low: u8) -> u16
+    ensures { λ r. ⌜ r ≡ high * 256 + low ⌝ }
+{
+    (high as u16) * 256 + (low as u16)
+}
+
+// The header of the CMDU at the start of s.
+pub fn read_cmdu_header(s: &[u8]) -> HeaderRead
+    ensures { λ r. ⌜ headerOf r ≡ readHeader (now (s .entry)) ⌝ }
+{
+    if s.len() < 8 {
+        return HeaderRead::Refused(Refusal::TooFewBytes);
+    }
+    let message_type = wide16(s[2], s[3]);
+    let message_id = wide16(s[4], s[5]);
+    HeaderRead::Header(CmduHeader {
+        message_version: s[0],
+        reserved: s[1],
+        message_type,
+        message_id,
+        fragment: s[6],
+        flags: s[7],
+        last_fragment: s[7] / 128 % 2 == 1,
+    })
+}
