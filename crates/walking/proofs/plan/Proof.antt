@@ -1,0 +1,57 @@
+-- `plan` meets its contract: an exit for each case of `listed`.
+use mathlib.Core.Path.{sym, _∙_, ap}
+use native.Mathlib.Omega.{arith}
+use Rattle.walking.specs.Walk.{walkedOf, walkOf}
+use Rattle.walking.specs.Steps.{fills}
+use Rattle.walking.proofs.Filled.{is-first}
+use Rattle.walking.proofs.Listed.{refused, is-count, too-short, enough}
+use borrow.Author.Needs.{needs}
+use Rattle.walking.proofs.plan.Statement.{statement}
+use Rattle.walking.proofs.plan.Tie as tie
+
+record-at-requires : tie.Need-record-at-requires
+record-at-requires c κs = search needs
+
+walk-requires : tie.Need-walk-requires
+walk-requires c κs = search needs
+
+enum-known-count : tie.Need-enum-known-count
+enum-known-count c = search needs
+
+offset-of-requires : tie.Need-offset-of-requires
+offset-of-requires c κs = omega (arith, is-count (walkOf (c .before .before .before .before .before .before .before .args .payload .now)) _ (ap walkedOf (sym (c .before .before .count .given .1)) ∙ c .before .before .before .before .walk .ensures))
+
+returns : tie.Need-returns
+returns c =
+    let e = too-short (walkOf (c .before .before .before .before .before .before .before .before .args .payload .now)) _ (ap walkedOf (sym (c .before .before .before .count .given .1)) ∙ c .before .before .before .before .before .walk .ensures) _ (c .before .if1 .taken) in
+    record {
+      answered = rw (c .offset-of .ensures) e;
+      counts = ap fills e;
+      starts = is-first _ _ (c .before .before .before .before .before .before .record-at .ensures);
+    }
+
+enum-known-refusal : tie.Need-enum-known-refusal
+enum-known-refusal c = search needs
+
+returns-2 : tie.Need-returns-2
+returns-2 c =
+    let e = enough (walkOf (c .before .before .before .before .before .before .before .args .payload .now)) _ (ap walkedOf (sym (c .before .before .count .given .1)) ∙ c .before .before .before .before .walk .ensures) _ (c .if1 .left) in
+    record { answered = e; counts = ap fills e; starts = is-first _ _ (c .before .before .before .before .before .record-at .ensures) }
+
+returns-3 : tie.Need-returns-3
+returns-3 c =
+    let e = refused (walkOf (c .before .before .before .before .before .before .args .payload .now)) _ _ _ (ap walkedOf (sym (c .before .refusal .given .1)) ∙ c .before .before .before .walk .ensures) in
+    record { answered = e; counts = ap fills e; starts = is-first _ _ (c .before .before .before .before .record-at .ensures) }
+
+pub plan-spec : {M : Type 1} → statement M
+plan-spec =
+    tie.close
+    (tie.spec
+    record-at-requires
+    walk-requires
+    enum-known-count
+    offset-of-requires
+    returns
+    enum-known-refusal
+    returns-2
+    returns-3)

@@ -1,0 +1,34 @@
+-- What the walk's own private steps promise each other. No contract of a public call cites these.
+use mathlib.Core.Path.{_≡_}
+use mathlib.Core.List.{List}
+use Prim.Native.Nat.{ℕ, _+_, _*_, _<_, _≤_}
+use lib.ListN.{length, getD}
+use Rattle.numbers.specs.Numbers.{Answer, gives, refuses}
+use Rattle.walking.specs.declared.Tlv.{Tlv}
+use Rattle.walking.specs.Walk.{walkOf, listed, noTlv}
+
+-- the record of a TLV whose type byte stands at `at`, and where the one behind it stands
+abbrev pub recordAt : List ℕ → ℕ → Tlv
+recordAt p at = record { «tlv_type» = getD p at 0; length = getD p (at + 1) 0 * 256 + getD p (at + 2) 0; offset = at }
+
+abbrev pub behind : Tlv → ℕ
+behind t = t .offset + 3 + t .length
+
+-- t is record number i of the walk, where it has so many
+abbrev pub IsNumber : List ℕ → ℕ → Tlv → Type 0
+IsNumber p i t = i < length (walkOf p .tlvs) → t ≡ getD (walkOf p .tlvs) i noTlv
+
+-- how many entries are filled
+abbrev pub fills : Answer ℕ → ℕ
+fills (gives n) = n
+fills (refuses n vs) = 0
+
+pub record Plan (p : List ℕ) (room count : ℕ) (first : Tlv) (answer : Answer ℕ) : Type 0 where
+  pub answered : answer ≡ listed room (walkOf p)
+  pub counts : count ≡ fills (listed room (walkOf p))
+  pub starts : IsNumber p 0 first
+
+pub record Fillable (p : List ℕ) (first : Tlv) (count room : ℕ) : Type 0 where
+  pub fits : count ≤ room
+  pub few : count ≤ length (walkOf p .tlvs)
+  pub starts : IsNumber p 0 first

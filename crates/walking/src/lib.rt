@@ -1,0 +1,164 @@
+// The walk over a payload's TLVs, counted and, in a second form, listed in a slice that the caller lends.
+use framing::Read;
+use numbers::Refusal;
+ghost use mathlib.Core.Path.{_≡_};
+ghost use mathlib.Core.List.{_++_};
+ghost use Prim.Native.Nat.{_+_, _*_, _<_, _≤_};
+ghost use lib.ListN.{length, take, drop};
+ghost use Rattle.walking.specs.Walk.{walkedOf, walkOf, counted, listed, filled, offsetAt};
+ghost use Rattle.walking.specs.Steps.{Plan, Fillable, recordAt, behind};
+
+// A TLV of a payload, as a walk lists it: its type, the length of its value, and the offset of its type byte.
+#[repr(C)]
+pub struct Tlv {
+    pub tlv_type: u8,
+    pub length: u16,
+    pub offset: usize,
+}
+
+// How many TLVs a payload has, or the refusal with the offset of the TLV that failed; of a list too short, of the first without a place.
+pub enum Walked {
+    Count(usize),
+    Refused { refusal: Refusal, at: usize },
+}
+
+// The TLVs of a payload, counted.
+pub fn walk(payload: &[u8]) -> Walked
+    ensures { λ r. ⌜ walkedOf r ≡ counted (walkOf (now (payload .entry))) ⌝ }
+{
+    let mut at = 0;
+    let mut count = 0;
+    while at < payload.len() {
+        match framing::read_tlv(&payload[at..]) {
+            Read::Whole {
+                tlv_type: _,
+                length: _,
+                consumed,
+            } => {
+                at += consumed;
+                count += 1;
+            }
+            Read::Refused(refusal) => {
+                return Walked::Refused { refusal, at };
+            }
+        }
+    }
+    Walked::Count(count)
+}
+
+fn wide16(high: u8, low: u8) -> u16
+    ensures { λ r. ⌜ r ≡ high * 256 + low ⌝ }
+{
+    (high as u16) * 256 + (low as u16)
+}
+
+// The record of the TLV whose type byte stands at `at`; where no header fits there, one that is not to be used.
+fn record_at(payload: &[u8], at: usize) -> Tlv
+    requires { ⌜ at ≤ length (now payload) ⌝ }
+    ensures { λ r. ⌜ (at + 3 ≤ length (now (payload .entry)) → r ≡ recordAt (now (payload .entry)) at) ⌝ }
+{
+    if payload.len() - at < 3 {
+        return Tlv {
+            tlv_type: 0,
+            length: 0,
+            offset: at,
+        };
+    }
+    Tlv {
+        tlv_type: payload[at],
+        length: wide16(payload[at + 1], payload[at + 2]),
+        offset: at,
+    }
+}
+
+// The record of the TLV behind t.
+fn next_of(t: Tlv, payload: &[u8]) -> Tlv
+    requires { ⌜ behind t ≤ length (now payload) ⌝ }
+    ensures { λ r. ⌜ (behind t + 3 ≤ length (now (payload .entry)) → r ≡ recordAt (now (payload .entry)) (behind t)) ⌝ }
+{
+    record_at(payload, t.offset + 3 + (t.length as usize))
+}
+
+// The offset of TLV number k, from 0, of those that a walk reads.
+fn offset_of(payload: &[u8], k: usize) -> usize
+    requires { ⌜ k < length (walkOf (now payload) .tlvs) ⌝ }
+    ensures { λ r. ⌜ r ≡ offsetAt (walkOf (now (payload .entry)) .tlvs) k ⌝ }
+{
+    let mut t = record_at(payload, 0);
+    let mut i = 0;
+    while i < k {
+        t = next_of(t, payload);
+        i += 1;
+    }
+    t.offset
+}
+
+// What a walk with a list answers, how many entries it fills, and the record of the payload's first TLV, from which the filling goes on.
+struct Planned {
+    count: usize,
+    first: Tlv,
+    answer: Walked,
+}
+
+fn plan(payload: &[u8], room: usize) -> Planned
+    ensures { λ r. ⌜ Plan (now (payload .entry)) room (r .count) (r .first) (walkedOf (r .answer)) ⌝ }
+{
+    let first = record_at(payload, 0);
+    match walk(payload) {
+        Walked::Count(count) => {
+            if room < count {
+                let at = offset_of(payload, room);
+                let answer = Walked::Refused {
+                    refusal: Refusal::ListTooShort,
+                    at,
+                };
+                return Planned {
+                    count: 0,
+                    first,
+                    answer,
+                };
+            }
+            let entries = count;
+            let answer = Walked::Count(count);
+            Planned {
+                count: entries,
+                first,
+                answer,
+            }
+        }
+        Walked::Refused { refusal, at } => {
+            let answer = Walked::Refused { refusal, at };
+            Planned {
+                count: 0,
+                first,
+                answer,
+            }
+        }
+    }
+}
+
+// Fills so many entries with the payload's first records, of which the first is given.
+fn fill(list: &mut [Tlv], payload: &[u8], first: Tlv, count: usize)
+    requires { ⌜ Fillable (now payload) first count (length (now list)) ⌝ }
+    ensures { λ _. ⌜ now (list .exit) ≡ take count (walkOf (now (payload .entry)) .tlvs) ++ drop count (now (list .entry)) ⌝ }
+{
+    let mut t = first;
+    let mut i = 0;
+    while i < count {
+        list[i] = t;
+        t = next_of(t, payload);
+        i += 1;
+    }
+}
+
+// The TLVs of a payload, counted and listed. Nothing is filled in before the whole payload has been walked, so that a refusal leaves the list as lent.
+pub fn walk_into(list: &mut [Tlv], payload: &[u8]) -> Walked
+    ensures { λ r. ⌜ (walkedOf r ≡ listed (length (now (list .entry))) (walkOf (now (payload .entry))))
+        × (now (list .exit) ≡ filled (listed (length (now (list .entry))) (walkOf (now (payload .entry)))) (walkOf (now (payload .entry)) .tlvs) (now (list .entry))) ⌝ }
+{
+    let planned = plan(payload, list.len());
+    let count = planned.count;
+    let first = planned.first;
+    fill(list, payload, first, count);
+    planned.answer
+}
