@@ -1,0 +1,123 @@
+// Lists the TLVs of the payload on standard input, a line for each: its type and the length of its value. Then `end` and where the payload
+// ends, or `bad`, the number of the refusal and the offset of the TLV that failed.
+use framing::Read;
+use libc::STDIN_FILENO;
+use libc::STDOUT_FILENO;
+ghost use Prim.Native.Nat.{_≤_};
+ghost use lib.ListN.{length};
+
+// A line is at most 49 bytes long: "bad ", two numbers of at most 20 digits, " at " and the line's end.
+const LINE: usize = 64;
+
+// The bytes go into the text at `used`; where the text then ends. Bytes that have no room are left out: `with_room` sees to it that a line has.
+fn put(text: &mut [u8], used: usize, bytes: &[u8]) -> usize
+    requires { ⌜ used ≤ length (now text) ⌝ }
+    ensures { λ r. ⌜ r ≤ length (now (text .entry)) ⌝ }
+{
+    if text.len() - used < bytes.len() {
+        return used;
+    }
+    let mut i = 0;
+    while i < bytes.len() {
+        text[used + i] = bytes[i];
+        i += 1;
+    }
+    used + i
+}
+
+fn put_number(text: &mut [u8], used: usize, n: usize) -> usize
+    requires { ⌜ used ≤ length (now text) ⌝ }
+    ensures { λ r. ⌜ r ≤ length (now (text .entry)) ⌝ }
+{
+    let mut digits = [0u8; 20];
+    let k = io::decimal(n as u64, &mut digits);
+    put(text, used, &digits[..k])
+}
+
+fn put_tlv(text: &mut [u8], used: usize, tlv_type: u8, size: usize) -> usize
+    requires { ⌜ used ≤ length (now text) ⌝ }
+    ensures { λ r. ⌜ r ≤ length (now (text .entry)) ⌝ }
+{
+    let a = put_number(text, used, tlv_type as usize);
+    let b = put(text, a, b" ");
+    let c = put_number(text, b, size);
+    put(text, c, b"\n")
+}
+
+fn put_end(text: &mut [u8], used: usize, at: usize) -> usize
+    requires { ⌜ used ≤ length (now text) ⌝ }
+    ensures { λ r. ⌜ r ≤ length (now (text .entry)) ⌝ }
+{
+    let a = put(text, used, b"end ");
+    let b = put_number(text, a, at);
+    put(text, b, b"\n")
+}
+
+fn put_bad(text: &mut [u8], used: usize, number: u8, at: usize) -> usize
+    requires { ⌜ used ≤ length (now text) ⌝ }
+    ensures { λ r. ⌜ r ≤ length (now (text .entry)) ⌝ }
+{
+    let a = put(text, used, b"bad ");
+    let b = put_number(text, a, number as usize);
+    let c = put(text, b, b" at ");
+    let d = put_number(text, c, at);
+    put(text, d, b"\n")
+}
+
+// Writes the first bytes of the text out.
+fn flush(text: &[u8], used: usize) {
+    if used <= text.len() {
+        io::write_all(STDOUT_FILENO, &text[..used]);
+    }
+}
+
+// Room for one more line: a text that is nearly full is written out first, so that there is a call for each large piece and not for each number.
+fn with_room(text: &[u8], used: usize) -> usize
+    requires { ⌜ used ≤ length (now text) ⌝ }
+    ensures { λ r. ⌜ r ≤ length (now (text .entry)) ⌝ }
+{
+    if LINE <= text.len() - used {
+        return used;
+    }
+    flush(text, used);
+    0
+}
+
+// The lines of a payload. Answers how many bytes of the text are still to be written out.
+fn list(payload: &[u8], text: &mut [u8]) -> usize
+    ensures { λ r. ⌜ r ≤ length (now (text .entry)) ⌝ }
+{
+    let mut at = 0;
+    let mut used = 0;
+    while at < payload.len() {
+        used = with_room(text, used);
+        match framing::read_tlv(&payload[at..]) {
+            Read::Whole {
+                tlv_type,
+                length,
+                consumed,
+            } => {
+                used = put_tlv(text, used, tlv_type, length);
+                at += consumed;
+            }
+            Read::Refused(refusal) => {
+                return put_bad(text, used, numbers::number_of(refusal), at);
+            }
+        }
+    }
+    used = with_room(text, used);
+    put_end(text, used, at)
+}
+
+fn main() {
+    let mut payload = [0u8; 47745];
+    let mut text = [0u8; 4096];
+    let n = io::read_full(STDIN_FILENO, &mut payload);
+    if 47744 < n {
+        let used = put_bad(&mut text, 0, 12, 0);
+        flush(&text, used);
+        return;
+    }
+    let used = list(&payload[..n], &mut text);
+    flush(&text, used);
+}
