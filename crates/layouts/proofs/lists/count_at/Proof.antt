@@ -1,0 +1,132 @@
+-- At each return the tests that led there say which case of `countAt` holds; a count of at most two bytes, or one that came of a division, is small.
+use borrow.Author.Needs.{needs}
+use Rattle.layouts.proofs.lists.count_at.Statement.{statement}
+use Rattle.layouts.proofs.lists.count_at.Tie as tie
+use borrow.Author.Tests.{eq-eqb, ne-eqb, le-leb, lt-leb}
+use native.Mathlib.Omega.{arith}
+use Prim.Native.Nat.{_+_, _-_, _*_}
+use lib.ListN.{length}
+use native.Mathlib.Nat.{div-zero, div-mul-le-self}
+use Rattle.layouts.specs.Reading.{countAt}
+use Rattle.layouts.proofs.Laws.{few}
+
+returns : tie.Need-returns
+unfolding countAt
+returns c =
+    let a = c .before .before .before .args in
+    (simp (eq-eqb _ _ (c .before .if1 .taken), c .if2 .taken, div-zero), omega arith)
+
+sub-t8 : tie.Need-sub-t8
+sub-t8 c = search needs
+
+div-t9 : tie.Need-div-t9
+div-t9 c = search needs
+
+returns-2 : tie.Need-returns-2
+unfolding countAt
+returns-2 c =
+    let a = c .before .before .before .args in
+    (simp (eq-eqb _ _ (c .before .if1 .taken)), omega (arith, div-mul-le-self (length (a .s .now) - a .at) (a .h)))
+
+sub-if4 : tie.Need-sub-if4
+sub-if4 c = search needs
+
+returns-3 : tie.Need-returns-3
+unfolding countAt
+returns-3 c =
+    let a = c .before .before .before .before .args in
+    (simp (c .before .if3 .taken, lt-leb (a .at + 1) (length (a .s .now)) (omega arith)), tt)
+
+shared-slice-read-wide : tie.Need-shared-slice-read-wide
+shared-slice-read-wide c = search needs
+
+wide-requires : tie.Need-wide-requires
+wide-requires c κs = search needs
+
+add-t11 : tie.Need-add-t11
+add-t11 c = search needs
+
+returns-4 : tie.Need-returns-4
+unfolding countAt
+returns-4 c =
+    let a = c .before .before .before .before .before .before .args in
+    let n = c .wide .ensures in (
+      simp (n .0, c .before .before .before .if3 .taken, le-leb (a .at + 1) (length (a .s .now)) (omega arith)),
+      few (c .wide .result) (a .h) (omega arith) (search needs),
+    )
+
+sub-if5 : tie.Need-sub-if5
+sub-if5 c = search needs
+
+returns-5 : tie.Need-returns-5
+unfolding countAt
+returns-5 c =
+    let a = c .before .before .before .before .args in
+    (simp (ne-eqb _ _ (c .before .before .if1 .left), ne-eqb _ _ (c .before .if3 .left), lt-leb (a .at + 2) (length (a .s .now)) (omega arith)), tt)
+
+shared-slice-read-wide-2 : tie.Need-shared-slice-read-wide-2
+shared-slice-read-wide-2 c = search needs
+
+wide-requires-2 : tie.Need-wide-requires-2
+wide-requires-2 c κs = search needs
+
+mul-t16 : tie.Need-mul-t16
+mul-t16 c = search needs
+
+add-wide : tie.Need-add-wide
+add-wide c = search needs
+
+shared-slice-read-wide-3 : tie.Need-shared-slice-read-wide-3
+shared-slice-read-wide-3 c = search needs
+
+wide-requires-3 : tie.Need-wide-requires-3
+wide-requires-3 c κs = search needs
+
+add-t23 : tie.Need-add-t23
+add-t23 c = search needs
+
+add-t24 : tie.Need-add-t24
+add-t24 c = search needs
+
+returns-6 : tie.Need-returns-6
+unfolding countAt
+returns-6 c =
+    let b = c .before .before .before .before in
+    let a = b .before .before .before .before .args in
+    let high = c .before .before .wide2 .ensures in
+    let low = c .wide3 .ensures in (
+      simp (
+        high .0,
+        low .0,
+        ne-eqb _ _ (b .before .before .if1 .left),
+        ne-eqb _ _ (b .before .if3 .left),
+        le-leb (a .at + 2) (length (a .s .now)) (omega arith),
+      ),
+      few (c .before .before .wide2 .result * 256 + c .wide3 .result) (a .h) (omega arith) (search needs),
+    )
+
+pub count-at-spec : {M : Type 1} → statement M
+count-at-spec =
+    tie.close
+    (tie.spec
+    returns
+    sub-t8
+    div-t9
+    returns-2
+    sub-if4
+    returns-3
+    shared-slice-read-wide
+    wide-requires
+    add-t11
+    returns-4
+    sub-if5
+    returns-5
+    shared-slice-read-wide-2
+    wide-requires-2
+    mul-t16
+    add-wide
+    shared-slice-read-wide-3
+    wide-requires-3
+    add-t23
+    add-t24
+    returns-6)

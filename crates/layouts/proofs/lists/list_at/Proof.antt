@@ -1,0 +1,71 @@
+-- The list stands behind the head: the laws of `listOf`, one for each return.
+use borrow.Author.Needs.{needs}
+use Rattle.layouts.proofs.lists.list_at.Statement.{statement}
+use Rattle.layouts.proofs.lists.list_at.Tie as tie
+use native.Mathlib.Omega.{arith}
+use mathlib.Core.Path.{sym}
+use lib.ListN.{length}
+use Prim.Native.Nat.{_+_, _-_, _≤_, _<_}
+use Rattle.layouts.specs.Rows.{headAt}
+use Rattle.layouts.proofs.Laws.{list-none, list-cut, list-there}
+
+returns : tie.Need-returns
+returns c = let a = c .before .before .args in (sym (list-none (a .row) (a .k) (a .s .now) (a .at) (c .if1 .taken)), tt)
+
+head-at-requires : tie.Need-head-at-requires
+head-at-requires c κs = search needs
+
+sub-if2 : tie.Need-sub-if2
+sub-if2 c = search needs
+
+returns-2 : tie.Need-returns-2
+returns-2 c =
+    let a = c .before .before .before .before .args in
+    let h = c .before .head-at .ensures in
+    let l : length (a .s .now) < a .at + headAt (a .row) (a .k) = omega arith in
+    (sym (list-cut (a .row) (a .k) (a .s .now) (a .at) (c .before .before .if1 .left) l), tt)
+
+sub-width-at : tie.Need-sub-width-at
+sub-width-at c = search needs
+
+width-at-requires : tie.Need-width-at-requires
+width-at-requires c κs = search needs
+
+sub-head-at : tie.Need-sub-head-at
+sub-head-at c = search needs
+
+head-at-requires-2 : tie.Need-head-at-requires-2
+head-at-requires-2 c κs = search needs
+
+add-count-at : tie.Need-add-count-at
+add-count-at c = search needs
+
+count-at-requires : tie.Need-count-at-requires
+count-at-requires c κs = search needs
+
+returns-3 : tie.Need-returns-3
+returns-3 c =
+    let b = c .before .before .before in
+    let a = b .before .before .before .before .args in
+    let h = b .before .head-at .ensures in
+    let l : a .at + headAt (a .row) (a .k) ≤ length (a .s .now) = omega arith in
+    let there = list-there (a .row) (a .k) (a .s .now) (a .at) (b .before .before .if1 .left) l in (
+      cc (c .count-at .ensures .0, c .before .head-at2 .ensures .0, c .before .before .width-at .ensures, h .0, there),
+      rw (← (c .before .head-at2 .ensures .0)) (c .count-at .ensures .1),
+    )
+
+pub list-at-spec : {M : Type 1} → statement M
+list-at-spec =
+    tie.close
+    (tie.spec
+    returns
+    head-at-requires
+    sub-if2
+    returns-2
+    sub-width-at
+    width-at-requires
+    sub-head-at
+    head-at-requires-2
+    add-count-at
+    count-at-requires
+    returns-3)

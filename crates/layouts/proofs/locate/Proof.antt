@@ -1,0 +1,42 @@
+-- The row of the code is asked, or its refusal is passed on.
+use borrow.Author.Needs.{needs}
+use Rattle.layouts.proofs.locate.Statement.{statement}
+use Rattle.layouts.proofs.locate.Tie as tie
+use mathlib.Core.Path.{sym, _∙_}
+use Rattle.layouts.specs.Layouts.{layoutOf}
+use Rattle.layouts.specs.Rows.{kindOf}
+use Rattle.layouts.proofs.Answers.{then-gives, then-told}
+use Rattle.layouts.specs.Access.{numbersOf, spanOf, ofValue, locateEntry}
+
+row-of-requires : tie.Need-row-of-requires
+row-of-requires c κs = search needs
+
+enum-known-row : tie.Need-enum-known-row
+enum-known-row c = search needs
+
+locate-in-requires : tie.Need-locate-in-requires
+locate-in-requires c κs = search needs
+
+enum-known-r : tie.Need-enum-known-r
+enum-known-r c = search needs
+
+returns : tie.Need-returns
+unfolding locateEntry
+returns c =
+    let d = c .before .before .before .before in
+    let a = d .before .before .args in
+    let g = c .before .before .row .given in
+    c .locate-in .ensures ∙ then-gives (layoutOf (a .code)) (λ k. ofValue (λ l t. spanOf l (numbersOf (a .path)) t) k (a .s .now)) (kindOf (g .0 .0)) (sym (rw (g .1) at (d .row-of .ensures)))
+
+returns-2 : tie.Need-returns-2
+unfolding locateEntry
+returns-2 c =
+    let d = c .before .before .before in
+    let a = d .before .before .args in
+    let g = c .before .r .given in
+    then-told (layoutOf (a .code)) (λ k. ofValue (λ l t. spanOf l (numbersOf (a .path)) t) k (a .s .now)) (g .0 .0) (sym (rw (g .1) at (d .row-of .ensures)))
+
+pub locate-spec : {M : Type 1} → statement M
+locate-spec =
+    tie.close
+    (tie.spec row-of-requires enum-known-row locate-in-requires enum-known-r returns returns-2)

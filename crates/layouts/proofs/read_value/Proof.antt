@@ -1,0 +1,42 @@
+-- The row of the code is asked, or its refusal is passed on.
+use borrow.Author.Needs.{needs}
+use Rattle.layouts.proofs.read_value.Statement.{statement}
+use Rattle.layouts.proofs.read_value.Tie as tie
+use mathlib.Core.Path.{sym, _∙_}
+use Rattle.layouts.specs.Layouts.{layoutOf}
+use Rattle.layouts.specs.Rows.{kindOf}
+use Rattle.layouts.proofs.Answers.{then-gives, then-told}
+use Rattle.layouts.specs.Reading.{readAs, readValue}
+
+row-of-requires : tie.Need-row-of-requires
+row-of-requires c κs = search needs
+
+enum-known-row : tie.Need-enum-known-row
+enum-known-row c = search needs
+
+read-row-requires : tie.Need-read-row-requires
+read-row-requires c κs = search needs
+
+enum-known-r : tie.Need-enum-known-r
+enum-known-r c = search needs
+
+returns : tie.Need-returns
+unfolding readValue
+returns c =
+    let d = c .before .before .before .before in
+    let a = d .before .before .args in
+    let g = c .before .before .row .given in
+    c .read-row .ensures ∙ then-gives (layoutOf (a .code)) (λ k. readAs k (a .s .now)) (kindOf (g .0 .0)) (sym (rw (g .1) at (d .row-of .ensures)))
+
+returns-2 : tie.Need-returns-2
+unfolding readValue
+returns-2 c =
+    let d = c .before .before .before in
+    let a = d .before .before .args in
+    let g = c .before .r .given in
+    then-told (layoutOf (a .code)) (λ k. readAs k (a .s .now)) (g .0 .0) (sym (rw (g .1) at (d .row-of .ensures)))
+
+pub read-value-spec : {M : Type 1} → statement M
+read-value-spec =
+    tie.close
+    (tie.spec row-of-requires enum-known-row read-row-requires enum-known-r returns returns-2)

@@ -1,0 +1,101 @@
+-- Access by numbers: "An entry is asked for by its numbers at each level, from 0, and comes back as its own part of the lent value, the lists under
+-- it included" (document 01, "The 21 kinds").
+use mathlib.Core.Bool.{cond}
+use mathlib.Core.List.{List, [], _∷_}
+use Prim.Native.Nat.{ℕ, zero, suc, _-_}
+use lib.Dec.{ltb}
+use lib.ListN.{take, drop}
+use Rattle.numbers.specs.Numbers.{Answer, gives, refuses, told}
+use Rattle.layouts.specs.declared.lists.End.{End}
+use Rattle.layouts.specs.declared.lists.End.the-variants.{At, Short}
+use Rattle.layouts.specs.declared.lists.Listing.{Listing}
+use Rattle.layouts.specs.declared.lists.Listing.the-variants.{Of, Missing}
+use Rattle.layouts.specs.declared.Path.{Path}
+use Rattle.layouts.specs.declared.Located.{Located}
+use Rattle.layouts.specs.declared.Located.the-variants.{Entry, Refused}
+use Rattle.layouts.specs.declared.Counted.{Counted}
+use Rattle.layouts.specs.declared.Counted.the-variants.{Entries, Refused as NotCounted}
+use Rattle.layouts.specs.Layouts.{Layout, bytes, entry, Kind, layoutOf}
+use Rattle.layouts.specs.Reading.{thenList, listOf, entriesEnd, endOf, andThen, readAs}
+
+-- the numbers of a path: `depth` of them. Those past the third are 0: no list kind has more than three levels.
+abbrev pub numbers : ℕ → ℕ → ℕ → ℕ → List ℕ
+numbers zero i j k = []
+numbers (suc d) i j k = i ∷ numbers d j k 0
+
+abbrev pub numbersOf : Path → List ℕ
+numbersOf path = numbers (path .depth) (path .i0) (path .i1) (path .i2)
+
+-- where entry i of the list of the entry at p starts; Short where there is none
+unfoldable pub childAt : Layout → ℕ → List ℕ → ℕ → End
+childAt (bytes n) i s p = Short
+childAt (entry n w e) i s p = thenList (listOf (entry n w e) s p) (λ m q. cond (ltb i m) (entriesEnd (endOf e s) i q) Short)
+
+-- the layout of the entries of its list
+abbrev pub below : Layout → Layout
+below (bytes n) = bytes n
+below (entry n w e) = e
+
+-- an entry: its layout, and where it starts
+pub data Place : Type 0 where
+  found : Layout → ℕ → Place
+  nowhere : Place
+
+abbrev pub thenPlace : End → (ℕ → Place) → Place
+thenPlace (At p) f = f p
+thenPlace Short f = nowhere
+
+-- the entry with these numbers, one for each level, under the one that starts at p
+unfoldable pub findEntry : Layout → List ℕ → List ℕ → ℕ → Place
+findEntry e [] s p = found e p
+findEntry e (i ∷ is) s p = thenPlace (childAt e i s p) (λ q. findEntry (below e) is s q)
+
+-- "no entry with these numbers" gives 6
+abbrev pub atPlace : {A : Type 0} → Place → (Layout → ℕ → Answer A) → Answer A
+atPlace (found e p) f = f e p
+atPlace nowhere f = refuses 6 []
+
+pub record Span : Type 0 where
+  pub start : ℕ
+  pub end : ℕ
+
+abbrev pub upTo : ℕ → End → Answer Span
+upTo p (At q) = gives (record { start = p; end = q })
+upTo p Short = refuses 6 []
+
+-- where the entry with these numbers starts and ends; a path without numbers asks for no entry
+unfoldable pub spanOf : Layout → List ℕ → List ℕ → Answer Span
+spanOf l [] s = refuses 6 []
+spanOf l (i ∷ is) s = atPlace (findEntry l (i ∷ is) s 0) (λ e p. upTo p (endOf e s p))
+
+abbrev pub counted : Listing → Answer ℕ
+counted (Of n p) = gives n
+counted Missing = refuses 6 []
+
+-- how many entries the list of the entry with these numbers has; of the value itself, without numbers
+unfoldable pub lengthAt : Layout → List ℕ → List ℕ → Answer ℕ
+lengthAt l is s = atPlace (findEntry l is s 0) (λ e p. counted (listOf e s p))
+
+-- "16, then 1, 2, 3, 4, 5, 6": the kind is one of these, then the whole value reads, and then the entry is looked for
+unfoldable pub ofValue : {A : Type 0} → (Layout → List ℕ → Answer A) → Kind → List ℕ → Answer A
+ofValue f k s = andThen (readAs k s) (λ r. f (k .layout) s)
+
+unfoldable pub locateEntry : ℕ → List ℕ → List ℕ → Answer Span
+locateEntry code is s = andThen (layoutOf code) (λ k. ofValue (λ l t. spanOf l is t) k s)
+
+unfoldable pub countEntries : ℕ → List ℕ → List ℕ → Answer ℕ
+countEntries code is s = andThen (layoutOf code) (λ k. ofValue (λ l t. lengthAt l is t) k s)
+
+-- the part itself; the empty start where there is none
+abbrev pub partOf : Answer Span → List ℕ → List ℕ
+partOf (gives r) s = take (r .end - r .start) (drop (r .start) s)
+partOf (refuses n vs) s = []
+
+-- what each answer of the calls says
+abbrev pub locatedOf : Located → Answer Span
+locatedOf (Entry p q) = gives (record { start = p; end = q })
+locatedOf (Refused r) = told r
+
+abbrev pub countedOf : Counted → Answer ℕ
+countedOf (Entries n) = gives n
+countedOf (NotCounted r) = told r

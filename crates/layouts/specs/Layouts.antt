@@ -1,0 +1,78 @@
+-- The counted layouts: document 01, "The 21 kinds", written as its table writes them.
+use mathlib.Core.Bool.{cond}
+use mathlib.Core.List.{List, [], _∷_}
+use Prim.Native.Nat.{ℕ, _+_}
+use lib.Dec.{eqb}
+use Rattle.numbers.specs.Numbers.{Answer, gives, refuses}
+
+-- "c1 and c2 are counts in one byte or two, big-endian"; a list without a count goes to the end.
+pub data Counting : Type 0 where
+  c1 : Counting
+  c2 : Counting
+  to-end : Counting
+
+-- An entry is a head of so many bytes and, unless it is these bytes alone, a list of entries of the level below. A whole value is an entry too.
+pub data Layout : Type 0 where
+  bytes : ℕ → Layout
+  entry : ℕ → Counting → Layout → Layout
+
+-- the words of the table: "c1 of e", "c2 of e", "entries of e to the end", and "n, e" for n bytes and then e
+abbrev pub c1-of : Layout → Layout
+c1-of e = entry 0 c1 e
+
+abbrev pub c2-of : Layout → Layout
+c2-of e = entry 0 c2 e
+
+abbrev pub to-end-of : Layout → Layout
+to-end-of e = entry 0 to-end e
+
+infixr 5 _then_
+abbrev pub _then_ : ℕ → Layout → Layout
+n then bytes m = bytes (n + m)
+n then entry m w e = entry (n + m) w e
+
+-- "Bytes behind the layout are handed back as the rest, except in kinds 0, 6, 7 and 30, which refuse them."
+pub data Behind : Type 0 where
+  handed-back : Behind
+  refused : Behind
+
+pub record Kind : Type 0 where
+  pub layout : Layout
+  pub behind : Behind
+
+pub record Line : Type 0 where
+  pub code : ℕ
+  pub kind : Kind
+
+abbrev line : ℕ → Behind → Layout → Line
+line n b l = record { code = n; kind = record { layout = l; behind = b } }
+
+abbrev pub table : List Line
+table =
+    -- SupportedService
+    line 0x80 handed-back (c1-of (bytes 1)) ∷
+    -- NonIeee1905NeighborDevices
+    line 6 refused (6 then to-end-of (bytes 6)) ∷
+    -- Ieee1905NeighborDevice
+    line 7 refused (6 then to-end-of (bytes 7)) ∷
+    -- Ipv4
+    line 23 handed-back (c1-of (6 then c1-of (bytes 9))) ∷
+    -- Ipv6
+    line 24 handed-back (c1-of (22 then c1-of (bytes 33))) ∷
+    -- DeviceBridgingCapability
+    line 4 handed-back (c1-of (c1-of (bytes 6))) ∷
+    -- ApOperationalBss
+    line 0x83 handed-back (c1-of (6 then c1-of (6 then c1-of (bytes 1)))) ∷
+    -- BssConfigurationReport
+    line 0xB7 handed-back (c1-of (6 then c1-of (8 then c1-of (bytes 1)))) ∷
+    -- L2NeighborDevice
+    line 30 refused (c1-of (6 then c2-of (6 then c2-of (bytes 6)))) ∷
+    []
+
+-- the first line with this code; 16 where there is none
+abbrev pub lineOf : ℕ → List Line → Answer Kind
+lineOf n [] = refuses 16 []
+lineOf n (l ∷ ls) = cond (eqb n (l .code)) (gives (l .kind)) (lineOf n ls)
+
+unfoldable pub layoutOf : ℕ → Answer Kind
+layoutOf n = lineOf n table

@@ -1,0 +1,4 @@
+pub mod Layouts
+pub mod Reading
+pub mod Access
+pub mod Rows

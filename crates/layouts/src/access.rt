@@ -1,0 +1,127 @@
+// An entry by its numbers.
+use crate::Counted;
+use crate::Located;
+use crate::Path;
+use crate::Reading;
+use crate::lists::End;
+use crate::lists::Listing;
+use crate::lists::list_at;
+use crate::lists::read_entry;
+use crate::lists::read_list;
+use crate::lists::read_row;
+use crate::rows::Row;
+use numbers::Refusal;
+ghost use mathlib.Core.Path.{_≡_};
+ghost use Prim.Native.Nat.{_<_, _≤_};
+ghost use lib.ListN.{length};
+ghost use Rattle.layouts.specs.Access.{numbersOf, childAt, findEntry, spanOf, lengthAt, ofValue, locatedOf, countedOf};
+ghost use Rattle.layouts.specs.Rows.{layoutAt, kindOf, placeOf};
+
+// An entry that was found: its level in the row, and where it starts.
+pub enum Level {
+    Of { k: u8, at: usize },
+    Nowhere,
+}
+
+// Where entry i of the list of the entry of level k that starts at p starts; Short where there is none.
+fn child(row: Row, k: u8, i: usize, s: &[u8], p: usize) -> End
+    requires { ⌜ (0 < k) × (p ≤ length (now s)) ⌝ }
+    ensures { λ r. ⌜ r ≡ childAt (layoutAt row k) i (now (s .entry)) p ⌝ }
+{
+    match list_at(row, k, s, p) {
+        Listing::Of { n, first } => {
+            if i < n {
+                return read_list(row, k - 1, i, s, first);
+            }
+            End::Short
+        }
+        Listing::Missing => End::Short,
+    }
+}
+
+// The entry with these numbers. Each turn takes one number and goes one level down.
+fn find_entry(row: Row, path: Path, s: &[u8]) -> Level
+    ensures { λ r. ⌜ placeOf row r ≡ findEntry (layoutAt row (row .levels)) (numbersOf path) (now (s .entry)) 0 ⌝ }
+{
+    let mut k = row.levels;
+    let mut at = 0;
+    let mut left = path.depth;
+    let mut i0 = path.i0;
+    let mut i1 = path.i1;
+    let mut i2 = path.i2;
+    while 0 < left {
+        if k == 0 {
+            return Level::Nowhere;
+        }
+        match child(row, k, i0, s, at) {
+            End::At(q) => {
+                at = q;
+            }
+            End::Short => {
+                return Level::Nowhere;
+            }
+        }
+        k -= 1;
+        left -= 1;
+        i0 = i1;
+        i1 = i2;
+        i2 = 0;
+    }
+    Level::Of { k, at }
+}
+
+// Where the entry with these numbers lies.
+fn span_of(row: Row, path: Path, s: &[u8]) -> Located
+    ensures { λ r. ⌜ locatedOf r ≡ spanOf (layoutAt row (row .levels)) (numbersOf path) (now (s .entry)) ⌝ }
+{
+    if path.depth == 0 {
+        return Located::Refused(Refusal::NoEntry);
+    }
+    let Level::Of { k, at } = find_entry(row, path, s) else {
+        return Located::Refused(Refusal::NoEntry);
+    };
+    let End::At(end) = read_entry(row, k, s, at) else {
+        return Located::Refused(Refusal::NoEntry);
+    };
+    Located::Entry { start: at, end }
+}
+
+// How many entries the list of the entry with these numbers has.
+fn length_at(row: Row, path: Path, s: &[u8]) -> Counted
+    ensures { λ r. ⌜ countedOf r ≡ lengthAt (layoutAt row (row .levels)) (numbersOf path) (now (s .entry)) ⌝ }
+{
+    let Level::Of { k, at } = find_entry(row, path, s) else {
+        return Counted::Refused(Refusal::NoEntry);
+    };
+    match list_at(row, k, s, at) {
+        Listing::Of { n, first: _ } => Counted::Entries(n),
+        Listing::Missing => Counted::Refused(Refusal::NoEntry),
+    }
+}
+
+// The same two, of a value that has to read whole first.
+pub fn locate_in(row: Row, path: Path, s: &[u8]) -> Located
+    ensures { λ r. ⌜ locatedOf r ≡ ofValue (λ l t. spanOf l (numbersOf path) t) (kindOf row) (now (s .entry)) ⌝ }
+{
+    match read_row(row, s) {
+        Reading::Value {
+            consumed: _,
+            rest: _,
+            entries: _,
+        } => span_of(row, path, s),
+        Reading::Refused(r) => Located::Refused(r),
+    }
+}
+
+pub fn count_in(row: Row, path: Path, s: &[u8]) -> Counted
+    ensures { λ r. ⌜ countedOf r ≡ ofValue (λ l t. lengthAt l (numbersOf path) t) (kindOf row) (now (s .entry)) ⌝ }
+{
+    match read_row(row, s) {
+        Reading::Value {
+            consumed: _,
+            rest: _,
+            entries: _,
+        } => length_at(row, path, s),
+        Reading::Refused(r) => Counted::Refused(r),
+    }
+}

@@ -1,0 +1,137 @@
+// The table of list kinds.
+use numbers::Refusal;
+ghost use mathlib.Core.Path.{_≡_};
+ghost use Prim.Native.Nat.{_<_};
+ghost use Rattle.layouts.specs.Layouts.{bytes, entry, layoutOf};
+ghost use Rattle.layouts.specs.Rows.{headAt, widthAt, counting, kindWith, kindOf, rowOf};
+
+// A row of the table. An entry of level k is hk bytes and then, for k above 0, a list of entries of level k - 1 whose count has w(k-1) bytes: 1 or
+// 2, or 0 for a list that goes to the end. The value itself is an entry of level `levels`.
+pub struct Row {
+    pub levels: u8,
+    pub h3: u8,
+    pub w2: u8,
+    pub h2: u8,
+    pub w1: u8,
+    pub h1: u8,
+    pub w0: u8,
+    pub h0: u8,
+    // bytes behind the layout are refused
+    pub strict: bool,
+}
+
+pub enum KindRow {
+    List(Row),
+    Refused(Refusal),
+}
+
+// The rows of layouts with one, two and three levels of lists, written from the outside to the inside.
+fn one(h1: u8, w0: u8, h0: u8, strict: bool) -> Row
+    ensures { λ r. ⌜ kindOf r ≡ kindWith (entry h1 (counting w0) (bytes h0)) strict ⌝ }
+{
+    Row {
+        levels: 1,
+        h3: 0,
+        w2: 0,
+        h2: 0,
+        w1: 0,
+        h1,
+        w0,
+        h0,
+        strict,
+    }
+}
+
+fn two(h2: u8, w1: u8, h1: u8, w0: u8, h0: u8, strict: bool) -> Row
+    ensures { λ r. ⌜ kindOf r ≡ kindWith (entry h2 (counting w1) (entry h1 (counting w0) (bytes h0))) strict ⌝ }
+{
+    Row {
+        levels: 2,
+        h3: 0,
+        w2: 0,
+        h2,
+        w1,
+        h1,
+        w0,
+        h0,
+        strict,
+    }
+}
+
+fn three(h3: u8, w2: u8, h2: u8, w1: u8, h1: u8, w0: u8, h0: u8, strict: bool) -> Row
+    ensures { λ r. ⌜ kindOf r ≡ kindWith (entry h3 (counting w2) (entry h2 (counting w1) (entry h1 (counting w0) (bytes h0)))) strict ⌝ }
+{
+    Row {
+        levels: 3,
+        h3,
+        w2,
+        h2,
+        w1,
+        h1,
+        w0,
+        h0,
+        strict,
+    }
+}
+
+// The row of the list kind with this code.
+pub fn row_of(code: u8) -> KindRow
+    ensures { λ r. ⌜ rowOf r ≡ layoutOf code ⌝ }
+{
+    match code {
+        // SupportedService
+        0x80 => KindRow::List(one(0, 1, 1, false)),
+        // NonIeee1905NeighborDevices
+        6 => KindRow::List(one(6, 0, 6, true)),
+        // Ieee1905NeighborDevice
+        7 => KindRow::List(one(6, 0, 7, true)),
+        // Ipv4
+        23 => KindRow::List(two(0, 1, 6, 1, 9, false)),
+        // Ipv6
+        24 => KindRow::List(two(0, 1, 22, 1, 33, false)),
+        // DeviceBridgingCapability
+        4 => KindRow::List(two(0, 1, 0, 1, 6, false)),
+        // ApOperationalBss
+        0x83 => KindRow::List(three(0, 1, 6, 1, 6, 1, 1, false)),
+        // BssConfigurationReport
+        0xB7 => KindRow::List(three(0, 1, 6, 1, 8, 1, 1, false)),
+        // L2NeighborDevice
+        30 => KindRow::List(three(0, 1, 6, 2, 6, 2, 6, true)),
+        _ => KindRow::Refused(Refusal::UnknownKind),
+    }
+}
+
+pub fn wide(x: u8) -> usize
+    ensures { λ r. ⌜ (r ≡ x) × (r < 256) ⌝ }
+{
+    x as usize
+}
+
+// The bytes at the head of an entry of level k.
+pub fn head_at(row: Row, k: u8) -> usize
+    ensures { λ r. ⌜ (r ≡ headAt row k) × (r < 256) ⌝ }
+{
+    if k == 0 {
+        return wide(row.h0);
+    }
+    if k == 1 {
+        return wide(row.h1);
+    }
+    if k == 2 {
+        return wide(row.h2);
+    }
+    wide(row.h3)
+}
+
+// The bytes of the count of a list of entries of level k.
+pub fn width_at(row: Row, k: u8) -> u8
+    ensures { λ r. ⌜ r ≡ widthAt row k ⌝ }
+{
+    if k == 0 {
+        return row.w0;
+    }
+    if k == 1 {
+        return row.w1;
+    }
+    row.w2
+}
