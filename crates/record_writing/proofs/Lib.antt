@@ -1,0 +1,6 @@
+pub mod Room
+pub mod Flags
+pub mod ReadBack
+pub mod WriteBack
+pub mod RoundTrip
+pub mod Firm

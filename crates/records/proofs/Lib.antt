@@ -1,0 +1,5 @@
+pub mod Codes
+pub mod Ways
+pub mod Given
+pub mod Firm
+pub mod Examples

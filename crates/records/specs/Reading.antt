@@ -1,0 +1,41 @@
+-- What reading a typed value gives: the record and the bytes consumed, or a refusal. The rest is what the value has behind the consumed bytes.
+use mathlib.Core.Bool.{cond}
+use mathlib.Core.List.{List, [], _∷_}
+use Prim.Native.Nat.{ℕ, _-_}
+use lib.Dec.{eqb, ltb}
+use lib.ListN.{length}
+use Rattle.numbers.specs.Numbers.{Answer, gives, refuses, told}
+use Rattle.records.specs.declared.Kind.{Kind}
+use Rattle.records.specs.declared.Record.{Record}
+use Rattle.records.specs.declared.Read.{Read}
+use Rattle.records.specs.Values.{recordIn}
+use Rattle.records.specs.Kinds.{kinds, codeOf, layout, leftOver, accepted}
+
+pub record Reading : Type 0 where
+  pub value : Record
+  pub consumed : ℕ
+
+-- what each answer of a reader says
+abbrev pub readOf : Read → Answer Reading
+readOf (Read.Got r n) = gives (record { value = r; consumed = n })
+readOf (Read.Refused r) = told r
+
+-- "Order elsewhere: 16, then .. 3, 4, 5"
+unfoldable pub readKind : Kind → List ℕ → Answer Reading
+readKind k s =
+    cond (ltb (length s) (layout k s)) (refuses 3 [])
+    (cond (leftOver k (length s - layout k s)) (refuses 4 [])
+    (cond (accepted k s) (gives (record { value = recordIn k s; consumed = layout k s }))
+    (refuses 5 [])))
+
+-- the first of these kinds that has the code; 16 where none has
+abbrev pub withCode : ℕ → List Kind → Answer Kind
+withCode c [] = refuses 16 []
+withCode c (k ∷ ks) = cond (eqb c (codeOf k)) (gives k) (withCode c ks)
+
+abbrev pub readAs : Answer Kind → List ℕ → Answer Reading
+readAs (gives k) s = readKind k s
+readAs (refuses n vs) s = refuses n vs
+
+unfoldable pub readRecord : ℕ → List ℕ → Answer Reading
+readRecord c s = readAs (withCode c kinds) s
