@@ -1,0 +1,23 @@
+-- Writing from value bytes: "List kinds are written from lent value bytes that pass the same reading; the rest is not written." Value bytes of a record
+-- kind are written in the same way. "on writing 16, 9, 3, 4, 5, 8, 7", of which 9 is a record's alone.
+use mathlib.Core.List.{List, []}
+use Prim.Native.Nat.{ℕ}
+use lib.ListN.{take}
+use Rattle.numbers.specs.Numbers.{Answer, gives, refuses}
+use Rattle.framing.specs.Tlv.{writeSize, tlvBytes}
+use Rattle.kinds.specs.Kinds.{Typed, readKind}
+
+abbrev pub sizeFor : Answer Typed → ℕ → Answer ℕ
+sizeFor (gives t) room = writeSize (t .consumed) room
+sizeFor (refuses n vs) room = refuses n vs
+
+unfoldable pub writeKind : ℕ → List ℕ → ℕ → Answer ℕ
+writeKind code s room = sizeFor (readKind code s) room
+
+-- the TLV with the consumed bytes as its value
+abbrev pub tlvFor : ℕ → List ℕ → Answer Typed → List ℕ
+tlvFor code s (gives t) = tlvBytes code (take (t .consumed) s)
+tlvFor code s (refuses n vs) = []
+
+unfoldable pub kindBytes : ℕ → List ℕ → List ℕ
+kindBytes code s = tlvFor code s (readKind code s)

@@ -1,0 +1,140 @@
+// The 21 kinds by their codes: a value is read as a list or as a record, its entries are asked for, and value bytes that read are written as a TLV.
+use framing::Written;
+use layouts::Counted;
+use layouts::Located;
+use layouts::Path;
+use layouts::Reading;
+use numbers::Refusal;
+use records::Read;
+use records::Record;
+ghost use mathlib.Core.Path.{_≡_};
+ghost use Prim.Native.Nat.{ℕ};
+ghost use lib.ListN.{length};
+ghost use Rattle.numbers.specs.Numbers.{told};
+ghost use Rattle.framing.specs.Tlv.{writtenOf, leaves};
+ghost use Rattle.layouts.specs.Access.{numbersOf, locatedOf, countedOf, partOf};
+ghost use Rattle.kinds.specs.Kinds.{kindReadOf, readKind, readRecordKind, noEntryIn, locateKind, countKind};
+ghost use Rattle.kinds.specs.Writing.{writeKind, kindBytes};
+
+// What reading a typed value finds: a record, or how many entries a list kind's own list has; with the bytes that were consumed, and how many are left
+// behind them.
+pub enum KindRead {
+    Record {
+        record: Record,
+        consumed: usize,
+        rest: usize,
+    },
+    List {
+        entries: usize,
+        consumed: usize,
+        rest: usize,
+    },
+    Refused(Refusal),
+}
+
+// The value s of the record kind with this code.
+fn read_record_kind(code: u8, s: &[u8]) -> KindRead
+    ensures { λ r. ⌜ kindReadOf r ≡ readRecordKind code (now (s .entry)) ⌝ }
+{
+    match records::read_record(code, s) {
+        Read::Got { record, consumed } => KindRead::Record {
+            record,
+            consumed,
+            rest: s.len() - consumed,
+        },
+        Read::Refused(refusal) => KindRead::Refused(refusal),
+    }
+}
+
+// The value s of the kind with this code.
+pub fn read_kind(code: u8, s: &[u8]) -> KindRead
+    ensures { λ r. ⌜ kindReadOf r ≡ readKind code (now (s .entry)) ⌝ }
+{
+    match layouts::read_value(code, s) {
+        Reading::Value {
+            consumed,
+            rest,
+            entries,
+        } => KindRead::List {
+            entries,
+            consumed,
+            rest,
+        },
+        Reading::Refused(refusal) => {
+            if numbers::number_of(refusal) == 16 {
+                return read_record_kind(code, s);
+            }
+            KindRead::Refused(refusal)
+        }
+    }
+}
+
+// What is refused where an entry of a record kind is asked for: the value's own refusal, and then that a record has no entries.
+fn no_entry_in(code: u8, s: &[u8]) -> Refusal
+    ensures { λ r. ⌜ told {A = ℕ} r ≡ noEntryIn code (now (s .entry)) ⌝ }
+{
+    match records::read_record(code, s) {
+        Read::Got {
+            record: _,
+            consumed: _,
+        } => Refusal::NoEntry,
+        Read::Refused(refusal) => refusal,
+    }
+}
+
+// Where the entry with these numbers lies in the value s, which has to read whole.
+pub fn locate(code: u8, path: Path, s: &[u8]) -> Located
+    ensures { λ r. ⌜ locatedOf r ≡ locateKind code (numbersOf path) (now (s .entry)) ⌝ }
+{
+    match layouts::locate(code, path, s) {
+        Located::Entry { start, end } => Located::Entry { start, end },
+        Located::Refused(refusal) => {
+            if numbers::number_of(refusal) == 16 {
+                return Located::Refused(no_entry_in(code, s));
+            }
+            Located::Refused(refusal)
+        }
+    }
+}
+
+// The entry with these numbers as its own part of s, the lists under it included; the empty start of s where `locate` refuses.
+pub fn entry(code: u8, path: Path, s: &[u8]) -> &[u8]
+    ensures { λ r. ⌜ now r ≡ partOf (locateKind code (numbersOf path) (now (s .entry))) (now (s .entry)) ⌝ }
+{
+    layouts::entry(code, path, s)
+}
+
+// How many entries the list of the entry with these numbers has; without numbers, the value's own list.
+pub fn count(code: u8, path: Path, s: &[u8]) -> Counted
+    ensures { λ r. ⌜ countedOf r ≡ countKind code (numbersOf path) (now (s .entry)) ⌝ }
+{
+    match layouts::count(code, path, s) {
+        Counted::Entries(n) => Counted::Entries(n),
+        Counted::Refused(refusal) => {
+            if numbers::number_of(refusal) == 16 {
+                return Counted::Refused(no_entry_in(code, s));
+            }
+            Counted::Refused(refusal)
+        }
+    }
+}
+
+// The TLV of the kind with this code, from value bytes that read; the bytes behind those consumed are not written.
+pub fn write_kind(code: u8, bytes: &[u8], out: &mut [u8]) -> Written
+    ensures answer { λ r. ⌜ writtenOf r ≡ writeKind code (now (bytes .entry)) (length (now (out .entry))) ⌝ }
+    ensures bytes { λ _. ⌜ now (out .exit) ≡ leaves (writeKind code (now (bytes .entry)) (length (now (out .entry)))) (kindBytes code (now (bytes .entry))) (now (out .entry)) ⌝ }
+{
+    match read_kind(code, bytes) {
+        KindRead::Record {
+            record: _,
+            consumed,
+            rest: _,
+        } => framing::write_tlv(code, &bytes[..consumed], out),
+        KindRead::List {
+            entries: _,
+            consumed,
+            rest: _,
+        } => framing::write_tlv(code, &bytes[..consumed], out),
+        KindRead::Refused(refusal) => Written::Refused(refusal),
+    }
+}
