@@ -1,0 +1,10 @@
+pub mod All
+pub mod Among
+pub mod Branch
+pub mod Examples
+pub mod Firm
+pub mod First
+pub mod Looking
+pub mod OfWalk
+pub mod Passing
+pub mod Searching

@@ -1,0 +1,79 @@
+-- Over the list that a walk made of a payload, what a record reads as is what the TLV that stands there reads as: so `find` gives the first TLV of the
+-- payload of the kind that reads, in the words of framing alone.
+use mathlib.Core.Path.{_≡_, refl, sym, ap, _∙_, subst}
+use mathlib.Core.Bool.{Bool, true, false, cond}
+use mathlib.Core.List.{List, [], _++_}
+use Prim.Native.Nat.{ℕ, zero, suc, _+_, _*_, _<_}
+use native.Mathlib.Omega.{arith}
+use lib.Dec.{eqb}
+use lib.ListN.{length, take, drop, getD, length-drop}
+use lib.Seq.{getD-drop, drop-drop}
+use borrow.Author.Tests.{le-leb}
+use Rattle.numbers.specs.Numbers.{Answer, gives, refuses}
+use Rattle.framing.specs.Tlv.{TlvRead, readTlv, declared, valueIn}
+use Rattle.framing.proofs.Reading.{whole}
+use Rattle.kinds.specs.Kinds.{Typed, readKind}
+use Rattle.walking.specs.declared.Tlv.{Tlv}
+use Rattle.walking.specs.Walk.{walkOf, filled, noTlv}
+use Rattle.walking.specs.Steps.{recordAt}
+use Rattle.walking.proofs.Chained.{Chained, none, more, Inside, of-walk, inside}
+use Rattle.finding.specs.Finding.{Hit, isKind, readsAs, findFrom, firstOf, findInPayload}
+use Rattle.finding.proofs.First.{is-first, unchanged}
+
+-- what the TLV at the start of s reads as, if it is of the kind
+abbrev pub tlvAs : ℕ → Answer TlvRead → List ℕ → Answer Typed
+tlvAs code (gives t) s = cond (eqb (t .tlv-type) code) (readKind code (valueIn (gives t) s)) (refuses 15 [])
+tlvAs code (refuses n vs) s = refuses n vs
+
+module _ (p : List ℕ) where
+  -- a record of the walk is the one that stands at its offset
+  stands : {at : ℕ} {ts : List Tlv} → Chained p at ts → (i : ℕ) → i < length ts → getD ts i noTlv ≡ recordAt p (getD ts i noTlv .offset)
+  stands none i h = absurd (omega arith)
+  stands (more k c) zero h = refl
+  stands (more k c) (suc i) h = stands c i (omega arith)
+
+  here : (code at : ℕ) → Inside p (recordAt p at) → readsAs code p (recordAt p at) ≡ tlvAs code (readTlv (drop at p)) (drop at p)
+  unfolding readsAs
+  here code at i =
+      let s : List ℕ = drop at p in
+      let n : ℕ = getD p (at + 1) 0 * 256 + getD p (at + 2) 0 in
+      let d : n ≡ declared s = rw (getD-drop at p 1 0, getD-drop at p 2 0) in
+      let e = whole s n d (omega (arith, i .head, length-drop at p)) (omega (arith, i .all, length-drop at p)) in
+      let z : at + 0 ≡ at = omega arith in
+      let b : getD s 0 0 ≡ getD p at 0 = getD-drop at p 0 0 ∙ ap (λ (k : ℕ). getD p k 0) z in
+      ap (λ (b : Bool). cond (eqb (getD p at 0) code) (cond b (readKind code (take n (drop (at + 3) p))) (refuses 15 [])) (refuses 15 [])) (le-leb (at + 3 + n) (length p) (i .all))
+      ∙ ap (λ (l : List ℕ). cond (eqb (getD p at 0) code) (readKind code (take n l)) (refuses 15 [])) (sym (drop-drop 3 at p))
+      ∙ ap (λ (k : ℕ). cond (eqb k code) (readKind code (take n (drop 3 s))) (refuses 15 [])) (sym b)
+      ∙ ap (λ (x : Answer TlvRead). tlvAs code x s) e
+
+  pub as-tlv : (code k : ℕ) → k < length (walkOf p .tlvs)
+      → readsAs code p (getD (walkOf p .tlvs) k noTlv) ≡ tlvAs code (readTlv (drop (getD (walkOf p .tlvs) k noTlv .offset) p)) (drop (getD (walkOf p .tlvs) k noTlv .offset) p)
+  as-tlv code k l =
+      let t : Tlv = getD (walkOf p .tlvs) k noTlv in
+      let e : t ≡ recordAt p (t .offset) = stands (of-walk p) k l in
+      ap (readsAs code p) e ∙ here code (t .offset) (subst (Inside p) e (inside p (of-walk p) k l))
+
+  -- what is found among the walk's records is the TLV of that number, read where it stands
+  pub found-is-tlv : (code from : ℕ) (h : Hit) → gives h ≡ findFrom code (walkOf p .tlvs) p from → gives (h .reading) ≡ tlvAs code (readTlv (drop (h .tlv .offset) p)) (drop (h .tlv .offset) p)
+  found-is-tlv code from h e =
+      let f = is-first code p (walkOf p .tlvs) from h e in
+      f .reads ∙ ap (readsAs code p) (sym (f .is)) ∙ as-tlv code (h .place) (f .there)
+      ∙ ap (λ (t : Tlv). tlvAs code (readTlv (drop (t .offset) p)) (drop (t .offset) p)) (f .is)
+
+  -- a list that is longer than the walk's, as `walk_into` leaves it, gives the same, if the payload has one
+  by-kind : (code : ℕ) (us : List Tlv) (h : Hit) (b : Bool) → gives h ≡ cond b (firstOf code p 0 (walkOf p .tlvs)) (refuses 16 []) → gives h ≡ cond b (firstOf code p 0 (walkOf p .tlvs ++ us)) (refuses 16 [])
+  by-kind code us h true e = unchanged code p 0 (walkOf p .tlvs) us h e
+  by-kind code us h false e = e
+
+  pub in-filled-list : (code n : ℕ) (ys : List Tlv) (h : Hit) → gives h ≡ findFrom code (walkOf p .tlvs) p 0 → gives h ≡ findFrom code (filled (gives n) (walkOf p .tlvs) ys) p 0
+  unfolding findFrom
+  in-filled-list code n ys h e = by-kind code (drop n ys) h (isKind code) e
+
+  -- without a list the answer is the one over the walk's list, if a walk gets through the payload
+  pub without-list : (code from end : ℕ) → walkOf p .end ≡ gives end → findInPayload code p from ≡ findFrom code (walkOf p .tlvs) p from
+  unfolding findInPayload findFrom
+  without-list code from end e = rw e (twice (isKind code))
+    where
+      twice : (b : Bool) → cond b (cond b (firstOf code p from (drop from (walkOf p .tlvs))) (refuses 16 [])) (refuses 16 []) ≡ cond b (firstOf code p from (drop from (walkOf p .tlvs))) (refuses 16 [])
+      twice true = refl
+      twice false = refl

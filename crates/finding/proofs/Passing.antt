@@ -1,0 +1,72 @@
+-- How a search through a list goes on, answers, or ends: what is found from place i on is what is to be found.
+use mathlib.Core.Path.{_≡_, refl, sym, ap, _∙_}
+use mathlib.Core.Bool.{Bool, true, false, cond}
+use mathlib.Core.List.{List, [], _∷_}
+use Prim.Native.Nat.{ℕ, _+_, _≤_, _<_}
+use native.Mathlib.Omega.{arith}
+use native.Mathlib.Numerals.{add-one}
+use lib.ListN.{length, getD, drop, drop-of-length-le}
+use lib.Seq.{drop-cons}
+use Rattle.numbers.specs.Numbers.{Answer, gives, refuses}
+use Rattle.kinds.specs.Kinds.{Typed}
+use Rattle.walking.specs.declared.Tlv.{Tlv}
+use Rattle.walking.specs.Walk.{noTlv}
+use Rattle.finding.specs.Finding.{Hit, isGiven, isKind, readsAs, thereOr, firstOf, findFrom}
+use Rattle.finding.proofs.Looking.{of-a-kind}
+
+-- what a look at a record answers: it, or 15
+abbrev pub Says : ℕ → List ℕ → Tlv → ℕ → Answer Hit → Type 0
+Says code payload t place a = a ≡ thereOr (readsAs code payload t) place t (refuses 15 [])
+
+-- the answer, if it is one, and else what is found behind the record
+pub or-behind : (x : Answer Typed) (place : ℕ) (t : Tlv) (a : Answer Hit) → a ≡ thereOr x place t (refuses 15 []) → (behind : Answer Hit) → cond (isGiven a) a behind ≡ thereOr x place t behind
+or-behind (gives r) place t a e behind = rw e
+or-behind (refuses n vs) place t a e behind = rw e
+
+pub record Passed (code : ℕ) (payload : List ℕ) (ys : List Tlv) (from i : ℕ) : Type 0 where
+  pub same : firstOf code payload i (drop i ys) ≡ firstOf code payload from (drop from ys)
+
+pub first-nil : (code : ℕ) (payload : List ℕ) (place : ℕ) → firstOf code payload place [] ≡ refuses 15 []
+unfolding firstOf
+first-nil code payload place = refl
+
+pub first-cons : (code : ℕ) (payload : List ℕ) (place : ℕ) (t : Tlv) (ts : List Tlv) → firstOf code payload place (t ∷ ts) ≡ thereOr (readsAs code payload t) place t (firstOf code payload (place + 1) ts)
+unfolding firstOf
+first-cons code payload place t ts = refl
+
+module _ (code : ℕ) (payload : List ℕ) (ys : List Tlv) (from : ℕ) where
+  pub begins : Passed code payload ys from from
+  begins = record { same = refl }
+
+  module _ (i : ℕ) (f : Passed code payload ys from i) where
+    -- one turn: the record at i, or what is behind it
+    turn : i < length ys → thereOr (readsAs code payload (getD ys i noTlv)) i (getD ys i noTlv) (firstOf code payload (i + 1) (drop (i + 1) ys)) ≡ firstOf code payload from (drop from ys)
+    turn l =
+        let e : drop i ys ≡ getD ys i noTlv ∷ drop (i + 1) ys = rw (add-one, drop-cons ys i noTlv) in
+        sym (first-cons code payload i (getD ys i noTlv) (drop (i + 1) ys)) ∙ ap (firstOf code payload i) (sym e) ∙ f .same
+
+    looked : i < length ys → (a : Answer Hit) → Says code payload (getD ys i noTlv) i a → cond (isGiven a) a (firstOf code payload (i + 1) (drop (i + 1) ys)) ≡ firstOf code payload from (drop from ys)
+    looked l a says = or-behind (readsAs code payload (getD ys i noTlv)) i (getD ys i noTlv) a says (firstOf code payload (i + 1) (drop (i + 1) ys)) ∙ turn l
+
+    pub goes-on : i < length ys → (a : Answer Hit) → Says code payload (getD ys i noTlv) i a → isGiven a ≡ false → Passed code payload ys from (i + 1)
+    goes-on l a says h = record { same = ap (λ (b : Bool). cond b a (firstOf code payload (i + 1) (drop (i + 1) ys))) (sym h) ∙ looked l a says }
+
+    -- a hit is of a kind, so that 16 is not to be answered
+    by-reading : (x : Answer Typed) → x ≡ readsAs code payload (getD ys i noTlv) → (a : Answer Hit) → a ≡ thereOr x i (getD ys i noTlv) (refuses 15 []) → isGiven a ≡ true → true ≡ isKind code
+    by-reading (gives r) e a says h = of-a-kind code payload (getD ys i noTlv) r e
+    by-reading (refuses n vs) e a says h =
+        let no : isGiven a ≡ false = ap isGiven says in
+        let tf : true ≡ false = sym h ∙ no in
+        let z : _≡_ {A = ℕ} 0 1 = cc in absurd (omega arith)
+
+    pub found : i < length ys → (a : Answer Hit) → Says code payload (getD ys i noTlv) i a → isGiven a ≡ true → a ≡ findFrom code ys payload from
+    unfolding findFrom
+    found l a says h =
+        ap (λ (b : Bool). cond b a (refuses 16 [])) (by-reading (readsAs code payload (getD ys i noTlv)) refl a says h)
+        ∙ ap (λ (x : Answer Hit). cond (isKind code) x (refuses 16 [])) (ap (λ (b : Bool). cond b a (firstOf code payload (i + 1) (drop (i + 1) ys))) (sym h) ∙ looked l a says)
+
+    pub missed : length ys ≤ i → (a : Answer Hit) → a ≡ cond (isKind code) (refuses 15 []) (refuses 16 []) → a ≡ findFrom code ys payload from
+    unfolding findFrom
+    missed l a e =
+        let z : drop i ys ≡ [] = drop-of-length-le ys l in
+        e ∙ ap (λ (x : Answer Hit). cond (isKind code) x (refuses 16 [])) (sym (first-nil code payload i) ∙ ap (firstOf code payload i) (sym z) ∙ f .same)

@@ -1,0 +1,213 @@
+// Finding: the first readable record of a kind, in a lent list of TLV records or in a payload.
+use framing::Read;
+use kinds::KindRead;
+use numbers::Refusal;
+use records::Record;
+use walking::Tlv;
+use walking::Walked;
+ghost use mathlib.Core.Path.{_≡_};
+ghost use mathlib.Core.Bool.{cond};
+ghost use lib.Dec.{ltb};
+ghost use lib.ListN.{drop};
+ghost use mathlib.Core.List.{[]};
+ghost use Rattle.numbers.specs.Numbers.{refuses};
+ghost use Rattle.walking.specs.Walk.{walkOf};
+ghost use Rattle.finding.specs.Finding.{foundOf, searchedOf, isGiven, isKind, readsAs, thereOr, firstOf, findFrom, findInPayload};
+
+// The record that was found, its place in the list, from 0, and what its value reads as: a record, or a list of so many entries.
+pub enum Found {
+    Record {
+        place: usize,
+        tlv: Tlv,
+        record: Record,
+        consumed: usize,
+        rest: usize,
+    },
+    List {
+        place: usize,
+        tlv: Tlv,
+        entries: usize,
+        consumed: usize,
+        rest: usize,
+    },
+    Refused(Refusal),
+}
+
+// The same of a payload's TLVs. A payload that no walk gets through is told as the walk tells it, with the offset of the TLV that failed.
+pub enum Searched {
+    Unwalked { refusal: Refusal, at: usize },
+    Answered(Found),
+}
+
+// A look at one record, the answer if it is a readable one of the kind. Its type is looked at first, so that a record of another kind costs no more than
+// that. No sum can wrap: what is left of the payload is compared, never an end that the record claims.
+fn look(t: Tlv, payload: &[u8], code: u8, place: usize) -> Found
+    ensures { λ r. ⌜ foundOf r ≡ thereOr (readsAs code (now (payload .entry)) t) place t (refuses 15 []) ⌝ }
+{
+    let tlv_type = t.tlv_type;
+    if tlv_type != code {
+        return Found::Refused(Refusal::NotFound);
+    }
+    let offset = t.offset;
+    if payload.len() < 3 {
+        return Found::Refused(Refusal::NotFound);
+    }
+    if payload.len() - 3 < offset {
+        return Found::Refused(Refusal::NotFound);
+    }
+    let length = t.length as usize;
+    let start = offset + 3;
+    if payload.len() - start < length {
+        return Found::Refused(Refusal::NotFound);
+    }
+    let end = start + length;
+    match kinds::read_kind(code, &payload[start..end]) {
+        KindRead::Record {
+            record,
+            consumed,
+            rest,
+        } => Found::Record {
+            place,
+            tlv: t,
+            record,
+            consumed,
+            rest,
+        },
+        KindRead::List {
+            entries,
+            consumed,
+            rest,
+        } => Found::List {
+            place,
+            tlv: t,
+            entries,
+            consumed,
+            rest,
+        },
+        KindRead::Refused(_) => Found::Refused(Refusal::NotFound),
+    }
+}
+
+fn is_hit(found: Found) -> bool
+    ensures { λ r. ⌜ r ≡ isGiven (foundOf found) ⌝ }
+{
+    match found {
+        Found::Record {
+            place: _,
+            tlv: _,
+            record: _,
+            consumed: _,
+            rest: _,
+        } => true,
+        Found::List {
+            place: _,
+            tlv: _,
+            entries: _,
+            consumed: _,
+            rest: _,
+        } => true,
+        Found::Refused(_) => false,
+    }
+}
+
+// Is the code among the 21? A value of any other is refused by 16, whatever it holds; here the empty start of some bytes is read.
+fn is_kind(code: u8, bytes: &[u8]) -> bool
+    ensures { λ r. ⌜ r ≡ isKind code ⌝ }
+{
+    match kinds::read_kind(code, &bytes[0..0]) {
+        KindRead::Record {
+            record: _,
+            consumed: _,
+            rest: _,
+        } => true,
+        KindRead::List {
+            entries: _,
+            consumed: _,
+            rest: _,
+        } => true,
+        KindRead::Refused(refusal) => numbers::number_of(refusal) != 16,
+    }
+}
+
+// What is refused where no record was found.
+fn none(code: u8, bytes: &[u8]) -> Found
+    ensures { λ r. ⌜ foundOf r ≡ cond (isKind code) (refuses 15 []) (refuses 16 []) ⌝ }
+{
+    if is_kind(code, bytes) {
+        return Found::Refused(Refusal::NotFound);
+    }
+    Found::Refused(Refusal::UnknownKind)
+}
+
+// The first readable record of the kind at place `from` of the list or behind it: from 0 the first of all, and from the place of an answer plus 1 the next
+// one. The list is any list, its records need not be of this payload.
+pub fn find(list: &[Tlv], payload: &[u8], code: u8, from: usize) -> Found
+    ensures { λ r. ⌜ foundOf r ≡ findFrom code (now (list .entry)) (now (payload .entry)) from ⌝ }
+{
+    let mut place = from;
+    while place < list.len() {
+        let found = look(list[place], payload, code, place);
+        if is_hit(found) {
+            return found;
+        }
+        place += 1;
+    }
+    none(code, payload)
+}
+
+// A look at a record, if its place does not come before `from`.
+fn look_from(t: Tlv, payload: &[u8], code: u8, place: usize, from: usize) -> Found
+    ensures { λ r. ⌜ foundOf r ≡ cond (ltb place from) (refuses 15 []) (thereOr (readsAs code (now (payload .entry)) t) place t (refuses 15 [])) ⌝ }
+{
+    if place < from {
+        return Found::Refused(Refusal::NotFound);
+    }
+    look(t, payload, code, place)
+}
+
+// The first readable TLV of the kind among those that a walk of the payload reads, from so many on.
+fn search(payload: &[u8], code: u8, from: usize) -> Found
+    ensures { λ r. ⌜ foundOf r ≡ firstOf code (now (payload .entry)) from (drop from (walkOf (now (payload .entry)) .tlvs)) ⌝ }
+{
+    let mut at = 0;
+    let mut place = 0;
+    while at < payload.len() {
+        match framing::read_tlv(&payload[at..]) {
+            Read::Whole {
+                tlv_type,
+                length,
+                consumed,
+            } => {
+                let tlv = Tlv {
+                    tlv_type,
+                    length: length as u16,
+                    offset: at,
+                };
+                let found = look_from(tlv, payload, code, place, from);
+                if is_hit(found) {
+                    return found;
+                }
+                at += consumed;
+                place += 1;
+            }
+            Read::Refused(_) => {
+                return Found::Refused(Refusal::NotFound);
+            }
+        }
+    }
+    Found::Refused(Refusal::NotFound)
+}
+
+// The same without a list: the first readable TLV of the kind in a payload, by its number among the payload's TLVs, from 0, at `from` or behind it.
+pub fn find_in_payload(payload: &[u8], code: u8, from: usize) -> Searched
+    ensures { λ r. ⌜ searchedOf r ≡ findInPayload code (now (payload .entry)) from ⌝ }
+{
+    if is_kind(code, payload) {
+        match walking::walk(payload) {
+            Walked::Count(_) => Searched::Answered(search(payload, code, from)),
+            Walked::Refused { refusal, at } => Searched::Unwalked { refusal, at },
+        }
+    } else {
+        Searched::Answered(Found::Refused(Refusal::UnknownKind))
+    }
+}
