@@ -1,0 +1,14 @@
+pub mod Search
+pub mod Lengths
+pub mod Mapped
+pub mod Ways
+pub mod Sweeping
+pub mod Sound
+pub mod Pieces
+pub mod Ends
+pub mod Firm
+pub mod Keys
+pub mod Apart
+pub mod Calls
+pub mod Own
+pub mod Aged

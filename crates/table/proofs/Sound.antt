@@ -1,0 +1,296 @@
+-- What holds of every table that the calls made: its lists have their lengths, each place's size and number fit, belong to a row that a key has, and are the only ones with their number there; and no key has two rows.
+use mathlib.Core.Path.{_≡_, refl, sym, ap, _∙_, subst}
+use mathlib.Core.List.{List, map}
+use mathlib.Core.Bool.{Bool, true, false, cond, _&&_, false≢true}
+use Prim.Native.Nat.{ℕ, zero, suc, _≤_, _<_}
+use native.Mathlib.Omega.{arith}
+use lib.Dec.{eqb, ltb}
+use lib.ListN.{length, getD, set, replicate, length-set, length-map, length-replicate, List·getD-eq-default, List·getD-map}
+use lib.Seq.{getD-set-same, getD-set-other}
+use borrow.Author.Tests.{eqb-true, eqb-false, eq-eqb, ltb-true, ltb-false, not-true}
+use Rattle.table.specs.declared.Place.{Place}
+use Rattle.table.specs.declared.Table.{Table}
+use Rattle.table.specs.declared.Arrival.{Arrival}
+use Rattle.table.specs.declared.Swept.{Swept}
+use Rattle.table.specs.Rows.{ownerOf, freePlace, freshTable, placeAt, isRowOf, rowOf, isSpare, isNumbered, placeOf, withKey, withPlace, freed, without}
+use Rattle.table.specs.Push.{Way, tableBy, placeFor, droppedKey}
+use Rattle.table.specs.Sweep.{lackOf, counted, tally, sweptRow, sweptRows, expired}
+use Rattle.table.specs.Made.{Made, byFresh, byPush, bySweep}
+use Rattle.table.proofs.Search.{lowest-holds, lowest-before}
+use Rattle.table.proofs.Ways.{Went, went, went-refuse, went-replace, went-keep, went-open, went-end}
+
+pub record Sound (t : Table) : Type 0 where
+  pub codes-long : length (t .codes) ≡ 16
+  pub firsts-long : length (t .firsts) ≡ 16
+  pub places-long : length (t .places) ≡ 32
+  pub used-long : length (t .used) ≡ 16
+  pub small : (i : ℕ) → placeAt t i .size ≤ 1492
+  pub byte : (i : ℕ) → placeAt t i .number < 256
+  -- a place belongs to a row that a key has
+  pub owned : (i row : ℕ) → placeAt t i .owner ≡ ownerOf row → getD (t .used) row false ≡ true
+  -- a row has each number once
+  pub once : (i j row : ℕ) → placeAt t i .owner ≡ ownerOf row → placeAt t j .owner ≡ ownerOf row → placeAt t i .number ≡ placeAt t j .number → i ≡ j
+  -- a key has one row
+  pub keyed : (r s : ℕ) → getD (t .used) r false ≡ true → getD (t .used) s false ≡ true → getD (t .codes) r 0 ≡ getD (t .codes) s 0 → r ≡ s
+
+-- lists
+all-same : {A : Type 0} (n i : ℕ) (a : A) → getD (replicate n a) i a ≡ a
+all-same zero i a = refl
+all-same (suc n) zero a = refl
+all-same (suc n) (suc i) a = all-same n i a
+
+-- an element after one was set, by whether it is that one
+at-set : {A : Type 0} (P : A → Type 0) (l : List A) (i j : ℕ) (a d : A) → i < length l → (i ≡ j → P a) → ((j ≡ i → ⊥) → P (getD l j d)) → P (getD (set l i a) j d)
+at-set P l i j a d h here other = by-index (eqb j i) refl
+  where
+    by-index : (b : Bool) → eqb j i ≡ b → P (getD (set l i a) j d)
+    by-index false e = subst P (sym (getD-set-other l i j a d (eqb-false j i e))) (other (eqb-false j i e))
+    by-index true e = subst P (sym (ap (λ (k : ℕ). getD (set l i a) k d) (eqb-true j i e) ∙ getD-set-same l i a d h)) (here (sym (eqb-true j i e)))
+
+pub freed-at : (t : Table) (row i : ℕ) → placeAt (without t row) i ≡ freed row (placeAt t i)
+unfolding without
+freed-at t row i = ap (getD (map (freed row) (t .places)) i) (blank (eqb 0 (ownerOf row))) ∙ List·getD-map (freed row) (t .places) i freePlace
+  where
+    blank : (b : Bool) → freePlace ≡ cond b freePlace freePlace
+    blank true = refl
+    blank false = refl
+
+-- a row that a key has is one of the table's
+pub used-row : (t : Table) → Sound t → (row : ℕ) → getD (t .used) row false ≡ true → row < 16
+used-row t s row e = by-end (ltb row 16) refl
+  where
+    by-end : (b : Bool) → ltb row 16 ≡ b → row < 16
+    by-end true q = ltb-true _ _ q
+    by-end false q =
+        let long : length (t .used) ≤ row = omega (arith, s .used-long, ltb-false row 16 q) in
+        absurd (false≢true (sym (List·getD-eq-default (t .used) false long) ∙ e))
+
+-- a place that belongs to a row is one of the table's
+pub owned-place : (t : Table) → Sound t → (i row : ℕ) → placeAt t i .owner ≡ ownerOf row → i < 32
+owned-place t s i row e = by-end (ltb i 32) refl
+  where
+    by-end : (b : Bool) → ltb i 32 ≡ b → i < 32
+    by-end true q = ltb-true _ _ q
+    by-end false q =
+        let long : length (t .places) ≤ i = omega (arith, s .places-long, ltb-false i 32 q) in
+        let none : placeAt t i .owner ≡ 0 = ap (λ (p : Place). p .owner) (List·getD-eq-default (t .places) freePlace long) in
+        absurd (omega arith)
+
+-- what a search for a number or a key says
+pub numbered-both : (owner number : ℕ) (p : Place) → isNumbered owner number p ≡ true → (p .owner ≡ owner) × (p .number ≡ number)
+numbered-both owner number p e = by-tests (eqb (p .owner) owner) refl (eqb (p .number) number) refl e
+  where
+    by-tests : (b : Bool) → eqb (p .owner) owner ≡ b → (c : Bool) → eqb (p .number) number ≡ c → (b && c) ≡ true → (p .owner ≡ owner) × (p .number ≡ number)
+    by-tests true f true g q = (eqb-true _ _ f, eqb-true _ _ g)
+    by-tests true f false g q = absurd (false≢true q)
+    by-tests false f c g q = absurd (false≢true q)
+
+pub is-numbered : (owner number : ℕ) (p : Place) → p .owner ≡ owner → p .number ≡ number → isNumbered owner number p ≡ true
+is-numbered owner number p e f = rw (eq-eqb _ _ e, eq-eqb _ _ f)
+
+pub place-holds : (t : Table) (row number : ℕ) → placeOf t row number < 32 → (placeAt t (placeOf t row number) .owner ≡ ownerOf row) × (placeAt t (placeOf t row number) .number ≡ number)
+place-holds t row number h = numbered-both (ownerOf row) number (placeAt t (placeOf t row number)) (lowest-holds (λ i. isNumbered (ownerOf row) number (placeAt t i)) 32 h)
+
+-- a number that a row does not hold is in none of its places
+pub not-held : (t : Table) → Sound t → (row number : ℕ) → 32 ≤ placeOf t row number → (i : ℕ) → placeAt t i .owner ≡ ownerOf row → placeAt t i .number ≡ number → ⊥
+not-held t s row number h i e f =
+    false≢true (sym (lowest-before (λ j. isNumbered (ownerOf row) number (placeAt t j)) 32 i (omega (arith, owned-place t s i row e))) ∙ is-numbered (ownerOf row) number (placeAt t i) e f)
+
+-- and one that it holds is in that place alone
+pub held-at : (t : Table) → Sound t → (i row : ℕ) → placeAt t i .owner ≡ ownerOf row → i ≡ placeOf t row (placeAt t i .number)
+held-at t s i row e = by-found (ltb (placeOf t row (placeAt t i .number)) 32) refl
+  where
+    by-found : (b : Bool) → ltb (placeOf t row (placeAt t i .number)) 32 ≡ b → i ≡ placeOf t row (placeAt t i .number)
+    by-found true q =
+        let h = place-holds t row (placeAt t i .number) (ltb-true _ _ q) in
+        s .once i (placeOf t row (placeAt t i .number)) row e (h .0) (sym (h .1))
+    by-found false q = absurd (not-held t s row (placeAt t i .number) (ltb-false _ _ q) i e refl)
+
+pub row-both : (t : Table) (key row : ℕ) → isRowOf t key row ≡ true → (getD (t .used) row false ≡ true) × (getD (t .codes) row 0 ≡ key)
+row-both t key row e = by-tests (getD (t .used) row false) refl (eqb (getD (t .codes) row 0) key) refl e
+  where
+    by-tests : (b : Bool) → getD (t .used) row false ≡ b → (c : Bool) → eqb (getD (t .codes) row 0) key ≡ c → (b && c) ≡ true → (getD (t .used) row false ≡ true) × (getD (t .codes) row 0 ≡ key)
+    by-tests true f true g q = (f, eqb-true _ _ g)
+    by-tests true f false g q = absurd (false≢true q)
+    by-tests false f c g q = absurd (false≢true q)
+
+pub row-holds : (t : Table) (key : ℕ) → rowOf t key < 16 → (getD (t .used) (rowOf t key) false ≡ true) × (getD (t .codes) (rowOf t key) 0 ≡ key)
+row-holds t key h = row-both t key (rowOf t key) (lowest-holds (isRowOf t key) 16 h)
+
+pub no-row : (t : Table) → Sound t → (key : ℕ) → 16 ≤ rowOf t key → (row : ℕ) → getD (t .used) row false ≡ true → getD (t .codes) row 0 ≡ key → ⊥
+no-row t s key h row e f =
+    let is : isRowOf t key row ≡ true = rw (e, eq-eqb _ _ f) in
+    false≢true (sym (lowest-before (isRowOf t key) 16 row (omega (arith, used-row t s row e))) ∙ is)
+
+-- what each change keeps
+pub fresh-sound : Sound freshTable
+fresh-sound = record {
+  codes-long = length-replicate {A = ℕ} 16 0;
+  firsts-long = length-replicate {A = ℕ} 16 0;
+  places-long = length-replicate 32 freePlace;
+  used-long = length-replicate 16 false;
+  small = λ i. subst (λ (p : Place). p .size ≤ 1492) (sym (all-same 32 i freePlace)) (omega arith);
+  byte = λ i. subst (λ (p : Place). p .number < 256) (sym (all-same 32 i freePlace)) (omega arith);
+  owned = λ i row e. absurd (unowned i row e);
+  once = λ i j row e f g. absurd (unowned i row e);
+  keyed = λ r s e f g. absurd (false≢true (sym (all-same 16 r false) ∙ e));
+}
+  where
+    unowned : (i row : ℕ) → placeAt freshTable i .owner ≡ ownerOf row → ⊥
+    unowned i row e = let none : placeAt freshTable i .owner ≡ 0 = ap (λ (p : Place). p .owner) (all-same 32 i freePlace) in omega arith
+
+module _ (t : Table) (s : Sound t) (at row : ℕ) (in-32 : at < 32) (p : Place) (e : p .owner ≡ ownerOf row) (small : p .size ≤ 1492) (byte : p .number < 256) (used : getD (t .used) row false ≡ true)
+    (new : (j : ℕ) → (j ≡ at → ⊥) → placeAt t j .owner ≡ ownerOf row → placeAt t j .number ≡ p .number → ⊥) where
+  in-places : at < length (t .places)
+  in-places = omega (arith, s .places-long)
+
+  at-place : (P : Place → Type 0) (i : ℕ) → (at ≡ i → P p) → ((i ≡ at → ⊥) → P (placeAt t i)) → P (placeAt (withPlace t at p) i)
+  at-place P i here other = at-set P (t .places) at i p freePlace in-places here other
+
+  owner-at : (i r : ℕ) → placeAt (withPlace t at p) i .owner ≡ ownerOf r → getD (t .used) r false ≡ true
+  owner-at i r = at-place (λ (q : Place). q .owner ≡ ownerOf r → getD (t .used) r false ≡ true) i
+      (λ here own. subst (λ (k : ℕ). getD (t .used) k false ≡ true) (the-row own) used) (λ other own. s .owned i r own)
+    where
+      the-row : p .owner ≡ ownerOf r → row ≡ r
+      the-row own = omega (arith, e)
+
+  -- the place that was set, beside another
+  apart : (j r : ℕ) → (j ≡ at → ⊥) → placeAt t j .owner ≡ ownerOf r → p .owner ≡ ownerOf r → p .number ≡ placeAt t j .number → ⊥
+  apart j r other f own g =
+      let same : r ≡ row = omega (arith, e) in
+      new j other (f ∙ ap ownerOf same) (sym g)
+
+  once-at : (i j r : ℕ) → placeAt (withPlace t at p) i .owner ≡ ownerOf r → placeAt (withPlace t at p) j .owner ≡ ownerOf r → placeAt (withPlace t at p) i .number ≡ placeAt (withPlace t at p) j .number → i ≡ j
+  once-at i j r =
+      at-place (λ (q : Place). q .owner ≡ ownerOf r → placeAt (withPlace t at p) j .owner ≡ ownerOf r → q .number ≡ placeAt (withPlace t at p) j .number → i ≡ j) i
+      (λ here own. at-place (λ (z : Place). z .owner ≡ ownerOf r → p .number ≡ z .number → i ≡ j) j (λ here₂ f g. sym here ∙ here₂) (λ other f g. absurd (apart j r other f own g)))
+      (λ other own. at-place (λ (z : Place). z .owner ≡ ownerOf r → placeAt t i .number ≡ z .number → i ≡ j) j (λ here f g. absurd (apart i r other own f (sym g))) (λ other₂ f g. s .once i j r own f g))
+
+  pub put-sound : Sound (withPlace t at p)
+  put-sound = record {
+    codes-long = s .codes-long;
+    firsts-long = s .firsts-long;
+    places-long = length-set (t .places) at p ∙ s .places-long;
+    used-long = s .used-long;
+    small = λ i. at-place (λ (q : Place). q .size ≤ 1492) i (λ here. small) (λ other. s .small i);
+    byte = λ i. at-place (λ (q : Place). q .number < 256) i (λ here. byte) (λ other. s .byte i);
+    owned = owner-at;
+    once = once-at;
+    keyed = s .keyed;
+  }
+
+module _ (t : Table) (s : Sound t) (row key time : ℕ) (in-16 : row < 16) (new : 16 ≤ rowOf t key) where
+  still-used : (r : ℕ) → getD (t .used) r false ≡ true → getD (withKey t row key time .used) r false ≡ true
+  still-used r e = at-set (λ (b : Bool). b ≡ true) (t .used) row r true false (omega (arith, s .used-long)) (λ here. refl) (λ other. e)
+
+  was-used : (r : ℕ) → (r ≡ row → ⊥) → getD (withKey t row key time .used) r false ≡ true → getD (t .used) r false ≡ true
+  was-used r other e = sym (getD-set-other (t .used) row r true false other) ∙ e
+
+  keyed-at : (r q : ℕ) → getD (withKey t row key time .used) r false ≡ true → getD (withKey t row key time .used) q false ≡ true → getD (withKey t row key time .codes) r 0 ≡ getD (withKey t row key time .codes) q 0 → r ≡ q
+  keyed-at r q e f =
+      at-set (λ (k : ℕ). k ≡ getD (withKey t row key time .codes) q 0 → r ≡ q) (t .codes) row r key 0 (omega (arith, s .codes-long))
+      (λ here. at-set (λ (k : ℕ). key ≡ k → r ≡ q) (t .codes) row q key 0 (omega (arith, s .codes-long)) (λ here₂ g. sym here ∙ here₂) (λ other g. absurd (no-row t s key new q (was-used q other f) (sym g))))
+      (λ other. at-set (λ (k : ℕ). getD (t .codes) r 0 ≡ k → r ≡ q) (t .codes) row q key 0 (omega (arith, s .codes-long))
+      (λ here g. absurd (no-row t s key new r (was-used r other e) g)) (λ other₂ g. s .keyed r q (was-used r other e) (was-used q other₂ f) g))
+
+  pub open-sound : Sound (withKey t row key time)
+  open-sound = record {
+    codes-long = length-set (t .codes) row key ∙ s .codes-long;
+    firsts-long = length-set (t .firsts) row time ∙ s .firsts-long;
+    places-long = s .places-long;
+    used-long = length-set (t .used) row true ∙ s .used-long;
+    small = s .small;
+    byte = s .byte;
+    owned = λ i r e. still-used r (s .owned i r e);
+    once = s .once;
+    keyed = keyed-at;
+  }
+
+module _ (t : Table) (s : Sound t) (row : ℕ) (in-16 : row < 16) where
+  -- a place after the drop is free, or as it was and another row's
+  at-freed : (P : Place → Type 0) (i : ℕ) → P freePlace → ((placeAt t i .owner ≡ ownerOf row → ⊥) → P (placeAt t i)) → P (placeAt (without t row) i)
+  at-freed P i free kept = subst P (sym (freed-at t row i)) (by-owner (eqb (placeAt t i .owner) (ownerOf row)) refl)
+    where
+      by-owner : (b : Bool) → eqb (placeAt t i .owner) (ownerOf row) ≡ b → P (cond b freePlace (placeAt t i))
+      by-owner true e = free
+      by-owner false e = kept (eqb-false _ _ e)
+
+  pub dropped-unused : getD (without t row .used) row false ≡ false
+  unfolding without
+  dropped-unused = getD-set-same (t .used) row false false (omega (arith, s .used-long))
+
+  pub dropped-other : (r : ℕ) → (r ≡ row → ⊥) → getD (without t row .used) r false ≡ getD (t .used) r false
+  unfolding without
+  dropped-other r other = getD-set-other (t .used) row r false false other
+
+  not-dropped : (r : ℕ) → getD (without t row .used) r false ≡ true → r ≡ row → ⊥
+  not-dropped r e same = false≢true (sym dropped-unused ∙ ap (λ (k : ℕ). getD (without t row .used) k false) (sym same) ∙ e)
+
+  pub dropped-code : (r : ℕ) → (r ≡ row → ⊥) → getD (without t row .codes) r 0 ≡ getD (t .codes) r 0
+  unfolding without
+  dropped-code r other = getD-set-other (t .codes) row r 0 0 other
+
+  pub drop-sound : Sound (without t row)
+  unfolding without
+  drop-sound = record {
+    codes-long = length-set (t .codes) row 0 ∙ s .codes-long;
+    firsts-long = length-set (t .firsts) row 0 ∙ s .firsts-long;
+    places-long = length-map (t .places) (freed row) ∙ s .places-long;
+    used-long = length-set (t .used) row false ∙ s .used-long;
+    small = λ i. at-freed (λ (q : Place). q .size ≤ 1492) i (omega arith) (λ other. s .small i);
+    byte = λ i. at-freed (λ (q : Place). q .number < 256) i (omega arith) (λ other. s .byte i);
+    owned = λ i r. at-freed (λ (q : Place). q .owner ≡ ownerOf r → getD (without t row .used) r false ≡ true) i (λ own. absurd (omega arith))
+        (λ other own. dropped-other r (λ same. other (own ∙ ap ownerOf same)) ∙ s .owned i r own);
+    once = λ i j r. at-freed (λ (q : Place). q .owner ≡ ownerOf r → placeAt (without t row) j .owner ≡ ownerOf r → q .number ≡ placeAt (without t row) j .number → i ≡ j) i (λ own f g. absurd (omega arith))
+        (λ other own. at-freed (λ (z : Place). z .owner ≡ ownerOf r → placeAt t i .number ≡ z .number → i ≡ j) j (λ f g. absurd (omega arith)) (λ other₂ f g. s .once i j r own f g));
+    keyed = λ r q e f g.
+        let a = not-dropped r e in
+        let b = not-dropped q f in
+        s .keyed r q (sym (dropped-other r a) ∙ e) (sym (dropped-other q b) ∙ f) (sym (dropped-code r a) ∙ g ∙ dropped-code q b);
+  }
+
+-- what each call keeps
+pub end-sound : (t : Table) → Sound t → (row : ℕ) → Sound (droppedKey t row)
+end-sound t s row = by-row (ltb row 16) refl
+  where
+    by-row : (b : Bool) → ltb row 16 ≡ b → Sound (cond b (without t row) t)
+    by-row true e = drop-sound t s row (ltb-true _ _ e)
+    by-row false e = s
+
+push-sound : (t : Table) → Sound t → (store : List ℕ) (a : Arrival) (payload : List ℕ) (room : ℕ) → a .fragment .number < 256 → {w : Way} → Went t store a payload room w → Sound (tableBy w t a (length payload))
+push-sound t s store a payload room byte (went-refuse n values) = s
+push-sound t s store a payload room byte (went-replace i h₁ h₂ e h) =
+    let row = rowOf t (a .key) in
+    let number = a .fragment .number in
+    let holds = place-holds t row number (omega arith) in
+    let own : placeAt t i .owner ≡ ownerOf row = ap (λ (k : ℕ). placeAt t k .owner) e ∙ holds .0 in
+    let its : placeAt t i .number ≡ number = ap (λ (k : ℕ). placeAt t k .number) e ∙ holds .1 in
+    put-sound t s i row h (placeFor row (a .fragment) (length payload)) refl h₂ byte (s .owned i row own) (λ j other f g. other (s .once j i row f own (g ∙ sym its)))
+push-sound t s store a payload room byte (went-keep i h₁ h₂ h₃ l e h k) =
+    let row = rowOf t (a .key) in
+    put-sound t s i row h (placeFor row (a .fragment) (length payload)) refl h₂ byte (row-holds t (a .key) k .0) (λ j other f g. not-held t s row (a .fragment .number) h₃ j f g)
+push-sound t s store a payload room byte (went-open i row h₁ h₂ h₃ l e h k e₂ h₄) =
+    let t′ = withKey t row (a .key) (a .time) in
+    let s′ = open-sound t s row (a .key) (a .time) h₄ k in
+    let was-spare : getD (t .used) row false ≡ false = ap (λ (r : ℕ). getD (t .used) r false) e₂ ∙ not-true _ (lowest-holds (isSpare t) 16 (omega arith)) in
+    put-sound t′ s′ i row h (placeFor row (a .fragment) (length payload)) refl h₂ byte (getD-set-same (t .used) row true false (omega (arith, s .used-long)))
+    (λ j other f g. false≢true (sym was-spare ∙ s .owned j row f))
+push-sound t s store a payload room byte (went-end ending h₁ h₂ h₃ l e) = end-sound t s (rowOf t (a .key))
+
+sweep-row-sound : (time row : ℕ) → row < 16 → (z : Swept) → Sound (z .table) → Sound (sweptRow time row z .table)
+unfolding sweptRow
+sweep-row-sound time row h z s = by-age (expired (z .table) time row)
+  where
+    by-age : (b : Bool) → Sound (cond b (record { table = without (z .table) row; counts = counted (lackOf (tally (z .table) row 32)) (z .counts) }) z .table)
+    by-age true = drop-sound (z .table) s row h
+    by-age false = s
+
+pub sweep-sound : (t : Table) → Sound t → (time n : ℕ) → n ≤ 16 → Sound (sweptRows t time n .table)
+unfolding sweptRows
+sweep-sound t s time zero h = s
+sweep-sound t s time (suc n) h = sweep-row-sound time n (omega arith) (sweptRows t time n) (sweep-sound t s time n (omega arith))
+
+pub sound : {t : Table} → Made t → Sound t
+sound byFresh = fresh-sound
+sound (byPush {t} m store a payload room byte) = push-sound t (sound m) store a payload room byte (went t store a payload room)
+sound (bySweep {t} m time) = sweep-sound t (sound m) time 16 (omega arith)

@@ -1,0 +1,185 @@
+-- The way of a push, from the tests that led there: one law for each way out of the code.
+use mathlib.Core.Path.{_≡_, refl, sym, ap, _∙_, subst}
+use mathlib.Core.List.{List, [], _∷_}
+use mathlib.Core.Bool.{Bool, true, false, cond}
+use Prim.Native.Nat.{ℕ, _≤_, _<_}
+use lib.Dec.{ltb, leb}
+use lib.ListN.{length}
+use borrow.Author.Tests.{le-ltb, lt-ltb, le-leb, lt-leb, ltb-true, ltb-false, leb-true, leb-false}
+use Rattle.table.specs.declared.Table.{Table}
+use Rattle.table.specs.declared.Arrival.{Arrival}
+use Rattle.table.specs.Rows.{rowOf, spareRow, placeOf, lowestFree}
+use Rattle.table.specs.Joining.{Joining, inconsistentMetadata, missingFragments, missingLastFragment, message}
+use Rattle.table.specs.Push.{Way, refuse, replace, keepAt, openAt, end, Ending, inconsistentEnd, missingEnd, missingLastEnd, singleEnd, joinedEnd, keepWay, lastWay, joinedWith, way, outputBy, storeBy}
+
+-- step 3
+module _ (t : Table) (row place : ℕ) (e : place ≡ lowestFree t) where
+  pub keep-full : 32 ≤ place → keepWay t row ≡ refuse 10 []
+  unfolding keepWay
+  keep-full h = rw (← e, le-leb _ _ h)
+
+  module _ (h₁ : place < 32) where
+    pub keep-there : row < 16 → keepWay t row ≡ keepAt place
+    unfolding keepWay
+    keep-there h = rw (← e, lt-leb _ _ h₁, lt-ltb _ _ h)
+
+    module _ (h₂ : 16 ≤ row) (spare : ℕ) (e₂ : spare ≡ spareRow t) where
+      pub keep-keys : 16 ≤ spare → keepWay t row ≡ refuse 10 []
+      unfolding keepWay
+      keep-keys h = rw (← e, ← e₂, lt-leb _ _ h₁, le-ltb _ _ h₂, le-leb _ _ h)
+
+      pub keep-new : spare < 16 → keepWay t row ≡ openAt place spare
+      unfolding keepWay
+      keep-new h = rw (← e, ← e₂, lt-leb _ _ h₁, le-ltb _ _ h₂, lt-leb _ _ h)
+
+-- a fragment that is kept or refused leaves the output alone
+pub keep-output : (t : Table) (row : ℕ) (out : List ℕ) → out ≡ outputBy (keepWay t row) out
+unfolding keepWay
+keep-output t row out = by-tests (leb 32 (lowestFree t)) (ltb row 16) (leb 16 (spareRow t))
+  where
+    by-tests : (a b c : Bool) → out ≡ outputBy (cond a (refuse 10 []) (cond b (keepAt (lowestFree t)) (cond c (refuse 10 []) (openAt (lowestFree t) (spareRow t))))) out
+    by-tests true b c = refl
+    by-tests false true c = refl
+    by-tests false false true = refl
+    by-tests false false false = refl
+
+-- step 4
+module _ (room : ℕ) where
+  pub last-inconsistent : lastWay inconsistentMetadata room ≡ end inconsistentEnd
+  unfolding lastWay
+  last-inconsistent = refl
+
+  pub last-missing : lastWay missingFragments room ≡ end missingEnd
+  unfolding lastWay
+  last-missing = refl
+
+  pub last-unmarked : lastWay missingLastFragment room ≡ end missingLastEnd
+  unfolding lastWay
+  last-unmarked = refl
+
+module _ (n : ℕ) (bytes : List ℕ) (room : ℕ) where
+  pub last-single : n ≤ 1 → lastWay (message n bytes) room ≡ end (singleEnd (length bytes))
+  unfolding lastWay
+  last-single h = rw (le-leb _ _ h)
+
+  module _ (h₁ : 1 < n) where
+    pub last-13 : room < length bytes → lastWay (message n bytes) room ≡ refuse 13 (length bytes ∷ [])
+    unfolding lastWay
+    last-13 h = rw (lt-leb _ _ h₁, lt-ltb _ _ h)
+
+    pub last-joined : length bytes ≤ room → lastWay (message n bytes) room ≡ end (joinedEnd bytes)
+    unfolding lastWay
+    last-joined h = rw (lt-leb _ _ h₁, le-ltb _ _ h)
+
+-- what a last way can be
+abbrev isOther : Way → Type 0
+isOther (refuse n values) = ⊥
+isOther (replace i) = Unit {0}
+isOther (keepAt i) = Unit {0}
+isOther (openAt i row) = Unit {0}
+isOther (end e) = ⊥
+
+never-other : (j : Joining) (room : ℕ) (w : Way) → lastWay j room ≡ w → isOther w → ⊥
+unfolding lastWay
+never-other inconsistentMetadata room w e o = subst isOther (sym e) o
+never-other missingFragments room w e o = subst isOther (sym e) o
+never-other missingLastFragment room w e o = subst isOther (sym e) o
+never-other (message n bytes) room w e o = by-tests (leb n 1) (ltb room (length bytes)) (subst isOther (sym e) o)
+  where
+    by-tests : (x y : Bool) → isOther (cond x (end (singleEnd (length bytes))) (cond y (refuse 13 (length bytes ∷ [])) (end (joinedEnd bytes)))) → ⊥
+    by-tests true y q = q
+    by-tests false true q = q
+    by-tests false false q = q
+
+-- and it leaves the store alone
+pub last-store : (j : Joining) (room : ℕ) (store payload : List ℕ) → store ≡ storeBy (lastWay j room) store payload
+unfolding lastWay
+last-store inconsistentMetadata room store payload = refl
+last-store missingFragments room store payload = refl
+last-store missingLastFragment room store payload = refl
+last-store (message n bytes) room store payload = by-tests (leb n 1) (ltb room (length bytes))
+  where
+    by-tests : (x y : Bool) → store ≡ storeBy (cond x (end (singleEnd (length bytes))) (cond y (refuse 13 (length bytes ∷ [])) (end (joinedEnd bytes)))) store payload
+    by-tests true y = refl
+    by-tests false true = refl
+    by-tests false false = refl
+
+-- the tests of push, in their order
+module _ (t : Table) (store : List ℕ) (a : Arrival) (payload : List ℕ) (room : ℕ) where
+  pub way-11 : length store < 47744 → way t store a payload room ≡ refuse 11 []
+  unfolding way
+  way-11 h = rw (lt-ltb _ _ h)
+
+  module _ (h₁ : 47744 ≤ length store) where
+    pub way-12 : 1492 < length payload → way t store a payload room ≡ refuse 12 []
+    unfolding way
+    way-12 h = rw (le-ltb _ _ h₁, lt-ltb _ _ h)
+
+    module _ (h₂ : length payload ≤ 1492) (row place : ℕ) (e : row ≡ rowOf t (a .key)) (e₂ : place ≡ placeOf t row (a .fragment .number)) where
+      at-place : place ≡ placeOf t (rowOf t (a .key)) (a .fragment .number)
+      at-place = e₂ ∙ ap (λ (r : ℕ). placeOf t r (a .fragment .number)) e
+
+      pub way-replace : place < 32 → way t store a payload room ≡ replace place
+      unfolding way
+      way-replace h = rw (← at-place, le-ltb _ _ h₁, le-ltb _ _ h₂, lt-ltb _ _ h)
+
+      module _ (h₃ : 32 ≤ place) where
+        pub way-last : a .fragment .last ≡ true → way t store a payload room ≡ lastWay (joinedWith t store row (a .fragment) payload) room
+        unfolding way
+        way-last h = rw (← at-place, le-ltb _ _ h₁, le-ltb _ _ h₂, le-ltb _ _ h₃, h, ← e)
+
+        pub way-keep : a .fragment .last ≡ false → way t store a payload room ≡ keepWay t row
+        unfolding way
+        way-keep h = rw (← at-place, le-ltb _ _ h₁, le-ltb _ _ h₂, le-ltb _ _ h₃, h, ← e)
+
+-- which way a push went, and what held: what is true of each way is shown by these five cases
+pub data Went (t : Table) (store : List ℕ) (a : Arrival) (payload : List ℕ) (room : ℕ) : Way → Type 0 where
+  went-refuse : (n : ℕ) (values : List ℕ) → Went t store a payload room (refuse n values)
+  went-replace : (i : ℕ) → 47744 ≤ length store → length payload ≤ 1492 → i ≡ placeOf t (rowOf t (a .key)) (a .fragment .number) → i < 32 → Went t store a payload room (replace i)
+  went-keep : (i : ℕ) → 47744 ≤ length store → length payload ≤ 1492 → 32 ≤ placeOf t (rowOf t (a .key)) (a .fragment .number) → a .fragment .last ≡ false
+      → i ≡ lowestFree t → i < 32 → rowOf t (a .key) < 16 → Went t store a payload room (keepAt i)
+  went-open : (i row : ℕ) → 47744 ≤ length store → length payload ≤ 1492 → 32 ≤ placeOf t (rowOf t (a .key)) (a .fragment .number) → a .fragment .last ≡ false
+      → i ≡ lowestFree t → i < 32 → 16 ≤ rowOf t (a .key) → row ≡ spareRow t → row < 16 → Went t store a payload room (openAt i row)
+  went-end : (e : Ending) → 47744 ≤ length store → length payload ≤ 1492 → 32 ≤ placeOf t (rowOf t (a .key)) (a .fragment .number) → a .fragment .last ≡ true
+      → lastWay (joinedWith t store (rowOf t (a .key)) (a .fragment) payload) room ≡ end e → Went t store a payload room (end e)
+
+module _ (t : Table) (store : List ℕ) (a : Arrival) (payload : List ℕ) (room : ℕ) where
+  abbrev row : ℕ
+  row = rowOf t (a .key)
+
+  abbrev place : ℕ
+  place = placeOf t row (a .fragment .number)
+
+  module _ (h₁ : 47744 ≤ length store) (h₂ : length payload ≤ 1492) (h₃ : 32 ≤ place) where
+    by-keep : a .fragment .last ≡ false → (x : Bool) → leb 32 (lowestFree t) ≡ x → (y : Bool) → ltb row 16 ≡ y → (z : Bool) → leb 16 (spareRow t) ≡ z → Went t store a payload room (keepWay t row)
+    by-keep l true e y f z g = rw (keep-full t row (lowestFree t) refl (leb-true _ _ e)) (went-refuse 10 [])
+    by-keep l false e true f z g = rw (keep-there t row (lowestFree t) refl (leb-false _ _ e) (ltb-true _ _ f)) (went-keep (lowestFree t) h₁ h₂ h₃ l refl (leb-false _ _ e) (ltb-true _ _ f))
+    by-keep l false e false f true g = rw (keep-keys t row (lowestFree t) refl (leb-false _ _ e) (ltb-false _ _ f) (spareRow t) refl (leb-true _ _ g)) (went-refuse 10 [])
+    by-keep l false e false f false g = rw (keep-new t row (lowestFree t) refl (leb-false _ _ e) (ltb-false _ _ f) (spareRow t) refl (leb-false _ _ g)) (went-open (lowestFree t) (spareRow t) h₁ h₂ h₃ l refl (leb-false _ _ e) (ltb-false _ _ f) refl (leb-false _ _ g))
+
+    -- a last way is a refusal or an end
+    by-last : a .fragment .last ≡ true → (w : Way) → lastWay (joinedWith t store row (a .fragment) payload) room ≡ w → Went t store a payload room w
+    by-last l (refuse n values) e = went-refuse n values
+    by-last l (end ending) e = went-end ending h₁ h₂ h₃ l e
+    by-last l (replace i) e = absurd (never-other (joinedWith t store row (a .fragment) payload) room (replace i) e tt)
+    by-last l (keepAt i) e = absurd (never-other (joinedWith t store row (a .fragment) payload) room (keepAt i) e tt)
+    by-last l (openAt i r) e = absurd (never-other (joinedWith t store row (a .fragment) payload) room (openAt i r) e tt)
+
+    by-mark : (l : Bool) → a .fragment .last ≡ l → Went t store a payload room (way t store a payload room)
+    by-mark true l = rw (way-last t store a payload room h₁ h₂ row place refl refl h₃ l) (by-last l (lastWay (joinedWith t store row (a .fragment) payload) room) refl)
+    by-mark false l = rw (way-keep t store a payload room h₁ h₂ row place refl refl h₃ l) (by-keep l (leb 32 (lowestFree t)) refl (ltb row 16) refl (leb 16 (spareRow t)) refl)
+
+  by-place : 47744 ≤ length store → length payload ≤ 1492 → (b : Bool) → ltb place 32 ≡ b → Went t store a payload room (way t store a payload room)
+  by-place h₁ h₂ true e = rw (way-replace t store a payload room h₁ h₂ row place refl refl (ltb-true _ _ e)) (went-replace place h₁ h₂ refl (ltb-true _ _ e))
+  by-place h₁ h₂ false e = by-mark h₁ h₂ (ltb-false _ _ e) (a .fragment .last) refl
+
+  by-size : 47744 ≤ length store → (b : Bool) → ltb 1492 (length payload) ≡ b → Went t store a payload room (way t store a payload room)
+  by-size h₁ true e = rw (way-12 t store a payload room h₁ (ltb-true _ _ e)) (went-refuse 12 [])
+  by-size h₁ false e = by-place h₁ (ltb-false _ _ e) (ltb place 32) refl
+
+  by-room : (b : Bool) → ltb (length store) 47744 ≡ b → Went t store a payload room (way t store a payload room)
+  by-room true e = rw (way-11 t store a payload room (ltb-true _ _ e)) (went-refuse 11 [])
+  by-room false e = by-size (ltb-false _ _ e) (ltb 1492 (length payload)) refl
+
+  pub went : Went t store a payload room (way t store a payload room)
+  went = by-room (ltb (length store) 47744) refl

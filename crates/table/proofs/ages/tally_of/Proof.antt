@@ -1,0 +1,67 @@
+-- The loop has tallied the first i places.
+use mathlib.Core.Path.{_≡_, ap, _∙_}
+use Prim.Native.Nat.{_≤_, _-_}
+use native.Mathlib.Omega.{arith}
+use borrow.Author.Needs.{needs}
+use Rattle.table.specs.declared.ages.Tally.{Tally}
+use Rattle.table.specs.Rows.{placeAt}
+use Rattle.table.specs.Sweep.{tallied, tally}
+use Rattle.table.proofs.Sweeping.{tally-none, tally-next, tallied-many}
+use Rattle.table.proofs.ages.tally_of.Statement.{statement}
+use Rattle.table.proofs.ages.tally_of.Tie as tie
+
+abbrev Inv-loop : tie.InvT-loop
+Inv-loop row t s₀ i₀ s i = (i ≤ 32) × (s ≡ tally t row i) × (s .many ≤ i)
+
+abbrev μ-loop : tie.MeasureT-loop
+μ-loop row t s₀ i₀ s i = 32 - i
+
+loop-holds : tie.Need-loop-holds Inv-loop μ-loop
+loop-holds c = (omega arith, tally-none (c .args .t1) (c .args .row), omega arith)
+
+mul-p : tie.Need-mul-p Inv-loop μ-loop
+mul-p c = search needs
+
+element-copy-out-p : tie.Need-element-copy-out-p Inv-loop μ-loop
+element-copy-out-p c = search needs
+
+with-place-requires : tie.Need-with-place-requires Inv-loop μ-loop
+with-place-requires c κs = search needs
+
+add-i : tie.Need-add-i Inv-loop μ-loop
+add-i c = search needs
+
+loop-less : tie.Need-loop-less Inv-loop μ-loop
+loop-less c = search needs
+
+loop-again : tie.Need-loop-again Inv-loop μ-loop
+loop-again c =
+    let b = c .before .before .before in
+    let t = b .before .args .t1 in
+    let row = b .before .args .row in
+    let i = b .loop .i in (
+      search needs,
+      c .with-place .ensures ∙ ap (tallied row (placeAt t i)) (b .loop .inv .1) ∙ tally-next t row i,
+      omega (arith, ap (λ (s : Tally). s .many) (c .with-place .ensures), tallied-many row (placeAt t i) (b .loop .s)),
+    )
+
+returns : tie.Need-returns Inv-loop μ-loop
+returns c =
+    let b = c .before in
+    let end : b .loop .i ≡ 32 = omega arith in
+    b .loop .inv .1 ∙ ap (tally (b .before .args .t1) (b .before .args .row)) end
+
+pub tally-of-spec : {M : Type 1} → statement M
+tally-of-spec =
+    tie.close
+    (tie.spec
+    Inv-loop
+    μ-loop
+    loop-holds
+    mul-p
+    element-copy-out-p
+    with-place-requires
+    add-i
+    loop-less
+    loop-again
+    returns)

@@ -1,0 +1,117 @@
+// Sweep, row by row: a key is dropped when 3,000 milliseconds have passed since its first fragment, and counted by what it lacked.
+use crate::Counts;
+use crate::Place;
+use crate::Swept;
+use crate::Table;
+use crate::rows::without_key;
+ghost use mathlib.Core.Path.{_≡_};
+ghost use mathlib.Core.Bool.{_&&_, _||_};
+ghost use Prim.Native.Nat.{max, _+_, _-_, _≤_, _<_};
+ghost use lib.Dec.{leb};
+ghost use Rattle.table.specs.Sweep.{tallied, tally, lackOf, counted, sweptRow};
+ghost use Rattle.table.specs.Leaves.{Within};
+
+// What a row holds: how many fragments, 1 more than their highest number (0 where there are none), and if one is marked last.
+pub struct Tally {
+    pub many: usize,
+    pub beyond: usize,
+    pub marked: bool,
+}
+
+pub fn larger(a: usize, b: usize) -> usize
+    ensures { λ r. ⌜ r ≡ max a b ⌝ }
+{
+    if a < b { b } else { a }
+}
+
+pub fn either(a: bool, b: bool) -> bool
+    ensures { λ r. ⌜ r ≡ (a || b) ⌝ }
+{
+    if a { true } else { b }
+}
+
+// One place more.
+pub fn with_place(s: Tally, p: Place, row: usize) -> Tally
+    requires { ⌜ (row < 16) × (s .many < 32) ⌝ }
+    ensures { λ r. ⌜ r ≡ tallied row p s ⌝ }
+{
+    let owner = row as u8 + 1;
+    if p.owner == owner {
+        let own = p.number as usize;
+        return Tally {
+            many: s.many + 1,
+            beyond: larger(s.beyond, own + 1),
+            marked: either(s.marked, p.last),
+        };
+    }
+    s
+}
+
+pub fn tally_of(t: Table, row: usize) -> Tally
+    requires { ⌜ row < 16 ⌝ }
+    ensures { λ r. ⌜ r ≡ tally t row 32 ⌝ }
+{
+    let mut s = Tally {
+        many: 0,
+        beyond: 0,
+        marked: false,
+    };
+    let mut i: usize = 0;
+    while i < 32 {
+        let p = t.places[i];
+        s = with_place(s, p, row);
+        i += 1;
+    }
+    s
+}
+
+// One dropped key more.
+pub fn with_key_dropped(c: Counts, s: Tally) -> Counts
+    requires { ⌜ Within 16 c ⌝ }
+    ensures { λ r. ⌜ r ≡ counted (lackOf s) c ⌝ }
+{
+    let mut more = c;
+    if s.many == 0 {
+        more.empty = c.empty + 1;
+        return more;
+    }
+    if !s.marked {
+        more.unmarked = c.unmarked + 1;
+        return more;
+    }
+    if s.many < s.beyond {
+        more.incomplete = c.incomplete + 1;
+        return more;
+    }
+    more.neither = c.neither + 1;
+    more
+}
+
+// Whether a key is too old. The clock may have gone back.
+pub fn is_expired(used: bool, first: u64, time: u64) -> bool
+    ensures { λ r. ⌜ r ≡ (used && leb 3000 (time - first)) ⌝ }
+{
+    if used {
+        if time < first {
+            return false;
+        }
+        let elapsed = time - first;
+        return 3000 <= elapsed;
+    }
+    false
+}
+
+pub fn sweep_row(s: Swept, row: usize, time: u64) -> Swept
+    requires { ⌜ (row < 16) × Within row (s .counts) ⌝ }
+    ensures { λ r. ⌜ (r ≡ sweptRow time row s) × Within (row + 1) (r .counts) ⌝ }
+{
+    let t = s.table;
+    if is_expired(t.used[row], t.firsts[row], time) {
+        let c = s.counts;
+        let held = tally_of(t, row);
+        let counts = with_key_dropped(c, held);
+        let table = without_key(t, row);
+        return Swept { table, counts };
+    }
+    s
+}
