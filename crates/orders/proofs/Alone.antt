@@ -1,0 +1,149 @@
+-- A table that hears one key alone has room for whatever the key was given room for among others: it holds no more than the key held there.
+use mathlib.Core.Path.{_≡_, refl, sym, ap, _∙_, subst}
+use mathlib.Core.List.{List}
+use mathlib.Core.Bool.{Bool, true, false, cond, not, false≢true, or-false}
+use Prim.Native.Nat.{ℕ, zero, suc, _+_, _-_, _≤_, _<_}
+use native.Mathlib.Omega.{arith}
+use lib.Dec.{eqb}
+use borrow.Author.Tests.{eqb-true, eqb-false, eq-eqb, ne-eqb, not-false}
+use Rattle.table.specs.declared.Table.{Table}
+use Rattle.table.specs.declared.ages.Tally.{Tally}
+use Rattle.table.specs.Rows.{ownerOf, freshTable, placeAt, rowOf, isSpare, lowestFree, isFree}
+use Rattle.table.specs.Joining.{never, since}
+use Rattle.table.specs.Push.{Way, refuse, replace, keepAt, openAt, end}
+use Rattle.table.specs.Sweep.{tally}
+use Rattle.table.proofs.Search.{lowest-holds, lowest-before}
+use Rattle.table.proofs.Ways.{Went, went, went-refuse, went-replace, went-keep, went-open, went-end}
+use Rattle.table.proofs.Sweeping.{tally-none}
+use Rattle.table.proofs.Sound.{Sound, sound}
+use Rattle.orders.specs.Runs.{State, Push, Call, push, sweep, finishedBy, part, wayOf, after, tells, isAccepted, isOwn, isSweep, concerns, start, Holding, holding, holdsNothing}
+use Rattle.orders.specs.Shares.{due, tallyOf}
+use Rattle.orders.proofs.Rows.{all-same, isUsed, codeAt, firstAt}
+use Rattle.orders.proofs.Lookups.{row-none, row-is}
+use Rattle.orders.proofs.Holdings.{absent, present}
+use Rattle.orders.proofs.Telling.{shape, refusedWay, refused-is, ownWay, tell, answer}
+use Rattle.orders.proofs.Pushing.{Good, Full, no-place, no-row, Outcome, as-told, full, outcome, way-shape}
+use Rattle.orders.proofs.Tallies.{tally-held}
+use Rattle.orders.proofs.Locality.{has-room, accepted-room, untouched, own-sweep, local-accepted}
+use Rattle.orders.proofs.Story as Y
+
+-- how many of the first places a row has: all, or not all
+module _ (t : Table) (row : ℕ) where
+  many-mine : (n : ℕ) → placeAt t n .owner ≡ ownerOf row → tally t row (suc n) .many ≡ tally t row n .many + 1
+  unfolding tally
+  many-mine n o = rw (eq-eqb (placeAt t n .owner) (ownerOf row) o)
+
+  many-other : (n : ℕ) → (placeAt t n .owner ≡ ownerOf row → ⊥) → tally t row (suc n) .many ≡ tally t row n .many
+  unfolding tally
+  many-other n o = rw (ne-eqb (placeAt t n .owner) (ownerOf row) o)
+
+  many-next : (n : ℕ) → tally t row (suc n) .many ≤ tally t row n .many + 1
+  many-next n = by-owner (eqb (placeAt t n .owner) (ownerOf row)) refl
+    where
+      by-owner : (b : Bool) → eqb (placeAt t n .owner) (ownerOf row) ≡ b → tally t row (suc n) .many ≤ tally t row n .many + 1
+      by-owner true e = omega (arith, many-mine n (eqb-true _ _ e))
+      by-owner false e = omega (arith, many-other n (eqb-false _ _ e))
+
+  many-le : (n : ℕ) → tally t row n .many ≤ n
+  many-le zero = omega (arith, ap (λ (y : Tally). y .many) (tally-none t row))
+  many-le (suc n) = omega (arith, many-next n, many-le n)
+
+  tally-all : (n : ℕ) → ((i : ℕ) → i < n → placeAt t i .owner ≡ ownerOf row) → tally t row n .many ≡ n
+  tally-all zero mine = omega (arith, many-le 0)
+  tally-all (suc n) mine = omega (arith, many-mine n (mine n (omega arith)), tally-all n (λ i l. mine i (omega arith)))
+
+  tally-less : (n i : ℕ) → i < n → (placeAt t i .owner ≡ ownerOf row → ⊥) → tally t row n .many < n
+  tally-less zero i l o = absurd (omega arith)
+  tally-less (suc n) i l o = by-last (eqb i n) refl (tally-less n i)
+    where
+      by-last : (b : Bool) → eqb i n ≡ b → (i < n → (placeAt t i .owner ≡ ownerOf row → ⊥) → tally t row n .many < n) → tally t row (suc n) .many < suc n
+      by-last true e ih = omega (arith, many-other n (subst (λ (k : ℕ). placeAt t k .owner ≡ ownerOf row → ⊥) (eqb-true i n e) o), many-le n)
+      by-last false e ih = omega (arith, ih (omega (arith, eqb-false i n e)) o, many-next n)
+
+-- a push that was kept found a free place
+kept-free : (t : Table) (store : List ℕ) (p : Push) {w : Way} → Went t store (p .arrival) (p .payload) (p .room) w → shape w ≡ keepAt 0 → lowestFree t < 32
+kept-free t store p (went-refuse n values) e = let no : _≡_ {A = ℕ} 0 1 = cc in absurd (omega arith)
+kept-free t store p (went-replace i h₁ h₂ q h) e = let no : _≡_ {A = ℕ} 0 1 = cc in absurd (omega arith)
+kept-free t store p (went-keep i h₁ h₂ h₃ l q h k) e = omega arith
+kept-free t store p (went-open i r h₁ h₂ h₃ l q h k q₂ h₄) e = omega arith
+kept-free t store p (went-end ending h₁ h₂ h₃ l q) e = let no : _≡_ {A = ℕ} 0 1 = cc in absurd (omega arith)
+
+-- only this key holds anything
+abbrev pub Lone : ℕ → State → Type 0
+Lone c z = (k : ℕ) → (k ≡ c → ⊥) → holding k z ≡ holdsNothing
+
+module _ (long : ℕ) (c : ℕ) where
+  lone-code : (z : State) → Sound (z .table) → Lone c z → (row : ℕ) → isUsed (z .table) row ≡ true → codeAt (z .table) row ≡ c
+  lone-code z s lone row u = by-key (eqb (codeAt (z .table) row) c) refl
+    where
+      by-key : (b : Bool) → eqb (codeAt (z .table) row) c ≡ b → codeAt (z .table) row ≡ c
+      by-key true e = eqb-true _ _ e
+      by-key false e =
+          let never-since : never ≡ since (firstAt (z .table) row) = ap (λ (v : Holding). v .first) (sym (lone (codeAt (z .table) row) (eqb-false _ _ e)) ∙ present z s (codeAt (z .table) row) row u refl) in
+          let no : _≡_ {A = ℕ} 0 1 = cc in
+          absurd (omega arith)
+
+  -- a table that hears this key alone and is full for it
+  module _ (z z′ : State) (s : Sound (z .table)) (s′ : Sound (z′ .table)) (lone : Lone c z′) (same : holding c z ≡ holding c z′) (free : lowestFree (z .table) < 32) where
+    owned-all : 32 ≤ lowestFree (z′ .table) → (i : ℕ) → i < 32 → placeAt (z′ .table) i .owner ≡ ownerOf (rowOf (z′ .table) c)
+    owned-all h i l =
+        let p = placeAt (z′ .table) i in
+        let some : p .owner ≡ 0 → ⊥ = λ e. false≢true (sym (lowest-before (λ k. isFree (placeAt (z′ .table) k)) 32 i (omega arith)) ∙ eq-eqb (p .owner) 0 e) in
+        let is : p .owner ≡ ownerOf (p .owner - 1) = omega (arith, some) in
+        let used = s′ .owned i (p .owner - 1) is in
+        is ∙ ap ownerOf (sym (row-is (z′ .table) c s′ (p .owner - 1) used (lone-code z′ s′ lone (p .owner - 1) used)))
+
+    never-full : Full (z′ .table) c → ⊥
+    never-full (no-place h) =
+        let here = tally-held (z .table) s (z .store) (rowOf (z .table) c) in
+        let there = tally-held (z′ .table) s′ (z′ .store) (rowOf (z′ .table) c) in
+        let equal : tally (z .table) (rowOf (z .table) c) 32 ≡ tally (z′ .table) (rowOf (z′ .table) c) 32 = here ∙ ap (λ (v : Holding). tallyOf (v .fragments) 256) same ∙ sym there in
+        let all = tally-all (z′ .table) (rowOf (z′ .table) c) 32 (owned-all h) in
+        let open-place : placeAt (z .table) (lowestFree (z .table)) .owner ≡ 0 = eqb-true _ _ (lowest-holds (λ k. isFree (placeAt (z .table) k)) 32 free) in
+        let less = tally-less (z .table) (rowOf (z .table) c) 32 (lowestFree (z .table)) free (λ o. omega (arith, open-place, o)) in
+        omega (arith, less, all, ap (λ (y : Tally). y .many) equal)
+    never-full (no-row h k) =
+        let used : isUsed (z′ .table) 0 ≡ true = not-false _ (lowest-before (isSpare (z′ .table)) 16 0 (omega arith)) in
+        let at : rowOf (z′ .table) c ≡ 0 = row-is (z′ .table) c s′ 0 used (lone-code z′ s′ lone 0 used) in
+        omega arith
+
+  -- a call that was accepted among others is accepted there
+  accepted-by : (z : State) (p : Push) → isAccepted z (push p) ≡ not (refusedWay (λ n. true) (shape (wayOf z p)))
+  accepted-by z p = ap not (refused-is (λ n. true) (finishedBy (wayOf z p) (p .payload)) (wayOf z p) ∙ by-way (wayOf z p))
+    where
+      by-way : (w : Way) → refusedWay (λ n. true) w ≡ refusedWay (λ n. true) (shape w)
+      by-way (refuse n values) = refl
+      by-way (replace i) = refl
+      by-way (keepAt i) = refl
+      by-way (openAt i row) = refl
+      by-way (end e) = refl
+
+  push-echoed : (z z′ : State) (p : Push) → p .arrival .key ≡ c → Good long z → Good long z′ → Lone c z′ → holding c z ≡ holding c z′ → isAccepted z (push p) ≡ true → isAccepted z′ (push p) ≡ true
+  push-echoed z z′ p is g g′ lone same acc = by-outcome (outcome long z′ p g′)
+    where
+      told : shape (wayOf z p) ≡ ownWay long (holding (p .arrival .key) z) p
+      told = way-shape long z p g (sym (has-room z p) ∙ accepted-room z (push p) acc)
+
+      alike : ownWay long (holding (p .arrival .key) z) p ≡ ownWay long (holding (p .arrival .key) z′) p
+      alike = ap (λ (v : Holding). ownWay long v p) (subst (λ (k : ℕ). holding k z ≡ holding k z′) (sym is) same)
+
+      by-outcome : Outcome long z′ p → isAccepted z′ (push p) ≡ true
+      by-outcome (as-told e) = accepted-by z′ p ∙ ap (λ (w : Way). not (refusedWay (λ n. true) w)) (e ∙ sym alike ∙ sym told) ∙ sym (accepted-by z p) ∙ acc
+      by-outcome (full e own l f) =
+          let free = kept-free (z .table) (part z p) p (went (z .table) (part z p) (p .arrival) (p .payload) (p .room)) (told ∙ alike ∙ own) in
+          absurd (never-full z z′ (sound (g .made)) (sound (g′ .made)) lone same free (subst (Full (z′ .table)) is f))
+
+  echoed : (z z′ : State) (e : Call) → Good long z → Good long z′ → Lone c z′ → holding c z ≡ holding c z′ → concerns c e ≡ true → isAccepted z e ≡ true → isAccepted z′ e ≡ true
+  echoed z z′ (push p) g g′ lone same h acc = push-echoed z z′ p (eqb-true _ _ (sym (or-false (eqb (p .arrival .key) c)) ∙ h)) g g′ lone same acc
+  echoed z z′ (sweep time) g g′ lone same h acc = refl
+
+  stays-lone : (z : State) (e : Call) → Good long z → Lone c z → concerns c e ≡ true → Lone c (after z e)
+  stays-lone z (push p) g lone h k ne = untouched long z g k p (λ q. ne (q ∙ eqb-true _ _ (sym (or-false (eqb (p .arrival .key) c)) ∙ h))) ∙ lone k ne
+  stays-lone z (sweep time) g lone h k ne = own-sweep long z g k time ∙ ap (λ (v : Holding). cond (due time (v .first)) holdsNothing v) (lone k ne)
+
+  pub echo : Y.Echo after tells holding isOwn isSweep (tell long) (answer long) isAccepted (Good long) (local-accepted long) c (Lone c)
+  echo = record { stays = stays-lone; echoed = echoed }
+
+-- a fresh table holds nothing
+pub fresh-holds : (store : List ℕ) → Sound freshTable → (k : ℕ) → holding k (start store) ≡ holdsNothing
+fresh-holds store s k = absent (start store) s k (omega (arith, row-none freshTable k (λ row u e. false≢true (sym (all-same 16 row false) ∙ u))))

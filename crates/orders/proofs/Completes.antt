@@ -1,0 +1,259 @@
+-- Over a run: the fragments of a message find room one after the other, wait, and complete with the last.
+use mathlib.Core.Path.{_≡_, refl, sym, ap, _∙_, subst}
+use mathlib.Core.List.{List, [], _∷_}
+use mathlib.Core.Bool.{Bool, true, false, cond, not, _||_, false≢true, true≢false, or-assoc, or-true, or-false}
+use Prim.Native.Nat.{ℕ, zero, suc, _+_, _≤_, _<_}
+use native.Mathlib.Omega.{arith}
+use lib.Dec.{eqb, ltb}
+use lib.ListN.{length}
+use borrow.Author.Tests.{eqb-true, eqb-false, eq-eqb, ne-eqb, ltb-true, not-true}
+use Rattle.numbers.specs.Numbers.{gives}
+use Rattle.table.specs.declared.Place.{Place}
+use Rattle.table.specs.declared.Table.{Table}
+use Rattle.table.specs.declared.ages.Tally.{Tally}
+use Rattle.table.specs.Search.{lowest}
+use Rattle.table.specs.Rows.{freshTable, placeAt, rowOf, spareRow, lowestFree, withKey, withPlace}
+use Rattle.table.specs.Joining.{Held, Kept, nothing, kept, Fragments, andNew, Since, never, since}
+use Rattle.table.specs.Push.{Way, keepAt, waiting, placeFor, tableBy, answerBy}
+use Rattle.table.specs.Made.{Made, byFresh}
+use Rattle.table.proofs.Ways.{Went, went, went-refuse, went-replace, went-keep, went-open, went-end}
+use Rattle.table.proofs.Sound.{Sound, sound, fresh-sound}
+use Rattle.orders.specs.Machine.{those, remaining, every}
+use Rattle.orders.specs.Runs.{State, Push, Call, push, Told, pushed, finishedBy, part, wayOf, after, tells, hasRoom, isOwn, isSweep, concerns, start, Holding, holding, holdsNothing, mine, crossed, toldOf, toldOfAccepted}
+use Rattle.orders.specs.Shares.{andKept, tallyOf, isIn, distinct}
+use Rattle.orders.specs.Messages.{Message, whole, Brings, Ordering, calls, freeIn, Room, completing}
+use Rattle.orders.specs.Claims.{Completes}
+use Rattle.orders.proofs.Rows.{after-put}
+use Rattle.orders.proofs.Lists.{left-true, right-true, every-remains, every-heard}
+use Rattle.orders.proofs.Holdings.{absent}
+use Rattle.orders.proofs.Telling.{shape, ownWay, sinceOr, byOwn, withNew, tell, answer}
+use Rattle.orders.proofs.Pushing.{Good, Full, no-place, no-row, way-shape, room-unless}
+use Rattle.orders.proofs.Locality.{has-room, good-after, own-push, local-room}
+use Rattle.orders.proofs.Tallies.{tally-same, tally-nothing, tally-new}
+use Rattle.orders.proofs.Alone.{fresh-holds}
+use Rattle.orders.proofs.Free.{one-fewer, some-free}
+use Rattle.orders.proofs.Completion.{heldAt, Has, waits, added, completes-as}
+use Rattle.orders.proofs.Orders.{told-alone}
+use Rattle.orders.proofs.Story as Y
+
+-- distinct numbers below n are at most n
+module _ (some : Held) where
+  abbrev marks : List ℕ → Fragments
+  marks ks k = cond (isIn k ks) (kept some) nothing
+
+  marks-more : (x : ℕ) (ks : List ℕ) (k : ℕ) → marks (x ∷ ks) k ≡ andNew (marks ks) x some k
+  unfolding isIn
+  marks-more x ks k = by-key (eqb k x) refl
+    where
+      by-key : (b : Bool) → eqb k x ≡ b → cond (eqb x k || isIn k ks) (kept some) nothing ≡ cond (eqb k x) (kept some) (marks ks k)
+      by-key true e = rw (e, eq-eqb x k (sym (eqb-true k x e)))
+      by-key false e = rw (e, ne-eqb x k (λ q. eqb-false k x e (sym q)))
+
+  counted : (n : ℕ) (ks : List ℕ) → distinct ks ≡ true → ((k : ℕ) → isIn k ks ≡ true → k < n) → length ks ≡ tallyOf (marks ks) n .many
+  unfolding isIn distinct
+  counted n [] d below = sym (ap (λ (y : Tally). y .many) (tally-nothing (marks []) n (λ k. refl)))
+  counted n (x ∷ ks) d below =
+      let out : isIn x ks ≡ false = not-true (isIn x ks) (left-true (not (isIn x ks)) _ d) in
+      let rest = counted n ks (right-true (not (isIn x ks)) _ d) (λ k h. below k (in-more k h (eqb x k))) in
+      let more = tally-same (marks (x ∷ ks)) (andNew (marks ks) x some) n (λ k l. marks-more x ks k) ∙ tally-new (marks ks) x some (ap (λ (b : Bool). cond b (kept some) nothing) out) n (below x (rw (eq-eqb x x refl))) in
+      omega (arith, rest, ap (λ (y : Tally). y .many) more)
+    where
+      in-more : (k : ℕ) → isIn k ks ≡ true → (b : Bool) → (b || isIn k ks) ≡ true
+      in-more k h true = refl
+      in-more k h false = h
+
+  many-le : (fs : Fragments) (n : ℕ) → tallyOf fs n .many ≤ n
+  unfolding tallyOf
+  many-le fs zero = omega arith
+  many-le fs (suc n) = by-kept (fs n) (many-le fs n)
+    where
+      by-kept : (h : Kept) → tallyOf fs n .many ≤ n → andKept n h (tallyOf fs n) .many ≤ suc n
+      by-kept nothing l = omega arith
+      by-kept (kept h) l = omega arith
+
+  at-most : (n : ℕ) (ks : List ℕ) → distinct ks ≡ true → ((k : ℕ) → isIn k ks ≡ true → k < n) → length ks ≤ n
+  at-most n ks d below = omega (arith, counted n ks d below, many-le (marks ks) n)
+
+-- a push that is kept takes one place
+kept-fewer : (t : Table) → Sound t → (store : List ℕ) (p : Push) {w : Way} → Went t store (p .arrival) (p .payload) (p .room) w → shape w ≡ keepAt 0 → freeIn t 32 ≤ freeIn (tableBy w t (p .arrival) (length (p .payload))) 32 + 1
+kept-fewer t s store p (went-refuse n values) e = let no : _≡_ {A = ℕ} 0 1 = cc in absurd (omega arith)
+kept-fewer t s store p (went-replace i h₁ h₂ q h) e = let no : _≡_ {A = ℕ} 0 1 = cc in absurd (omega arith)
+kept-fewer t s store p (went-keep i h₁ h₂ h₃ l q h k) e =
+    let new = placeFor (rowOf t (p .arrival .key)) (p .arrival .fragment) (length (p .payload)) in
+    one-fewer t (withPlace t i new) i (λ j ne. after-put t s i new h (λ (x : Place). x ≡ placeAt t j) j (λ c. absurd (ne c)) (λ c. refl)) 32
+kept-fewer t s store p (went-open i r h₁ h₂ h₃ l q h k q₂ h₄) e =
+    let new = placeFor r (p .arrival .fragment) (length (p .payload)) in
+    one-fewer t (withPlace (withKey t r (p .arrival .key) (p .arrival .time)) i new) i (λ j ne. after-put t s i new h (λ (x : Place). x ≡ placeAt t j) j (λ c. absurd (ne c)) (λ c. refl)) 32
+kept-fewer t s store p (went-end ending h₁ h₂ h₃ l q) e = let no : _≡_ {A = ℕ} 0 1 = cc in absurd (omega arith)
+
+module _ (m : Message) (long : ℕ) (store : 47744 ≤ long) (bring : ℕ → Push) (brings : (k : ℕ) → k ≤ m .final → Brings m k (bring k)) where
+  -- the numbers still to come: each once, none of them there, and with those there all below the final one
+  record Due (done : ℕ → Bool) (ks : List ℕ) : Type 0 where
+    once : distinct ks ≡ true
+    new : (k : ℕ) → isIn k ks ≡ true → done k ≡ false
+    all : (k : ℕ) → (done k || isIn k ks) ≡ ltb k (m .final)
+
+  first-in : (k : ℕ) (ks : List ℕ) → isIn k (k ∷ ks) ≡ true
+  unfolding isIn
+  first-in k ks = rw (eq-eqb k k refl)
+
+  due-here : (done : ℕ → Bool) (k : ℕ) (ks : List ℕ) → Due done (k ∷ ks) → (done k ≡ false) × (k < m .final)
+  due-here done k ks d =
+      (d .new k (first-in k ks), ltb-true k (m .final) (sym (d .all k) ∙ rw (first-in k ks) (or-true (done k))))
+
+  due-next : (done : ℕ → Bool) (k : ℕ) (ks : List ℕ) → Due done (k ∷ ks) → Due (λ j. done j || eqb k j) ks
+  unfolding isIn distinct
+  due-next done k ks d =
+      let out : isIn k ks ≡ false = not-true (isIn k ks) (left-true (not (isIn k ks)) _ (d .once)) in
+      record {
+        once = right-true (not (isIn k ks)) _ (d .once);
+        new = λ j h.
+            let ne : k ≡ j → ⊥ = λ e. false≢true (sym out ∙ ap (λ (x : ℕ). isIn x ks) e ∙ h) in
+            rw (ne-eqb k j ne, d .new j (rw (ne-eqb k j ne) h));
+        all = λ j. or-assoc (done j) (eqb k j) (isIn j ks) ∙ d .all j;
+      }
+
+  due-last : (done : ℕ → Bool) (v : Holding) → Due done [] → Has m done v → Has m (λ k. ltb k (m .final)) v
+  unfolding isIn
+  due-last done v d has k = has k ∙ ap (λ (b : Bool). cond b (kept (heldAt m k)) nothing) (sym (or-false (done k)) ∙ d .all k)
+
+  absent-yet : (done : ℕ → Bool) (v : Holding) (k : ℕ) → Has m done v → done k ≡ false → v .fragments k ≡ nothing
+  absent-yet done v k has e = has k ∙ ap (λ (b : Bool). cond b (kept (heldAt m k)) nothing) e
+
+  abbrev come : List ℕ → List Call
+  come ks = calls m bring ks
+
+  -- the story of the key alone
+  abbrev answersOf : Holding → List Call → List Told
+  answersOf = Y.answers after tells holding isOwn isSweep (tell long) (answer long) (m .key)
+
+  abbrev toldTo : Holding → List Call → Holding
+  toldTo = Y.told after tells holding isOwn isSweep (tell long) (answer long)
+
+  module _ (room : 1 ≤ m .final → length (whole m) ≤ bring (m .final) .room) where
+    heard-one : (v : Holding) (p : Push) (es : List Call) → p .arrival .key ≡ m .key → answersOf v (push p ∷ es) ≡ answer long v (push p) ∷ answersOf (tell long v (push p)) es
+    unfolding Y.answers
+    heard-one v p es e = rw (eq-eqb (p .arrival .key) (m .key) e)
+
+    heard-none : (v : Holding) → answersOf v [] ≡ []
+    unfolding Y.answers
+    heard-none v = refl
+
+    told-one : (v : Holding) (e : Call) (es : List Call) → toldTo v (e ∷ es) ≡ toldTo (tell long v e) es
+    unfolding Y.told
+    told-one v e es = refl
+
+    told-none : (v : Holding) → toldTo v [] ≡ v
+    unfolding Y.told
+    told-none v = refl
+
+    as-story : (ks : List ℕ) (done : ℕ → Bool) (v : Holding) → Due done ks → Has m done v → (answersOf v (come ks) ≡ completing m ks) × (toldTo v (come ks) ≡ holdsNothing)
+    as-story [] done v d has =
+        let last = brings (m .final) (omega arith) in
+        let end = completes-as m long store (bring (m .final)) last v (due-last done v d has) room in (
+          heard-one v (bring (m .final)) [] (last .key) ∙ ap (λ (es : List Told). answer long v (push (bring (m .final))) ∷ es) (heard-none (tell long v (push (bring (m .final))))) ∙ ap (λ (x : Told). x ∷ []) (end .0),
+          told-one v (push (bring (m .final))) [] ∙ told-none (tell long v (push (bring (m .final)))) ∙ end .1,
+        )
+    as-story (k ∷ ks) done v d has =
+        let here = due-here done k ks d in
+        let b = brings k (omega (arith, here .1)) in
+        let new = absent-yet done v k has (here .0) in
+        let is = waits m long store k (bring k) b v new (λ e. omega (arith, here .1)) in
+        let next : tell long v (push (bring k)) ≡ withNew v (bring k) = ap (λ (w : Way). byOwn w v (bring k)) is in
+        let said : answer long v (push (bring k)) ≡ pushed (gives waiting) [] = ap (λ (w : Way). pushed (answerBy w) (finishedBy w (bring k .payload))) is in
+        let rest = as-story ks (λ j. done j || eqb k j) (withNew v (bring k)) (due-next done k ks d) (added m long store k (bring k) b v new done has) in (
+          heard-one v (bring k) (come ks) (b .key) ∙ ap (λ (x : Told). x ∷ answersOf (tell long v (push (bring k))) (come ks)) said ∙ ap (λ (u : Holding). pushed (gives waiting) [] ∷ answersOf u (come ks)) next ∙ ap (λ (es : List Told). pushed (gives waiting) [] ∷ es) (rest .0),
+          told-one v (push (bring k)) (come ks) ∙ ap (λ (u : Holding). toldTo u (come ks)) next ∙ rest .1,
+        )
+
+  -- each finds room
+  held-row : (z : State) → Good long z → (p : Push) → p .arrival .key ≡ m .key → (u : Holding) → holding (m .key) z ≡ withNew u p → 16 ≤ rowOf (z .table) (m .key) → ⊥
+  held-row z g p e u h out = never-since (u .first) (ap (λ (v : Holding). v .first) (sym (absent z (sound (g .made)) (m .key) out) ∙ h))
+    where
+      never-since : (f : Since) → never ≡ sinceOr f (p .arrival .time) → ⊥
+      never-since never q = let no : _≡_ {A = ℕ} 0 1 = cc in omega arith
+      never-since (since first) q = let no : _≡_ {A = ℕ} 0 1 = cc in omega arith
+
+  finds-room : (ks : List ℕ) (done : ℕ → Bool) (z : State) → Good long z → Due done ks → Has m done (holding (m .key) z) → length ks ≤ freeIn (z .table) 32
+      → (1 ≤ length ks → 16 ≤ rowOf (z .table) (m .key) → 16 ≤ spareRow (z .table) → ⊥) → every after hasRoom z (come ks) ≡ true
+  unfolding every
+  finds-room [] done z g d has places seat =
+      let p = bring (m .final) in
+      let b = brings (m .final) (omega arith) in
+      let roomy : hasRoom z (push p) ≡ true = has-room z p ∙ room-unless long z p g (λ l f. true≢false (sym (b .last ∙ eq-eqb (m .final) (m .final) refl) ∙ l)) in
+      rw roomy
+  finds-room (k ∷ ks) done z g d has places seat =
+      let p = bring k in
+      let here = due-here done k ks d in
+      let b = brings k (omega (arith, here .1)) in
+      let new = absent-yet done (holding (m .key) z) k has (here .0) in
+      let free = some-free (z .table) (omega arith) in
+      let roomy : hasRoom z (push p) ≡ true = has-room z p ∙ room-unless long z p g (λ l f. not-full free (seat (omega arith)) (subst (Full (z .table)) (b .key) f)) in
+      let is : ownWay long (holding (m .key) z) p ≡ keepAt 0 = waits m long store k p b (holding (m .key) z) new (λ e. omega (arith, here .1)) in
+      let at-key : holding (p .arrival .key) z ≡ holding (m .key) z = ap (λ (c : ℕ). holding c z) (b .key) in
+      let way : shape (wayOf z p) ≡ keepAt 0 = way-shape long z p g (sym (has-room z p) ∙ roomy) ∙ ap (λ (v : Holding). ownWay long v p) at-key ∙ is in
+      let next : holding (m .key) (after z (push p)) ≡ withNew (holding (m .key) z) p
+      = ap (λ (c : ℕ). holding c (after z (push p))) (sym (b .key)) ∙ own-push long z g p roomy ∙ ap (λ (v : Holding). tell long v (push p)) at-key ∙ ap (λ (w : Way). byOwn w (holding (m .key) z) p) is in
+      let fewer = kept-fewer (z .table) (sound (g .made)) (part z p) p (went (z .table) (part z p) (p .arrival) (p .payload) (p .room)) way in
+      let has′ : Has m (λ j. done j || eqb k j) (holding (m .key) (after z (push p))) = subst (Has m (λ j. done j || eqb k j)) (sym next) (added m long store k p b (holding (m .key) z) new done has) in
+      let g′ = good-after long z (push p) g in
+      rw (roomy, finds-room ks (λ j. done j || eqb k j) (after z (push p)) g′ (due-next done k ks d) has′ (omega (arith, fewer)) (λ l out spare. held-row (after z (push p)) g′ p (b .key) (holding (m .key) z) next out))
+    where
+      not-full : lowestFree (z .table) < 32 → (16 ≤ rowOf (z .table) (m .key) → 16 ≤ spareRow (z .table) → ⊥) → Full (z .table) (m .key) → ⊥
+      not-full free seated (no-place h) = omega arith
+      not-full free seated (no-row h h′) = seated h h′
+
+  -- all the calls are the key's own
+  all-concern : (ks : List ℕ) (done : ℕ → Bool) → Due done ks → those (concerns (m .key)) (come ks) ≡ come ks
+  unfolding those
+  all-concern [] done d = rw (eq-eqb (bring (m .final) .arrival .key) (m .key) (brings (m .final) (omega arith) .key))
+  all-concern (k ∷ ks) done d =
+      rw (eq-eqb (bring k .arrival .key) (m .key) (brings k (omega (arith, due-here done k ks d .1)) .key), all-concern ks (λ j. done j || eqb k j) (due-next done k ks d))
+
+-- from any table that the calls made, in which the key is not held and which has room
+pub completes : (m : Message) (bring : ℕ → Push) (order : List ℕ) (z : State)
+    → Made (z .table) → 47744 ≤ length (z .store) → holding (m .key) z ≡ holdsNothing → Room m (z .table)
+    → ((k : ℕ) → k ≤ m .final → Brings m k (bring k)) → Ordering m order → (1 ≤ m .final → length (whole m) ≤ bring (m .final) .room)
+    → Completes m bring order z
+completes m bring order z made store absent-key has-place brings ordering room =
+    let long = length (z .store) in
+    let g : Good long z = record { made = made; same-long = refl } in
+    let none : ℕ → Bool = λ k. false in
+    let d : Due m long store bring brings none order = record { once = ordering .once; new = λ k h. refl; all = ordering .all } in
+    let has : Has m none (holding (m .key) z) = λ k. ap (λ (v : Holding). v .fragments k) absent-key in
+    let few : length order ≤ m .final = at-most (heldAt m 0) (m .final) order (ordering .once) (λ k h. ltb-true k (m .final) (sym (ordering .all k) ∙ h)) in
+    let roomy = finds-room m long store bring brings order none z g d has (omega (arith, has-place .places)) (λ l out spare. omega (arith, has-place .row (omega arith))) in
+    let story : those (concerns (m .key)) (remaining after hasRoom z (calls m bring order)) ≡ calls m bring order
+    = ap (those (concerns (m .key))) (every-remains after hasRoom (calls m bring order) z roomy) ∙ all-concern m long store bring brings order none d in
+    let told = as-story m long store bring brings room order none (holding (m .key) z) d has in
+    record {
+      answers =
+          sym (every-heard after hasRoom (λ s e. isOwn (m .key) e) tells (calls m bring order) z roomy)
+          ∙ Y.heard-alone after tells holding isOwn isSweep (tell long) (answer long) hasRoom (Good long) (local-room long) (m .key) (calls m bring order) z g
+          ∙ ap (answersOf m long store bring brings (holding (m .key) z)) story
+          ∙ told .0;
+      holds =
+          Y.alone after tells holding isOwn isSweep (tell long) (answer long) hasRoom (Good long) (local-room long) (m .key) (calls m bring order) z g
+          ∙ ap (toldTo m long store bring brings (holding (m .key) z)) story
+          ∙ told .1;
+    }
+
+-- a fresh table has room for every message
+fresh-room : (m : Message) → Room m freshTable
+unfolding freeIn lowest
+fresh-room m = record { places = m .few; row = λ l. omega arith }
+
+pub fresh-completes : (m : Message) (bring : ℕ → Push) (order : List ℕ) (store : List ℕ) → 47744 ≤ length store
+    → ((k : ℕ) → k ≤ m .final → Brings m k (bring k)) → Ordering m order → (1 ≤ m .final → length (whole m) ≤ bring (m .final) .room)
+    → Completes m bring order (start store)
+fresh-completes m bring order store long = completes m bring order (start store) byFresh long (fresh-holds store fresh-sound (m .key)) (fresh-room m)
+
+-- and among any other calls, by the story told alone: if these are what is left of the key's calls, they are answered so
+pub completes-among : (m : Message) (bring : ℕ → Push) (order : List ℕ) (store : List ℕ) (others : List Call) → 47744 ≤ length store
+    → ((k : ℕ) → k ≤ m .final → Brings m k (bring k)) → Ordering m order → (1 ≤ m .final → length (whole m) ≤ bring (m .final) .room)
+    → mine (m .key) (crossed (start store) others) ≡ calls m bring order
+    → toldOfAccepted (m .key) (start store) others ≡ completing m order
+completes-among m bring order store others long brings ordering room story =
+    told-alone store store refl (m .key) others .answers
+    ∙ ap (toldOf (m .key) (start store)) story
+    ∙ fresh-completes m bring order store long brings ordering room .answers

@@ -1,0 +1,119 @@
+-- The table as a machine whose calls act key by key: what a call does to a key's holding, and tells, is a function of that holding and the call, unless it is refused for room.
+use mathlib.Core.Path.{_≡_, refl, sym, ap, _∙_, subst}
+use mathlib.Core.List.{List}
+use mathlib.Core.Bool.{Bool, true, false, not, false≢true, true≢false, or-false}
+use Prim.Native.Nat.{ℕ}
+use lib.Dec.{eqb}
+use lib.ListN.{length, take-append-drop}
+use borrow.Author.Tests.{eqb-true, eqb-false, not-false}
+use Rattle.table.specs.Push.{Way, refuse, replace, keepAt, openAt, end, answerBy}
+use Rattle.table.specs.Made.{byFresh, byPush, bySweep}
+use Rattle.table.proofs.Ways.{went}
+use Rattle.table.proofs.Sound.{Sound, sound}
+use Rattle.orders.specs.Runs.{State, Push, Call, push, sweep, pushed, finishedBy, part, wayOf, afterWay, after, tells, refusedBy, isAccepted, hasRoom, isOwn, isSweep, concerns, start, holding, forRoom}
+use Rattle.orders.proofs.Telling.{refusedWay, refused-is, ownWay, byOwn, tell, answer}
+use Rattle.orders.proofs.Pushing.{Good, roomBy, same-answer, same-finished, way-shape}
+use Rattle.orders.proofs.Effects.{stored-long, others-same, own-same}
+use Rattle.orders.proofs.Sweeps.{sweep-holding}
+use Rattle.orders.proofs.Story as Y
+
+-- a refused push changes nothing
+refused-same : (z : State) (p : Push) (test : ℕ → Bool) (w : Way) → refusedWay test w ≡ true → afterWay w z p ≡ z
+refused-same z p test (refuse n values) h = ap (λ (l : List ℕ). record { table = z .table; store = l }) (take-append-drop (p .lent) (z .store))
+refused-same z p test (replace i) h = absurd (false≢true h)
+refused-same z p test (keepAt i) h = absurd (false≢true h)
+refused-same z p test (openAt i row) h = absurd (false≢true h)
+refused-same z p test (end e) h = absurd (false≢true h)
+
+pub refused-nothing : (test : ℕ → Bool) (z : State) (e : Call) → not (refusedBy test (tells z e)) ≡ false → after z e ≡ z
+refused-nothing test z (push p) h = refused-same z p test (wayOf z p) (sym (refused-is test (finishedBy (wayOf z p) (p .payload)) (wayOf z p)) ∙ not-false _ h)
+refused-nothing test z (sweep time) h = absurd (true≢false h)
+
+pub has-room : (z : State) (p : Push) → hasRoom z (push p) ≡ roomBy (wayOf z p)
+has-room z p = ap not (refused-is forRoom (finishedBy (wayOf z p) (p .payload)) (wayOf z p))
+
+-- each call leaves a state that the calls made
+pub good-after : (long : ℕ) (z : State) (e : Call) → Good long z → Good long (after z e)
+good-after long z (push p) g = record {
+  made = byPush (g .made) (part z p) (p .arrival) (p .payload) (p .room) (p .byte);
+  same-long = stored-long z p (sound (g .made)) (went (z .table) (part z p) (p .arrival) (p .payload) (p .room)) ∙ g .same-long;
+}
+good-after long z (sweep time) g = record { made = bySweep (g .made) time; same-long = g .same-long }
+
+pub good-start : (store : List ℕ) → Good (length store) (start store)
+good-start store = record { made = byFresh; same-long = refl }
+
+module _ (long : ℕ) (z : State) (g : Good long z) where
+  s : Sound (z .table)
+  s = sound (g .made)
+
+  -- what a key holds is untouched by every push under another key, refused or not
+  pub untouched : (c : ℕ) (p : Push) → (c ≡ p .arrival .key → ⊥) → holding c (after z (push p)) ≡ holding c z
+  untouched c p ne = others-same z p s (sound (good-after long z (push p) g .made)) c (λ e. ne (sym e))
+
+  -- what a push does to its own key's holding, and tells, unless it is refused for room
+  pub own-push : (p : Push) → hasRoom z (push p) ≡ true → holding (p .arrival .key) (after z (push p)) ≡ tell long (holding (p .arrival .key) z) (push p)
+  own-push p h =
+      own-same z p s (sound (good-after long z (push p) g .made))
+      ∙ ap (λ (w : Way). byOwn w (holding (p .arrival .key) z) p) (way-shape long z p g (sym (has-room z p) ∙ h))
+
+  pub own-told : (p : Push) → hasRoom z (push p) ≡ true → tells z (push p) ≡ answer long (holding (p .arrival .key) z) (push p)
+  own-told p h =
+      let w = wayOf z p in
+      let is = way-shape long z p g (sym (has-room z p) ∙ h) in
+      let said : answerBy w ≡ answerBy (ownWay long (holding (p .arrival .key) z) p) = sym (same-answer w) ∙ ap answerBy is in
+      let shown : finishedBy w (p .payload) ≡ finishedBy (ownWay long (holding (p .arrival .key) z) p) (p .payload) = sym (same-finished w (p .payload)) ∙ ap (λ (x : Way). finishedBy x (p .payload)) is in
+      λ i. pushed (said i) (shown i)
+
+  -- and what a sweep does to a key's
+  pub own-sweep : (c time : ℕ) → holding c (after z (sweep time)) ≡ tell long (holding c z) (sweep time)
+  own-sweep c time = sweep-holding z s time c
+
+-- so the table is a machine that acts key by key: for every test that lets the sweeps pass, lets no call pass that is refused for room, and stops no call but refused ones
+module _ (long : ℕ) (passes : State → Call → Bool) (room : (z : State) (e : Call) → passes z e ≡ true → hasRoom z e ≡ true)
+    (stops : (z : State) (e : Call) → passes z e ≡ false → after z e ≡ z) (sweeps : (z : State) (time : ℕ) → passes z (sweep time) ≡ true) where
+  always : (z : State) (e : Call) → isSweep e ≡ true → passes z e ≡ true
+  always z (push p) h = absurd (false≢true h)
+  always z (sweep time) h = sweeps z time
+
+  same : (c : ℕ) (z : State) (e : Call) → Good long z → passes z e ≡ true → concerns c e ≡ true → holding c (after z e) ≡ tell long (holding c z) e
+  same c z (push p) g h k =
+      let is : p .arrival .key ≡ c = eqb-true _ _ (sym (or-false (eqb (p .arrival .key) c)) ∙ k) in
+      subst (λ (d : ℕ). holding d (after z (push p)) ≡ tell long (holding d z) (push p)) is (own-push long z g p (room z (push p) h))
+  same c z (sweep time) g h k = own-sweep long z g c time
+
+  other : (c : ℕ) (z : State) (e : Call) → Good long z → concerns c e ≡ false → holding c (after z e) ≡ holding c z
+  other c z (push p) g k = untouched long z g c p (λ q. eqb-false (p .arrival .key) c (sym (or-false (eqb (p .arrival .key) c)) ∙ k) (sym q))
+  other c z (sweep time) g k = absurd (true≢false k)
+
+  said : (c : ℕ) (z : State) (e : Call) → Good long z → passes z e ≡ true → isOwn c e ≡ true → tells z e ≡ answer long (holding c z) e
+  said c z (push p) g h k = subst (λ (d : ℕ). tells z (push p) ≡ answer long (holding d z) (push p)) (eqb-true _ _ k) (own-told long z g p (room z (push p) h))
+  said c z (sweep time) g h k = absurd (false≢true k)
+
+  pub local : Y.Local after tells holding isOwn isSweep (tell long) (answer long) passes (Good long)
+  local = record {
+    stays = good-after long;
+    crossed = λ z e g. stops z e;
+    always = always;
+    same = same;
+    other = other;
+    said = said;
+  }
+
+-- two such tests: not refused for room, and not refused
+pub local-room : (long : ℕ) → Y.Local after tells holding isOwn isSweep (tell long) (answer long) hasRoom (Good long)
+local-room long = local long hasRoom (λ z e h. h) (refused-nothing forRoom) (λ z time. refl)
+
+pub accepted-room : (z : State) (e : Call) → isAccepted z e ≡ true → hasRoom z e ≡ true
+accepted-room z (sweep time) h = refl
+accepted-room z (push p) h = has-room z p ∙ by-way (wayOf z p) (sym (ap not (refused-is (λ n. true) (finishedBy (wayOf z p) (p .payload)) (wayOf z p))) ∙ h)
+  where
+    by-way : (w : Way) → not (refusedWay (λ n. true) w) ≡ true → roomBy w ≡ true
+    by-way (refuse n values) k = absurd (false≢true k)
+    by-way (replace i) k = refl
+    by-way (keepAt i) k = refl
+    by-way (openAt i row) k = refl
+    by-way (end e) k = refl
+
+pub local-accepted : (long : ℕ) → Y.Local after tells holding isOwn isSweep (tell long) (answer long) isAccepted (Good long)
+local-accepted long = local long isAccepted accepted-room (refused-nothing (λ n. true)) (λ z time. refl)

@@ -1,0 +1,163 @@
+-- One key's story, told alone, for any machine: what one call does to one key's view, given once, gives what any calls do to it and what is heard of them.
+use mathlib.Core.Path.{_≡_, refl, sym, ap, _∙_}
+use mathlib.Core.List.{List, [], _∷_}
+use mathlib.Core.Bool.{Bool, true, false, cond, _&&_, _||_, false≢true}
+use Prim.Native.Nat.{ℕ}
+use Rattle.orders.specs.Machine.{those, run, remaining, heard, every}
+
+module _ {S E A Vw : Type 0} (step : S → E → S) (says : S → E → A) (view : ℕ → S → Vw) (own : ℕ → E → Bool) (common : E → Bool) (tell : Vw → E → Vw) (answer : Vw → E → A) where
+  abbrev pub for : ℕ → E → Bool
+  for c e = own c e || common e
+
+  -- what one call does, where it passes the test
+  pub record Local (passes : S → E → Bool) (Good : S → Type 0) : Type 0 where
+    pub stays : (s : S) (e : E) → Good s → Good (step s e)
+    pub crossed : (s : S) (e : E) → Good s → passes s e ≡ false → step s e ≡ s
+    pub always : (s : S) (e : E) → common e ≡ true → passes s e ≡ true
+    pub same : (c : ℕ) (s : S) (e : E) → Good s → passes s e ≡ true → for c e ≡ true → view c (step s e) ≡ tell (view c s) e
+    pub other : (c : ℕ) (s : S) (e : E) → Good s → for c e ≡ false → view c (step s e) ≡ view c s
+    pub said : (c : ℕ) (s : S) (e : E) → Good s → passes s e ≡ true → own c e ≡ true → says s e ≡ answer (view c s) e
+
+  -- a story: the view after it, what is answered to the key's own calls, and the views at the common ones
+  unfoldable pub told : Vw → List E → Vw
+  told v [] = v
+  told v (e ∷ es) = told (tell v e) es
+
+  unfoldable pub answers : ℕ → Vw → List E → List A
+  answers c v [] = []
+  answers c v (e ∷ es) = cond (own c e) (answer v e ∷ answers c (tell v e) es) (answers c (tell v e) es)
+
+  unfoldable pub met : Vw → List E → List (Vw × E)
+  met v [] = []
+  met v (e ∷ es) = cond (common e) ((v, e) ∷ met (tell v e) es) (met (tell v e) es)
+
+  module _ (passes : S → E → Bool) (Good : S → Type 0) (L : Local passes Good) where
+    pub good-run : (es : List E) (s : S) → Good s → Good (run step s es)
+    unfolding run
+    good-run [] s g = g
+    good-run (e ∷ es) s g = good-run es (step s e) (L .stays s e g)
+
+    module _ (c : ℕ) where
+      abbrev pub story : S → List E → List E
+      story s es = those (for c) (remaining step passes s es)
+
+      -- the next call is in the story, or leaves the view as it was
+      story-in : (s : S) (e : E) (es : List E) → passes s e ≡ true → for c e ≡ true → story s (e ∷ es) ≡ e ∷ story (step s e) es
+      unfolding those remaining
+      story-in s e es p q = rw (p, q)
+
+      story-other : (s : S) (e : E) (es : List E) → passes s e ≡ true → for c e ≡ false → story s (e ∷ es) ≡ story (step s e) es
+      unfolding those remaining
+      story-other s e es p q = rw (p, q)
+
+      story-crossed : (s : S) (e : E) (es : List E) → passes s e ≡ false → story s (e ∷ es) ≡ story (step s e) es
+      unfolding those remaining
+      story-crossed s e es p = rw p
+
+      -- a statement on a story holds of the next call's, by cases
+      pub next : (P : List E → Type 0) (s : S) (e : E) (es : List E)
+          → (passes s e ≡ true → for c e ≡ true → P (e ∷ story (step s e) es))
+          → (passes s e ≡ true → for c e ≡ false → P (story (step s e) es))
+          → (passes s e ≡ false → P (story (step s e) es))
+          → P (story s (e ∷ es))
+      next P s e es f g h = by-case (passes s e) (for c e) refl refl
+        where
+          by-case : (o k : Bool) → passes s e ≡ o → for c e ≡ k → P (story s (e ∷ es))
+          by-case true true p q = rw (story-in s e es p q) (f p q)
+          by-case true false p q = rw (story-other s e es p q) (g p q)
+          by-case false k p q = rw (story-crossed s e es p) (h p)
+
+      -- the view
+      pub alone : (es : List E) (s : S) → Good s → view c (run step s es) ≡ told (view c s) (story s es)
+      unfolding run told those remaining
+      alone [] s g = refl
+      alone (e ∷ es) s g =
+          let ih = alone es (step s e) (L .stays s e g) in
+          next (λ (l : List E). view c (run step (step s e) es) ≡ told (view c s) l) s e es
+          (λ p q. ih ∙ ap (λ (v : Vw). told v (story (step s e) es)) (L .same c s e g p q))
+          (λ p q. ih ∙ ap (λ (v : Vw). told v (story (step s e) es)) (L .other c s e g q))
+          (λ p. ih ∙ ap (λ (z : S). told (view c z) (story (step s e) es)) (L .crossed s e g p))
+
+      -- what is answered to the key's own calls
+      abbrev pub hers : S → E → Bool
+      hers s e = own c e && passes s e
+
+      heard-in : (s : S) (e : E) (es : List E) → Good s → passes s e ≡ true → heard step hers says (step s e) es ≡ answers c (tell (view c s) e) (story (step s e) es)
+          → (b : Bool) → own c e ≡ b → heard step hers says s (e ∷ es) ≡ answers c (view c s) (e ∷ story (step s e) es)
+      unfolding heard answers
+      heard-in s e es g p ih true q = rw (q, p, ih, L .said c s e g p q)
+      heard-in s e es g p ih false q = rw (q, ih)
+
+      heard-crossed : (s : S) (e : E) (es : List E) → passes s e ≡ false → (b : Bool) → own c e ≡ b → heard step hers says s (e ∷ es) ≡ heard step hers says (step s e) es
+      unfolding heard
+      heard-crossed s e es p true q = rw (q, p)
+      heard-crossed s e es p false q = rw q
+
+      heard-other : (s : S) (e : E) (es : List E) → for c e ≡ false → (b : Bool) → own c e ≡ b → heard step hers says s (e ∷ es) ≡ heard step hers says (step s e) es
+      unfolding heard
+      heard-other s e es p true q = absurd (false≢true (sym p ∙ rw q))
+      heard-other s e es p false q = rw q
+
+      pub heard-alone : (es : List E) (s : S) → Good s → heard step hers says s es ≡ answers c (view c s) (story s es)
+      unfolding heard answers those remaining
+      heard-alone [] s g = refl
+      heard-alone (e ∷ es) s g =
+          let ih = heard-alone es (step s e) (L .stays s e g) in
+          next (λ (l : List E). heard step hers says s (e ∷ es) ≡ answers c (view c s) l) s e es
+          (λ p q. heard-in s e es g p (ih ∙ ap (λ (v : Vw). answers c v (story (step s e) es)) (L .same c s e g p q)) (own c e) refl)
+          (λ p q. heard-other s e es q (own c e) refl ∙ ih ∙ ap (λ (v : Vw). answers c v (story (step s e) es)) (L .other c s e g q))
+          (λ p. heard-crossed s e es p (own c e) refl ∙ ih ∙ ap (λ (z : S). answers c (view c z) (story (step s e) es)) (L .crossed s e g p))
+
+      -- the views at the common calls
+      abbrev pub seen : S → E → Vw × E
+      seen s e = (view c s, e)
+
+      abbrev pub shared : S → E → Bool
+      shared s e = common e
+
+      met-in : (s : S) (e : E) (es : List E) → heard step shared seen (step s e) es ≡ met (tell (view c s) e) (story (step s e) es)
+          → (b : Bool) → common e ≡ b → heard step shared seen s (e ∷ es) ≡ met (view c s) (e ∷ story (step s e) es)
+      unfolding heard met
+      met-in s e es ih true q = rw (q, ih)
+      met-in s e es ih false q = rw (q, ih)
+
+      met-other : (s : S) (e : E) (es : List E) → for c e ≡ false → (b : Bool) → common e ≡ b → (d : Bool) → own c e ≡ d → heard step shared seen s (e ∷ es) ≡ heard step shared seen (step s e) es
+      unfolding heard
+      met-other s e es p true q true q′ = absurd (false≢true (sym p ∙ rw q′))
+      met-other s e es p true q false q′ = absurd (false≢true (sym p ∙ rw (q′, q)))
+      met-other s e es p false q d q′ = rw q
+
+      met-crossed : (s : S) (e : E) (es : List E) → passes s e ≡ false → (b : Bool) → common e ≡ b → heard step shared seen s (e ∷ es) ≡ heard step shared seen (step s e) es
+      unfolding heard
+      met-crossed s e es p true q = absurd (false≢true (sym p ∙ L .always s e q))
+      met-crossed s e es p false q = rw q
+
+      pub met-alone : (es : List E) (s : S) → Good s → heard step shared seen s es ≡ met (view c s) (story s es)
+      unfolding heard met those remaining
+      met-alone [] s g = refl
+      met-alone (e ∷ es) s g =
+          let ih = met-alone es (step s e) (L .stays s e g) in
+          next (λ (l : List E). heard step shared seen s (e ∷ es) ≡ met (view c s) l) s e es
+          (λ p q. met-in s e es (ih ∙ ap (λ (v : Vw). met v (story (step s e) es)) (L .same c s e g p q)) (common e) refl)
+          (λ p q. met-other s e es q (common e) refl (own c e) refl ∙ ih ∙ ap (λ (v : Vw). met v (story (step s e) es)) (L .other c s e g q))
+          (λ p. met-crossed s e es p (common e) refl ∙ ih ∙ ap (λ (z : S). met (view c z) (story (step s e) es)) (L .crossed s e g p))
+
+      -- a machine that hears only this key: what passed among others passes there
+      pub record Echo (Lone : S → Type 0) : Type 0 where
+        pub stays : (s : S) (e : E) → Good s → Lone s → for c e ≡ true → Lone (step s e)
+        pub echoed : (s s′ : S) (e : E) → Good s → Good s′ → Lone s′ → view c s ≡ view c s′ → for c e ≡ true → passes s e ≡ true → passes s′ e ≡ true
+
+      pass-in : (s : S) (e : E) (es : List E) → passes s e ≡ true → every step passes (step s e) es ≡ true → every step passes s (e ∷ es) ≡ true
+      unfolding every
+      pass-in s e es p h = rw (p, h)
+
+      pub none-crossed : (Lone : S → Type 0) → Echo Lone → (es : List E) (s s′ : S) → Good s → Good s′ → Lone s′ → view c s ≡ view c s′ → every step passes s′ (story s es) ≡ true
+      unfolding those remaining every
+      none-crossed Lone K [] s s′ g g′ l v = refl
+      none-crossed Lone K (e ∷ es) s s′ g g′ l v =
+          next (λ (es′ : List E). every step passes s′ es′ ≡ true) s e es
+          (λ p q.
+          let p′ = K .echoed s s′ e g g′ l v q p in
+          pass-in s′ e (story (step s e) es) p′ (none-crossed Lone K es (step s e) (step s′ e) (L .stays s e g) (L .stays s′ e g′) (K .stays s′ e g′ l q) (L .same c s e g p q ∙ ap (λ (z : Vw). tell z e) v ∙ sym (L .same c s′ e g′ p′ q))))
+          (λ p q. none-crossed Lone K es (step s e) s′ (L .stays s e g) g′ l (L .other c s e g q ∙ v))
+          (λ p. none-crossed Lone K es (step s e) s′ (L .stays s e g) g′ l (ap (view c) (L .crossed s e g p) ∙ v))

@@ -1,0 +1,101 @@
+-- What one call makes of one key's holding, and what it tells: functions of the holding and the call alone, but for refusal 10.
+use mathlib.Core.Path.{_≡_, refl}
+use mathlib.Core.List.{List, []}
+use mathlib.Core.Bool.{Bool, true, false, cond}
+use Prim.Native.Nat.{ℕ, min, _≤_, _<_}
+use lib.Dec.{ltb}
+use lib.ListN.{length}
+use borrow.Author.Tests.{lt-ltb, le-ltb}
+use Rattle.table.specs.Joining.{Since, never, since, isKept, heldOf, andNew, Joining, joining}
+use Rattle.table.specs.Push.{Way, refuse, replace, keepAt, openAt, end, inconsistentEnd, missingEnd, missingLastEnd, singleEnd, joinedEnd, lastWay, answerBy}
+use Rattle.orders.specs.Runs.{Push, Call, push, sweep, Told, pushed, counted, finishedBy, refusedBy, Holding, holdsNothing}
+use Rattle.orders.specs.Shares.{due, noneDropped}
+
+-- a way, but for the places and rows that it names
+abbrev pub shape : Way → Way
+shape (refuse n values) = refuse n values
+shape (replace i) = replace 0
+shape (keepAt i) = keepAt 0
+shape (openAt i row) = keepAt 0
+shape (end e) = end e
+
+-- whether a way is a refusal by some number
+abbrev pub refusedWay : (ℕ → Bool) → Way → Bool
+refusedWay test (refuse n values) = test n
+refusedWay test (replace i) = false
+refusedWay test (keepAt i) = false
+refusedWay test (openAt i row) = false
+refusedWay test (end e) = false
+
+pub refused-is : (test : ℕ → Bool) (bytes : List ℕ) (w : Way) → refusedBy test (pushed (answerBy w) bytes) ≡ refusedWay test w
+refused-is test bytes (refuse n values) = refl
+refused-is test bytes (replace i) = refl
+refused-is test bytes (keepAt i) = refl
+refused-is test bytes (openAt i row) = refl
+refused-is test bytes (end inconsistentEnd) = refl
+refused-is test bytes (end missingEnd) = refl
+refused-is test bytes (end missingLastEnd) = refl
+refused-is test bytes (end (singleEnd n)) = refl
+refused-is test bytes (end (joinedEnd message)) = refl
+
+-- the joining of a push's fragment with those that its key holds
+abbrev pub ownJoining : Holding → Push → Joining
+ownJoining v p = joining (heldOf (p .arrival .fragment) (p .payload)) (andNew (v .fragments) (p .arrival .fragment .number) (heldOf (p .arrival .fragment) (p .payload)))
+
+-- the way of a push, from what its key holds; long is the store's length
+unfoldable pub ownWay : ℕ → Holding → Push → Way
+ownWay long v p =
+    cond (ltb (min (p .lent) long) 47744) (refuse 11 [])
+    (cond (ltb 1492 (length (p .payload))) (refuse 12 [])
+    (cond (isKept (v .fragments (p .arrival .fragment .number))) (replace 0)
+    (cond (p .arrival .fragment .last)
+    (lastWay (ownJoining v p) (p .room))
+    (keepAt 0))))
+
+module _ (long : ℕ) (v : Holding) (p : Push) where
+  pub own-11 : min (p .lent) long < 47744 → ownWay long v p ≡ refuse 11 []
+  unfolding ownWay
+  own-11 h = rw (lt-ltb _ _ h)
+
+  module _ (h₁ : 47744 ≤ min (p .lent) long) where
+    pub own-12 : 1492 < length (p .payload) → ownWay long v p ≡ refuse 12 []
+    unfolding ownWay
+    own-12 h = rw (le-ltb _ _ h₁, lt-ltb _ _ h)
+
+    module _ (h₂ : length (p .payload) ≤ 1492) where
+      pub own-replace : isKept (v .fragments (p .arrival .fragment .number)) ≡ true → ownWay long v p ≡ replace 0
+      unfolding ownWay
+      own-replace h = rw (le-ltb _ _ h₁, le-ltb _ _ h₂, h)
+
+      module _ (h₃ : isKept (v .fragments (p .arrival .fragment .number)) ≡ false) where
+        pub own-last : p .arrival .fragment .last ≡ true → ownWay long v p ≡ lastWay (ownJoining v p) (p .room)
+        unfolding ownWay
+        own-last h = rw (le-ltb _ _ h₁, le-ltb _ _ h₂, h₃, h)
+
+        pub own-keep : p .arrival .fragment .last ≡ false → ownWay long v p ≡ keepAt 0
+        unfolding ownWay
+        own-keep h = rw (le-ltb _ _ h₁, le-ltb _ _ h₂, h₃, h)
+
+abbrev pub sinceOr : Since → ℕ → Since
+sinceOr never time = since time
+sinceOr (since first) time = since first
+
+abbrev pub withNew : Holding → Push → Holding
+withNew v p = record { first = sinceOr (v .first) (p .arrival .time); fragments = andNew (v .fragments) (p .arrival .fragment .number) (heldOf (p .arrival .fragment) (p .payload)) }
+
+abbrev pub byOwn : Way → Holding → Push → Holding
+byOwn (refuse n values) v p = v
+byOwn (replace i) v p = withNew v p
+byOwn (keepAt i) v p = withNew v p
+byOwn (openAt i row) v p = withNew v p
+byOwn (end e) v p = holdsNothing
+
+-- a sweep drops a holding whose time has come
+abbrev pub tell : ℕ → Holding → Call → Holding
+tell long v (push p) = byOwn (ownWay long v p) v p
+tell long v (sweep time) = cond (due time (v .first)) holdsNothing v
+
+-- the counts of a sweep are not one key's to tell
+abbrev pub answer : ℕ → Holding → Call → Told
+answer long v (push p) = pushed (answerBy (ownWay long v p)) (finishedBy (ownWay long v p) (p .payload))
+answer long v (sweep time) = counted noneDropped

@@ -1,0 +1,5 @@
+pub mod Machine
+pub mod Runs
+pub mod Shares
+pub mod Claims
+pub mod Messages

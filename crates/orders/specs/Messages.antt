@@ -1,0 +1,67 @@
+-- A message cut into fragments, and the pushes that bring them (document 01, "The table").
+use mathlib.Core.Path.{_≡_}
+use mathlib.Core.List.{List, [], _∷_, _++_, map}
+use mathlib.Core.Bool.{true, cond}
+use Prim.Native.Nat.{ℕ, zero, suc, _+_, _≤_, _<_}
+use lib.Dec.{eqb, ltb}
+use lib.ListN.{length}
+use Rattle.numbers.specs.Numbers.{gives}
+use Rattle.table.specs.declared.Table.{Table}
+use Rattle.table.specs.Rows.{placeAt, isFree, spareRow}
+use Rattle.table.specs.Push.{Heard, waiting, single, joined}
+use Rattle.orders.specs.Runs.{Push, Call, push, Told, pushed}
+use Rattle.orders.specs.Shares.{isIn, distinct}
+
+-- fragments 0 to final, each at most 1,492 bytes
+pub record Message : Type 0 where
+  pub key : ℕ
+  pub version : ℕ
+  pub message-type : ℕ
+  pub final : ℕ
+  pub piece : ℕ → List ℕ
+  pub few : final ≤ 32
+  pub small : (k : ℕ) → length (piece k) ≤ 1492
+
+-- the pieces below n, one behind the other
+unfoldable pub pieces : (ℕ → List ℕ) → ℕ → List ℕ
+pieces piece zero = []
+pieces piece (suc n) = pieces piece n ++ piece n
+
+abbrev pub whole : Message → List ℕ
+whole m = pieces (m .piece) (suc (m .final))
+
+-- a push that brings fragment k, with a large enough store; its time and its output are any
+pub record Brings (m : Message) (k : ℕ) (p : Push) : Type 0 where
+  pub key : p .arrival .key ≡ m .key
+  pub version : p .arrival .fragment .version ≡ m .version
+  pub message-type : p .arrival .fragment .«message_type» ≡ m .message-type
+  pub number : p .arrival .fragment .number ≡ k
+  -- "only the last marked last"
+  pub last : p .arrival .fragment .last ≡ eqb k (m .final)
+  pub payload : p .payload ≡ m .piece k
+  pub lent : 47744 ≤ p .lent
+
+-- "in any order that ends with the last one": each number below the final one, once
+pub record Ordering (m : Message) (order : List ℕ) : Type 0 where
+  pub once : distinct order ≡ true
+  pub all : (k : ℕ) → isIn k order ≡ ltb k (m .final)
+
+abbrev pub calls : Message → (ℕ → Push) → List ℕ → List Call
+calls m bring order = map (λ k. push (bring k)) order ++ (push (bring (m .final)) ∷ [])
+
+-- how many of the first n places are free
+unfoldable pub freeIn : Table → ℕ → ℕ
+freeIn t zero = 0
+freeIn t (suc n) = cond (isFree (placeAt t n)) (freeIn t n + 1) (freeIn t n)
+
+-- a place for each fragment but the last, which needs none, and a row for the key
+pub record Room (m : Message) (t : Table) : Type 0 where
+  pub places : m .final ≤ freeIn t 32
+  pub row : 1 ≤ m .final → spareRow t < 16
+
+-- all wait, and the last completes: "A single fragment's message is shown as the caller's payload, any other as the first bytes of the output buffer"
+abbrev pub completed : Message → Heard
+completed m = cond (eqb (m .final) 0) (single (length (whole m))) (joined (length (whole m)))
+
+abbrev pub completing : Message → List ℕ → List Told
+completing m order = map (λ k. pushed (gives waiting) []) order ++ (pushed (gives (completed m)) (whole m) ∷ [])

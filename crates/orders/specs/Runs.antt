@@ -1,0 +1,136 @@
+-- Runs of the fragment table: pushes and sweeps from a fresh table, over one store that the table alone writes.
+use mathlib.Core.List.{List, [], _++_}
+use mathlib.Core.Bool.{Bool, true, false, not, _&&_, _||_}
+use Prim.Native.Nat.{ℕ, _<_}
+use lib.Dec.{eqb}
+use lib.ListN.{length, take, drop}
+use Rattle.numbers.specs.Numbers.{Answer, gives, refuses}
+use Rattle.table.specs.declared.Table.{Table}
+use Rattle.table.specs.declared.Arrival.{Arrival}
+use Rattle.table.specs.declared.Counts.{Counts}
+use Rattle.table.specs.Rows.{freshTable}
+use Rattle.table.specs.Joining.{nothing, Fragments, Since, never, heldBy, firstTime}
+use Rattle.table.specs.Push.{Heard, Way, refuse, replace, keepAt, openAt, end, inconsistentEnd, missingEnd, missingLastEnd, singleEnd, joinedEnd, way, tableBy, storeBy, answerBy}
+use Rattle.table.specs.Sweep.{swept}
+use Rattle.table.specs.Show.{startOf}
+use Rattle.orders.specs.Machine.{those, run, remaining, heard, every}
+
+pub record State : Type 0 where
+  pub table : Table
+  pub store : List ℕ
+
+-- a push: what arrives, its payload, how many bytes of the store are lent, and how many of an output
+pub record Push : Type 0 where
+  pub arrival : Arrival
+  pub payload : List ℕ
+  pub lent : ℕ
+  pub room : ℕ
+  -- a fragment's number is one byte
+  pub byte : arrival .fragment .number < 256
+
+pub data Call : Type 0 where
+  push : Push → Call
+  -- at a time
+  sweep : ℕ → Call
+
+-- what a call tells as it returns: a push its answer and the finished bytes, a sweep its four counts
+pub data Told : Type 0 where
+  pushed : Answer Heard → List ℕ → Told
+  counted : Counts → Told
+
+-- the finished bytes: what the showing call shows of the payload and of the output that was lent (see `finished-shown`)
+abbrev pub finishedBy : Way → List ℕ → List ℕ
+finishedBy (refuse n values) payload = []
+finishedBy (replace i) payload = []
+finishedBy (keepAt i) payload = []
+finishedBy (openAt i row) payload = []
+finishedBy (end inconsistentEnd) payload = []
+finishedBy (end missingEnd) payload = []
+finishedBy (end missingLastEnd) payload = []
+finishedBy (end (singleEnd n)) payload = startOf n payload
+finishedBy (end (joinedEnd bytes)) payload = bytes
+
+-- the part of the store that a push lends: its first bytes
+abbrev pub part : State → Push → List ℕ
+part s p = take (p .lent) (s .store)
+
+abbrev pub wayOf : State → Push → Way
+wayOf s p = way (s .table) (part s p) (p .arrival) (p .payload) (p .room)
+
+abbrev pub afterWay : Way → State → Push → State
+afterWay w s p = record { table = tableBy w (s .table) (p .arrival) (length (p .payload)); store = storeBy w (part s p) (p .payload) ++ drop (p .lent) (s .store) }
+
+-- what a call does, and what it tells
+abbrev pub after : State → Call → State
+after s (push p) = afterWay (wayOf s p) s p
+after s (sweep time) = record { table = swept (s .table) time .table; store = s .store }
+
+abbrev pub tells : State → Call → Told
+tells s (push p) = pushed (answerBy (wayOf s p)) (finishedBy (wayOf s p) (p .payload))
+tells s (sweep time) = counted (swept (s .table) time .counts)
+
+-- a call is refused by some number, or for table room
+abbrev pub refusedBy : (ℕ → Bool) → Told → Bool
+refusedBy test (pushed (gives heard) bytes) = false
+refusedBy test (pushed (refuses n values) bytes) = test n
+refusedBy test (counted c) = false
+
+abbrev pub isAccepted : State → Call → Bool
+isAccepted s e = not (refusedBy (λ n. true) (tells s e))
+
+abbrev pub forRoom : ℕ → Bool
+forRoom n = eqb n 10
+
+abbrev pub hasRoom : State → Call → Bool
+hasRoom s e = not (refusedBy forRoom (tells s e))
+
+-- the calls that concern a key: its own pushes, and every sweep
+abbrev pub isOwn : ℕ → Call → Bool
+isOwn key (push p) = eqb (p .arrival .key) key
+isOwn key (sweep time) = false
+
+abbrev pub isSweep : Call → Bool
+isSweep (push p) = false
+isSweep (sweep time) = true
+
+abbrev pub concerns : ℕ → Call → Bool
+concerns key e = isOwn key e || isSweep e
+
+abbrev pub mine : ℕ → List Call → List Call
+mine key = those (concerns key)
+
+-- a fresh table, over a store that holds anything
+abbrev pub start : List ℕ → State
+start store = record { table = freshTable; store = store }
+
+-- what the table holds under a key: its first time, and its fragments by number
+pub record Holding : Type 0 where
+  pub first : Since
+  pub fragments : Fragments
+
+abbrev pub holding : ℕ → State → Holding
+holding key s = record { first = firstTime (s .table) key; fragments = heldBy (s .table) (s .store) key }
+
+abbrev pub holdsNothing : Holding
+holdsNothing = record { first = never; fragments = λ number. nothing }
+
+-- the end of a run, and its calls but for those refused
+abbrev pub ends : State → List Call → State
+ends = run after
+
+abbrev pub crossed : State → List Call → List Call
+crossed = remaining after isAccepted
+
+-- what is told of a key's own pushes, of those not refused, and of the sweeps
+abbrev pub toldOf : ℕ → State → List Call → List Told
+toldOf key = heard after (λ s e. isOwn key e) tells
+
+abbrev pub toldOfAccepted : ℕ → State → List Call → List Told
+toldOfAccepted key = heard after (λ s e. isOwn key e && isAccepted s e) tells
+
+abbrev pub toldOfSweeps : State → List Call → List Told
+toldOfSweeps = heard after (λ s e. isSweep e) tells
+
+-- no call of a run is refused for table room
+abbrev pub neverFull : State → List Call → Bool
+neverFull = every after hasRoom

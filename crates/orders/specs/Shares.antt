@@ -1,0 +1,50 @@
+-- One key's share in the four counts of a sweep, from what the key holds, and the sum over some keys.
+use mathlib.Core.List.{List, [], _∷_}
+use mathlib.Core.Bool.{Bool, true, false, cond, not, _&&_, _||_}
+use Prim.Native.Nat.{ℕ, zero, suc, max, _+_}
+use lib.Dec.{eqb, leb}
+use Rattle.table.specs.declared.Counts.{Counts}
+use Rattle.table.specs.declared.ages.Tally.{Tally}
+use Rattle.table.specs.Joining.{Kept, nothing, kept, Fragments, Since, never, since}
+use Rattle.table.specs.Sweep.{elapsed, lackOf, counted}
+use Rattle.orders.specs.Runs.{Holding}
+
+-- how many fragments, 1 more than the highest number, and if one is marked last: among the numbers below n
+abbrev pub andOne : ℕ → Bool → Tally → Tally
+andOne number last s = record { many = s .many + 1; beyond = max (s .beyond) (number + 1); marked = s .marked || last }
+
+abbrev pub andKept : ℕ → Kept → Tally → Tally
+andKept number nothing s = s
+andKept number (kept h) s = andOne number (h .last) s
+
+unfoldable pub tallyOf : Fragments → ℕ → Tally
+tallyOf fs zero = record { many = 0; beyond = 0; marked = false }
+tallyOf fs (suc n) = andKept n (fs n) (tallyOf fs n)
+
+-- "drops a key exactly when elapsed is at least 3,000"
+abbrev pub due : ℕ → Since → Bool
+due time never = false
+due time (since first) = leb 3000 (elapsed time first)
+
+abbrev pub noneDropped : Counts
+noneDropped = record { empty = 0; unmarked = 0; incomplete = 0; neither = 0 }
+
+-- a number is one byte: below 256
+unfoldable pub share : ℕ → Holding → Counts
+share time v = cond (due time (v .first)) (counted (lackOf (tallyOf (v .fragments) 256)) noneDropped) noneDropped
+
+abbrev pub plus : Counts → Counts → Counts
+plus c d = record { empty = c .empty + d .empty; unmarked = c .unmarked + d .unmarked; incomplete = c .incomplete + d .incomplete; neither = c .neither + d .neither }
+
+unfoldable pub total : (ℕ → Counts) → List ℕ → Counts
+total f [] = noneDropped
+total f (k ∷ ks) = plus (total f ks) (f k)
+
+-- keys in a list, and a list that has none twice
+unfoldable pub isIn : ℕ → List ℕ → Bool
+isIn k [] = false
+isIn k (x ∷ xs) = eqb x k || isIn k xs
+
+unfoldable pub distinct : List ℕ → Bool
+distinct [] = true
+distinct (x ∷ xs) = not (isIn x xs) && distinct xs
