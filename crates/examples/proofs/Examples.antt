@@ -1,0 +1,34 @@
+-- Every row of the table holds: of the first ones both sides compute to the same, the last four are theorems about runs.
+use mathlib.Core.Path.{refl}
+use Rattle.framing.specs.Tlv.{readTlv}
+use Rattle.walking.specs.Walk.{walkOf, walkFrom}
+use Rattle.records.specs.Reading.{readKind as readRecordKindAs, readRecord}
+use Rattle.layouts.specs.Layouts.{layoutOf}
+use Rattle.layouts.specs.Reading.{countAt, listOf, entriesEnd, endOf, readAs, readValue}
+use Rattle.kinds.specs.Kinds.{readRecordKind, readKind}
+use Rattle.orders.proofs.Examples.{stays-at-2999, goes-at-3000, zero-then-last-one, last-one-alone}
+use Rattle.examples.specs.Examples.{Examples}
+
+pub examples : Examples
+unfolding readTlv walkOf walkFrom readRecordKindAs readRecord layoutOf countAt listOf entriesEnd endOf readAs readValue readRecordKind readKind
+examples = record {
+  empty = refl;
+  two-bytes = refl;
+  end-marker = refl;
+  runs-past = refl;
+  read = refl;
+  value = refl;
+  no-tlvs = refl;
+  joined = refl;
+  left = refl;
+  neither = refl;
+  no-profile = refl;
+  reserved-profile = refl;
+  capability = refl;
+  cut-entry = refl;
+  stays = λ store p i more. stays-at-2999 store (i .long) p (i .lent) (i .small) more;
+  goes = λ store p i more. goes-at-3000 store (i .long) p (i .lent) (i .small) more;
+  completes = λ store p q i j z.
+      zero-then-last-one store (i .long) p q (i .lent) (j .lent) (i .small) (j .small) (z .key) (z .version) (z .message-type) (z .numbers .0) (z .numbers .1) (z .marks .0) (z .marks .1) (z .room);
+  alone = λ store p i number last. last-one-alone store (i .long) p (i .lent) (i .small) number last;
+}
