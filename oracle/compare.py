@@ -1,0 +1,186 @@
+"""Which answers agree, and which differences docs/DIFFERENCES.md explains by name.
+
+An explanation looks at the command and at both answers, and says yes only to the one difference that it names.
+"""
+import model
+
+
+def agree(original, ours):
+    """Refusals agree whatever the number, which the original doesn't have; `-` is what it can't know."""
+    if original == ours:
+        return True
+    first, second = original.split(" "), ours.split(" ")
+    if first[0] != "no" or second[0] != "no":
+        return False
+    return all(a in ("-", b) for a, b in zip(first, second))
+
+
+def accepted(answer):
+    return answer.startswith("ok ")
+
+
+def write_above_65535(words, original, ours, before):
+    if ours != "no 8" or not accepted(original):
+        return False
+    if words[0] == "w":
+        return len(model.to_bytes(words[3])) > 65535
+    return words[0] == "s" and original.startswith("ok #") and int(original[4:].split(":")[0]) > 3 + 65535
+
+
+def record_never_read(words, original, ours, before):
+    if words[0] != "f" or ours != "no 9" or not accepted(original):
+        return False
+    kind, fields = int(words[1]), words[3:]
+    if kind in (13, 15):
+        return fields[0] != "0"
+    if kind == 8:
+        return (fields[0] == "1") != (fields[1] != "-")
+    if kind == 0xB4:
+        return int(fields[6]) > 7
+    codes = {12: ("r0",), 16: ("r0", "r1", "r2"), 26: ("r0", "r1"), 0xB3: ("r0", "r1", "r2", "r3")}
+    return fields[0] in codes.get(kind, ())
+
+
+def single_fragment_checked(words, original, ours, before):
+    """The original looks into the TLVs of a message that is one fragment, and wants an end marker."""
+    if words[0] != "h" or original != "no" or not accepted(ours):
+        return False
+    data = model.to_bytes(words[1])
+    if data[6] != 0 or data[7] < 128:
+        return False
+    at, payload, last = 0, data[8:], None
+    while at < len(payload) and last != (0, 0):
+        try:
+            kind, length, used = model.read_tlv(payload, at)
+        except model.Refused:
+            return True
+        at, last = at + used, (kind, length)
+    return last not in (None, (0, 0))
+
+
+def walk_ends_at_marker(words, original, ours, before):
+    """The original's own walk is the walk to the end of what stands up to and including the first end marker."""
+    if words[0] != "g":
+        return False
+    data, at = model.to_bytes(words[1]), 0
+    while True:
+        try:
+            kind, length, used = model.read_tlv(data, at)
+        except model.Refused:
+            return False
+        at += used
+        if (kind, length) == (0, 0):
+            return at < len(data) and original == model.listed(model.walk(data[:at]))
+
+
+def sweep_of_number_255(words, original, ours, before):
+    if words[0] != "v" or not original.startswith("swept") or not ours.startswith("swept"):
+        return False
+    keys = {tuple(w[1:3]) for w in (line.split(" ") for line, _, _ in before) if w[0] == "p" and w[5] == "255"}
+    theirs, mine = [int(n) for n in original.split(" ")[1:]], [int(n) for n in ours.split(" ")[1:]]
+    moved = mine[2] - theirs[2]
+    return theirs[:2] == mine[:2] and 0 < moved <= len(keys) and theirs[3] - mine[3] == moved
+
+
+def table_full(words, original, ours, before):
+    if words[0] != "p" or ours != "no 10" or original != "waiting" or not before:
+        return False
+    line, _, shown = before[-1]
+    return line == "c" and (shown.startswith("ok 16 ") or shown.split(" ")[2:3] == ["32"])
+
+
+def payload_above_1492(words, original, ours, before):
+    return words[0] == "p" and ours == "no 12" and len(model.to_bytes(words[8])) > 1492
+
+
+# --- texts (2026-04) ---
+
+BLANK = "\t\n\x0b\x0c\r \x85\xa0\u1680" + "".join(map(chr, range(0x2000, 0x200b))) + "\u2028\u2029\u202f\u205f\u3000"
+
+
+def kept_by_original(text, fixed):
+    """The original's rule for a text: what isn't UTF-8 replaced, zeros taken off both ends, in a fixed field blanks too."""
+    kept = text.decode("utf-8", "replace").strip("\0")
+    return (kept.strip(BLANK) if fixed else kept).encode()
+
+
+def texts_alike(kind, value):
+    """Whether the original keeps every text of a value, as our rule has it, byte for byte; a value cut short has none."""
+    try:
+        if kind == 21:
+            fields = [value[at:at + 64] for at in (0, 64, 128)] if len(value) >= 192 else []
+            return all(kept_by_original(f, True) == f.split(b"\0")[0] == f.rstrip(b"\0") for f in fields)
+        return all(kept_by_original(text, False) == text for text in model.texts_of(kind, value)[0])
+    except model.Refused:
+        return True
+
+
+def reads(kind, value):
+    try:
+        model.consumed(kind, value)
+        return True
+    except model.Refused:
+        return False
+
+
+def values_of(words):
+    """The values of the asked kind in a command."""
+    kind, data = int(words[1]), model.to_bytes(words[-1])
+    if words[0] in "rsea":
+        return kind, [data]
+    records = [tuple(map(int, r.split(":"))) for r in words[2].split(",")] if words[0] == "l" and words[2] != "-" else []
+    if words[0] in "dD":
+        records = model.walk(data)
+    return kind, [data[at + 3:at + 3 + length] for code, at, length in records if code == kind and at + 3 + length <= len(data)]
+
+
+def text_not_utf8(words, original, ours, before):
+    if words[0] not in "rseadDl":
+        return False
+    kind, values = values_of(words)
+    if kind not in model.TEXTS:
+        return False
+    refused = [v for v in values if not texts_alike(kind, v) and not reads(kind, v)]
+    return bool(refused) and (words[0] in "dDl" or ours == "no 18" and original != "panic")
+
+
+def text_trimmed(words, original, ours, before):
+    # What was trimmed may fit where the value as read doesn't.
+    if words[0] not in "rseadDl" or not accepted(original) or not (accepted(ours) or words[0] == "s" and ours == "no 7"):
+        return False
+    kind, values = values_of(words)
+    if kind not in model.TEXTS:
+        return False
+    if words[0] == "r":
+        texts, _, ends, used = model.texts_of(kind, values[0])
+        if kind == 21:
+            texts = [values[0][at:at + 64] for at in (0, 64, 128)]
+        shown = [model.shown(kept_by_original(text, kind == 21)) for text in texts[:3]]
+        count = [str(len(ends))] if kind == 0xD4 else []
+        return original == " ".join(["ok", str(used), str(len(values[0]) - used)] + shown + count)
+    return any(reads(kind, v) and not texts_alike(kind, v) for v in values)
+
+
+EXPLAINED = {
+    "text-not-utf8": text_not_utf8,
+    "text-trimmed": text_trimmed,
+    "write-above-65535": write_above_65535,
+    "record-never-read": record_never_read,
+    "single-fragment-checked": single_fragment_checked,
+    "walk-ends-at-marker": walk_ends_at_marker,
+    "sweep-of-number-255": sweep_of_number_255,
+    "table-full": table_full,
+    "payload-above-1492": payload_above_1492,
+}
+
+
+def explanation(line, original, ours, before):
+    """The name of the difference, or None. `before`: the lines and answers of the same group in front of this one."""
+    words = line.split(" ")
+    for name, explains in EXPLAINED.items():
+        try:
+            if explains(words, original, ours, before):
+                return name
+        except (ValueError, IndexError, model.Refused):
+            pass
+    return None

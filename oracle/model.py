@@ -1,0 +1,493 @@
+#!/usr/bin/env python3
+"""Document 01 as a program: answers the commands of COMMANDS.md, with the document's numbers behind `no`.
+
+Usage: oracle/model.py [LEVEL] < COMMANDS. LEVEL is the last request of document 02 that counts; only the kinds of 2026-04, 2026-08 and 2026-13 are here.
+It shakes out the driver and the language, and stands beside the proved library as a second opinion on the numbers, which the original doesn't have.
+It follows document 01's text and the readings of its open points, as plainly as it goes. The generator takes its layouts from here.
+"""
+import sys
+
+STORE_PLACES, STORE_KEYS, PLACE = 32, 16, 1492
+EXPIRES = 3000
+
+
+class Refused(Exception):
+    """A refusal: the number, then what it carries."""
+
+
+class Bad(Exception):
+    """Not a command."""
+
+
+# --- words ---
+
+def to_bytes(text):
+    if text == "-":
+        return b""
+    if "*" not in text:
+        return bytes.fromhex(text)
+    out, at = bytearray(), 0
+    while at < len(text):
+        times = 1
+        if text[at] == "*":
+            colon = text.index(":", at)
+            times, at = int(text[at + 1:colon]), colon + 1
+        out += bytes.fromhex(text[at:at + 2]) * times
+        at += 2
+    return bytes(out)
+
+
+def checksum(data):
+    total = 0xcbf29ce484222325
+    for byte in data:
+        total = (total ^ byte) * 0x100000001b3 & 0xffffffffffffffff
+    return "%016x" % total
+
+
+def shown(data):
+    if not data:
+        return "-"
+    return data.hex() if len(data) <= 64 else "#%d:%s" % (len(data), checksum(data))
+
+
+# --- framing ---
+
+def read_tlv(data, at=0):
+    """Type, length of the value, bytes consumed."""
+    there = len(data) - at
+    if there < 3:
+        raise Refused(1)
+    length = data[at + 1] * 256 + data[at + 2]
+    if there - 3 < length:
+        raise Refused(2)
+    return data[at], length, 3 + length
+
+
+def walk(data):
+    """Type, offset and length of each TLV, to the end."""
+    found, at = [], 0
+    while at < len(data):
+        try:
+            kind, length, consumed = read_tlv(data, at)
+        except Refused as refused:
+            raise Refused(refused.args[0], at)
+        found.append((kind, at, length))
+        at += consumed
+    return found
+
+
+def write_tlv(kind, value, room):
+    if len(value) > 65535:
+        raise Refused(8)
+    if 3 + len(value) > room:
+        raise Refused(7)
+    return bytes([kind, len(value) >> 8, len(value) & 255]) + value
+
+
+def header(data):
+    if len(data) < 8:
+        raise Refused(1)
+    return data[0], data[1], data[2] * 256 + data[3], data[4] * 256 + data[5], data[6], data[7], data[7] >> 7
+
+
+# --- kinds ---
+
+# Fixed kinds: bytes read. Query: by its own rule.
+FIXED = {0: 0, 1: 6, 2: 6, 13: 1, 15: 1, 16: 1, 26: 1, 12: 1, 0x92: 13, 0xB3: 1, 0xB4: 4}
+QUERY = 8
+# Counted kinds: levels from the top, each the bytes of its count and the fixed bytes of its entries.
+COUNTED = {
+    0x80: [(1, 1)],
+    23: [(1, 6), (1, 9)],
+    24: [(1, 22), (1, 33)],
+    4: [(1, 0), (1, 6)],
+    0x83: [(1, 6), (1, 6), (1, 1)],
+    0xB7: [(1, 6), (1, 8), (1, 1)],
+    30: [(1, 6), (2, 6), (2, 6)],
+}
+# To the end: bytes in front, bytes of an entry.
+TO_THE_END = {6: (6, 6), 7: (6, 7)}
+NOTHING_AFTER = {0, 30}
+# Kinds that hold text (2026-04): fixed fields of 64 bytes, the whole value, strings with their lengths.
+TEXTS = set()
+KINDS, RECORD_KINDS, LIST_KINDS = [], [], []
+
+
+def use_level(level):
+    """The kinds that there are once the requests up to this one have landed."""
+    if level >= 4:
+        TEXTS.update((21, 22, 0xD4))
+    if level >= 8:
+        TO_THE_END.update({9: (12, 29), 10: (12, 23)})
+    if level >= 13:
+        COUNTED.pop(30, None)
+    RECORD_KINDS[:] = sorted([*FIXED, QUERY])
+    LIST_KINDS[:] = sorted([*COUNTED, *TO_THE_END])
+    KINDS[:] = sorted([*RECORD_KINDS, *LIST_KINDS, *TEXTS])
+
+
+use_level(0)
+
+
+def string_end(data, at):
+    """The offset behind a string with its one-byte length."""
+    return end_of_list(data, at, [(1, 1)])
+
+
+def texts_of(kind, data):
+    """The texts, the offset of the radios' count (or None), the offsets at which radios end, and the bytes consumed."""
+    if kind == 21:
+        if len(data) < 192:
+            raise Refused(3)
+        return [data[at:at + 64].split(b"\0")[0] for at in (0, 64, 128)], None, [], 192
+    if kind == 22:
+        return [data], None, [], len(data)
+    at, texts, ends = 0, [], []
+    for _ in range(3):
+        end = string_end(data, at)
+        texts.append(data[at + 1:end])
+        at = end
+    if len(data) < at + 1:
+        raise Refused(3)
+    radios, end = at, at + 1
+    for _ in range(data[at]):
+        start, end = end, string_end(data, end + 6)
+        texts.append(data[start + 7:end])
+        ends.append(end)
+    return texts, radios, ends, end
+
+
+def checked_texts(kind, data):
+    found = texts_of(kind, data)
+    for text in found[0]:
+        try:
+            text.decode("utf-8")  # Python's is RFC 3629's
+        except UnicodeDecodeError:
+            raise Refused(18)
+    return found
+
+
+def end_of_list(data, at, levels):
+    """The offset behind the list that starts at `at`; entries are fixed bytes, then the list of the level below."""
+    (count_bytes, fixed), below = levels[0], levels[1:]
+    if len(data) < at + count_bytes:
+        raise Refused(3)
+    count = int.from_bytes(data[at:at + count_bytes], "big")
+    at += count_bytes
+    if not below:
+        at += count * fixed
+    else:
+        for _ in range(count):
+            at = end_of_list(data, at + fixed, below)
+    if len(data) < at:
+        raise Refused(3)
+    return at
+
+
+def consumed(kind, data):
+    """The layout's length in the value; refusals 16, 3, 18, 4, 5."""
+    if kind in TEXTS:
+        return checked_texts(kind, data)[3]
+    if kind in TO_THE_END:
+        front, entry = TO_THE_END[kind]
+        if len(data) < front:
+            raise Refused(3)
+        if (len(data) - front) % entry:
+            raise Refused(4)
+        return len(data)
+    if kind in COUNTED:
+        used = end_of_list(data, 0, COUNTED[kind])
+    elif kind == QUERY:
+        used = 8 if data[:1] == b"\x01" else 2
+    elif kind in FIXED:
+        used = FIXED[kind]
+    else:
+        raise Refused(16)
+    if len(data) < used:
+        raise Refused(3)
+    if kind in NOTHING_AFTER and used < len(data):
+        raise Refused(4)
+    if kind in (13, 15) and data[0] != 0:
+        raise Refused(5)
+    if kind == 0x92 and data[12] & 0x7f:
+        raise Refused(5)
+    if kind == 0xB3 and data[0] == 0:
+        raise Refused(5)
+    return used
+
+
+# Codes with names; any other is reserved and kept.
+NAMED = {16: range(0, 3), 26: range(0, 2), 12: range(0, 1), 0xB3: range(1, 4)}
+
+
+def fields(kind, data):
+    if kind in TEXTS:
+        texts, radios, ends, _ = texts_of(kind, data)
+        count = [] if radios is None else [str(len(ends))]
+        return " ".join([shown(text) for text in texts[:3]] + count)
+    if kind in TO_THE_END:
+        front, entry = TO_THE_END[kind]
+        return "%s %d" % (shown(data[:front]), (len(data) - front) // entry)
+    if kind in COUNTED:
+        return "- %d" % data[0]
+    if kind == 0:
+        return ""
+    if kind in (1, 2):
+        return data[:6].hex()
+    if kind in (13, 15):
+        return str(data[0])
+    if kind in NAMED:
+        return "%s%d" % ("" if data[0] in NAMED[kind] else "r", data[0])
+    if kind == QUERY:
+        if data[0] == 1:
+            return "1 %s %d" % (data[1:7].hex(), data[7])
+        return "%d - %d" % (data[0], data[1])
+    if kind == 0x92:
+        return "%s %s %d" % (data[:6].hex(), data[6:12].hex(), data[12] >> 7)
+    flags = data[2]
+    bits = (flags >> 6, flags >> 5 & 1, flags >> 4 & 1, flags >> 3 & 1, flags & 7)
+    return "%d %d %d %d %d %d %d %d" % (data[0], data[1], *bits, data[3])
+
+
+def value_of_fields(kind, words):
+    """The value that a record is written as; 9 for a record that reading never gives."""
+    if kind == 0:
+        return b""
+    if kind in (1, 2):
+        return bytes.fromhex(words[0])
+    if kind in (13, 15):
+        if int(words[0]):
+            raise Refused(9)
+        return b"\0"
+    if kind in NAMED:
+        reserved, code = words[0][0] == "r", int(words[0].lstrip("r"))
+        if not reserved and code not in NAMED[kind]:
+            raise Bad
+        if reserved and (code in NAMED[kind] or kind == 0xB3 and code == 0):
+            raise Refused(9)
+        return bytes([code])
+    if kind == QUERY:
+        if (words[0] == "1") == (words[1] == "-"):
+            raise Refused(9)
+        return bytes([int(words[0])]) + to_bytes(words[1]) + bytes([int(words[2])])
+    if kind == 0x92:
+        return bytes.fromhex(words[0] + words[1]) + (b"\x80" if int(words[2]) else b"\0")
+    if kind == 0xB4:
+        rules, reserved, units, a, b, c, low, vids = map(int, words)
+        if low > 7:
+            raise Refused(9)
+        return bytes([rules, reserved, units << 6 | a << 5 | b << 4 | c << 3 | low, vids])
+    raise Bad
+
+
+def entry_at(kind, data, numbers):
+    """The part of the value that is the entry with these numbers."""
+    used = consumed(kind, data)
+    if not numbers:
+        raise Refused(6)
+    if kind in TO_THE_END:
+        front, size = TO_THE_END[kind]
+        if len(numbers) > 1 or numbers[0] >= (used - front) // size:
+            raise Refused(6)
+        return data[front + numbers[0] * size:front + (numbers[0] + 1) * size]
+    if kind == 0xD4 and kind in TEXTS:
+        _, radios, ends, _ = texts_of(kind, data)
+        if len(numbers) > 1 or numbers[0] >= len(ends):
+            raise Refused(6)
+        return data[([radios + 1] + ends)[numbers[0]]:ends[numbers[0]]]
+    levels, at, part = COUNTED.get(kind, []), 0, b""
+    for number in numbers:
+        if not levels:
+            raise Refused(6)
+        (count_bytes, fixed), levels = levels[0], levels[1:]
+        count = int.from_bytes(data[at:at + count_bytes], "big")
+        if number >= count:
+            raise Refused(6)
+        at += count_bytes
+        for _ in range(number):
+            at = end_of_list(data, at + fixed, levels) if levels else at + fixed
+        end = end_of_list(data, at + fixed, levels) if levels else at + fixed
+        part, at = data[at:end], at + fixed
+    return part
+
+
+def every_entry(kind, data):
+    """Each entry before those below it, asked for by growing numbers until there is none."""
+    consumed(kind, data)
+    found = []
+
+    def level(numbers, levels):
+        for number in range(1 << 16):
+            try:
+                part = entry_at(kind, data, numbers + [number])
+            except Refused:
+                return
+            found.append((numbers + [number], part))
+            if levels > 1:
+                level(numbers + [number], levels - 1)
+
+    level([], len(COUNTED.get(kind, [0])))
+    return found
+
+
+# --- finding ---
+
+def find(kind, data, tlvs, start):
+    if kind not in KINDS:
+        raise Refused(16)
+    for index in range(start, len(tlvs)):
+        code, at, length = tlvs[index]
+        value = data[at + 3:at + 3 + length]
+        if code == kind and at + 3 + length <= len(data):
+            try:
+                return index, value[:consumed(kind, value)]
+            except Refused:
+                pass
+    raise Refused(15)
+
+
+# --- table ---
+
+class Table:
+    def __init__(self):
+        self.keys = {}
+
+    def places(self):
+        return sum(len(key[1]) for key in self.keys.values())
+
+    def push(self, sender, ident, version, kind, number, last, now, payload):
+        if len(payload) > PLACE:
+            raise Refused(12)
+        name, new = (sender, ident), (version, kind, last, payload)
+        key = self.keys.get(name)
+        if key and number in key[1]:
+            key[1][number] = new
+            return "DuplicatedFragment"
+        if not last:
+            if self.places() == STORE_PLACES or not key and len(self.keys) == STORE_KEYS:
+                raise Refused(10)
+            self.keys.setdefault(name, (now, {}))[1][number] = new
+            return "waiting"
+        kept = dict(key[1]) if key else {}
+        kept[number] = new
+        self.keys.pop(name, None)
+        if len({fragment[:2] for fragment in kept.values()}) > 1:
+            return "InconsistentMetadata"
+        if sorted(kept) != list(range(len(kept))):
+            return "MissingFragments"
+        if not kept[max(kept)][2]:
+            return "MissingLastFragment"
+        joined = b"".join(kept[n][3] for n in sorted(kept))
+        return "complete %s %s" % ("single" if len(kept) == 1 else "joined", shown(joined))
+
+    def sweep(self, now):
+        counts = [0, 0, 0, 0]
+        for name, (first, kept) in list(self.keys.items()):
+            if max(0, now - first) < EXPIRES:
+                continue
+            del self.keys[name]
+            if not kept:
+                counts[0] += 1
+            elif not any(fragment[2] for fragment in kept.values()):
+                counts[1] += 1
+            elif len(kept) < max(kept) + 1:
+                counts[2] += 1
+            else:
+                counts[3] += 1
+        return "swept %d %d %d %d" % tuple(counts)
+
+    def contents(self):
+        text = ["ok %d %d" % (len(self.keys), self.places())]
+        for (sender, ident), (first, kept) in sorted(self.keys.items()):
+            text.append("%s/%d@%d" % (sender, ident, first))
+            for number, (version, kind, last, payload) in sorted(kept.items()):
+                text.append("%d:%d:%d:%d:%s" % (number, version, kind, last, shown(payload)))
+        return " ".join(text)
+
+
+# --- commands ---
+
+def listed(tlvs):
+    if len(tlvs) <= 16:
+        return " ".join(["ok %d" % len(tlvs)] + ["%d:%d:%d" % tlv for tlv in tlvs])
+    data = b"".join(bytes([k]) + at.to_bytes(4, "big") + n.to_bytes(2, "big") for k, at, n in tlvs)
+    return "ok %d %s" % (len(tlvs), checksum(data))
+
+
+def answer(table, line):
+    words = line.split(" ")
+    command, last = words[0], words[-1]
+    if command == "z":
+        table.__init__()
+        return "ok"
+    if command == "c":
+        return table.contents()
+    if command == "v":
+        return table.sweep(int(words[1]))
+    if command == "p":
+        ident, version, kind, number, flags, now = map(int, words[2:8])
+        return table.push(words[1], ident, version, kind, number, flags >> 7, now, to_bytes(last))
+    if command == "f":
+        kind = int(words[1])
+        return "ok " + shown(write_tlv(kind, value_of_fields(kind, words[3:]), int(words[2])))
+    data = to_bytes(last)
+    if command == "t":
+        kind, length, used = read_tlv(data)
+        return "ok %d %d %d %s" % (kind, length, used, shown(data[3:used]))
+    if command == "w":
+        return "ok " + shown(write_tlv(int(words[1]), data, int(words[2])))
+    if command == "h":
+        return "ok %d %d %d %d %d %d %d" % header(data)
+    if command in ("k", "g"):
+        return listed(walk(data))
+    kind = int(words[1])
+    if command == "r":
+        used = consumed(kind, data)
+        return ("ok %d %d %s" % (used, len(data) - used, fields(kind, data))).rstrip()
+    if command == "s":
+        return "ok " + shown(write_tlv(kind, data[:consumed(kind, data)], int(words[2])))
+    if command == "e":
+        numbers = [] if words[2] == "-" else [int(word) for word in words[2].split(".")]
+        return "ok " + shown(entry_at(kind, data, numbers))
+    if command == "a":
+        found = every_entry(kind, data)
+        text = b"".join(
+            bytes([len(numbers)]) + b"".join(n.to_bytes(2, "big") for n in numbers) + len(part).to_bytes(2, "big") + part
+            for numbers, part in found)
+        return "ok %d %s" % (len(found), checksum(text))
+    if command == "d":
+        index, value = find(kind, data, walk(data), 0)
+        return "ok %d %s" % (index, shown(value))
+    if command == "l":
+        records = [] if words[2] == "-" else [tuple(map(int, r.split(":"))) for r in words[2].split(",")]
+        index, value = find(kind, data, records, 0)
+        return "ok %d %s" % (index, shown(value))
+    if command == "D":
+        if kind not in KINDS:
+            raise Refused(16)
+        tlvs, start, count, text = walk(data), 0, 0, b""
+        while True:
+            try:
+                index, value = find(kind, data, tlvs, start)
+            except Refused:
+                return "ok %d %s" % (count, checksum(text))
+            start, count, text = index + 1, count + 1, text + len(value).to_bytes(2, "big") + value
+    raise Bad
+
+
+def main():
+    if len(sys.argv) > 1:
+        use_level(int(sys.argv[1]))
+    table = Table()
+    for line in sys.stdin:
+        try:
+            text = answer(table, line.rstrip("\n"))
+        except Refused as refused:
+            text = " ".join(["no"] + [str(number) for number in refused.args])
+        except (Bad, ValueError, IndexError):
+            text = "bad"
+        sys.stdout.write(text + "\n")
+
+
+if __name__ == "__main__":
+    main()
