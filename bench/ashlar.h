@@ -1,0 +1,109 @@
+/* The exported calls as C sees them. A slice is a pointer and a length; an empty one may have any pointer that is not null.
+   CALL(name) is ashlar_name, or plain_name of plain.c where PLAIN is defined; included twice, with and without, it declares both. */
+#ifndef ASHLAR_H
+#define ASHLAR_H
+#include <stdbool.h>
+#include <stddef.h>
+#include <stdint.h>
+
+#define ASHLAR_STORE 47744 /* bytes of the store that a table wants */
+#define ASHLAR_PAYLOAD 1492 /* bytes of a fragment's payload at most */
+
+/* a TLV of a payload */
+typedef struct {
+    uint8_t tlv_type;
+    uint16_t length;
+    size_t offset;
+} AshlarTlv;
+
+/* refusal is document 01's number, 0 where nothing is refused */
+typedef struct {
+    size_t count;
+    size_t at;
+    uint8_t refusal;
+} AshlarWalk;
+
+typedef struct {
+    size_t entries;
+    size_t consumed;
+    size_t rest;
+    bool is_list;
+    uint8_t refusal;
+} AshlarKind;
+
+typedef struct {
+    size_t place;
+    size_t entries;
+    size_t consumed;
+    size_t rest;
+    bool is_list;
+    uint8_t refusal;
+} AshlarFound;
+
+typedef struct {
+    uint16_t message_type;
+    uint16_t size;
+    uint8_t owner;
+    uint8_t number;
+    uint8_t version;
+    bool last;
+} AshlarPlace;
+
+typedef struct {
+    uint64_t codes[16];
+    uint64_t firsts[16];
+    AshlarPlace places[32];
+    bool used[16];
+} AshlarTable;
+
+typedef struct {
+    uint16_t message_type;
+    uint8_t version;
+    uint8_t number;
+    bool last;
+} AshlarFragment;
+
+typedef struct {
+    uint64_t key;
+    uint64_t time;
+    AshlarFragment fragment;
+} AshlarArrival;
+
+enum { ASHLAR_REFUSED, ASHLAR_WAITING, ASHLAR_DUPLICATED, ASHLAR_INCONSISTENT, ASHLAR_MISSING, ASHLAR_MISSING_LAST, ASHLAR_SINGLE, ASHLAR_JOINED };
+
+typedef struct {
+    size_t length;
+    uint8_t answer;
+    uint8_t refusal;
+} AshlarPushed;
+
+/* where a message lies: in the payload that was pushed, or in the output; its first bytes, so many */
+typedef struct {
+    size_t length;
+    bool in_output;
+} AshlarShown;
+
+typedef struct {
+    uint8_t empty;
+    uint8_t unmarked;
+    uint8_t incomplete;
+    uint8_t neither;
+} AshlarCounts;
+
+#endif
+
+#undef CALL
+#ifdef PLAIN
+#define CALL(name) plain_##name
+#else
+#define CALL(name) ashlar_##name
+#endif
+
+AshlarWalk CALL(walk)(const uint8_t *payload, size_t payload_length);
+AshlarWalk CALL(walk_into)(AshlarTlv *list, size_t room, const uint8_t *payload, size_t payload_length);
+AshlarKind CALL(read_kind)(uint8_t code, const uint8_t *value, size_t value_length);
+AshlarFound CALL(find)(const AshlarTlv *list, size_t list_length, const uint8_t *payload, size_t payload_length, uint8_t code, size_t from);
+AshlarTable CALL(fresh)(void);
+AshlarPushed CALL(push)(AshlarTable *table, uint8_t *store, size_t store_length, uint8_t *out, size_t out_length, AshlarArrival arrival, const uint8_t *payload, size_t payload_length);
+AshlarShown CALL(show)(AshlarPushed pushed, const uint8_t *payload, size_t payload_length, const uint8_t *out, size_t out_length);
+AshlarCounts CALL(sweep)(AshlarTable *table, uint64_t time);

@@ -1,0 +1,213 @@
+"""Counts the instructions of each row in the three programs that bench/run built, and writes docs/BENCHMARK.md and docs/benchmark.png.
+
+A row's count is the difference of a run with 40 turns and one with 20, over 20. Before it counts, the three must give the same answer.
+"""
+import datetime
+import os
+import re
+import subprocess
+import sys
+
+WORK = "target/bench"
+HOME = os.path.dirname(os.path.dirname(subprocess.run(["rt", "doc"], capture_output=True, text=True, check=True).stdout.strip()))
+LIBRARY = f"{HOME}/on/{os.uname().machine}/toolchain/lib"
+COUNTER = ["qemu-x86_64", "-plugin", f"{WORK}/icount.so"]
+# tlvlist and the original are linked to a shared C library, and take the kit's; the other programs hold theirs.
+LOADER = [f"{LIBRARY}/ld-linux-x86-64.so.2", "--library-path", LIBRARY]
+ORIGINAL = f"{WORK}/cargo/x86_64-unknown-linux-gnu/release/rows"
+PROGRAMS = {"plain": [f"{WORK}/plain"], "original": LOADER + [ORIGINAL], "ours": [f"{WORK}/ours"]}
+LISTERS = {"plain": [f"{WORK}/plain-tlvlist"], "original": LOADER + [ORIGINAL, "list"], "ours": LOADER + ["target/bin/tlvlist"]}
+TURNS = 20
+
+# what is done; words for the programs; at most so many times plain C; less than, or at most, so many times the original; at most so many beyond the payload's copy
+ROWS = [
+    ("Walk of 1,492 bytes, 497 TLVs", "walk-497", 2, 0.5, None),
+    ("the same into a list", "list-497", 2, 0.5, None),
+    ("Walk of 1,492 bytes, 165 TLVs", "walk-165", 2, 0.5, None),
+    ("the same into a list", "list-165", 2, 0.5, None),
+    ("Ipv4, 8 × 16, 1,209 bytes", "ipv4", 2, 1, None),
+    ("ApOperationalBss, 2 × 4 × 32, 327 bytes", "bss", 2, 1, None),
+    ("Find, none among 166", "find-none", 2, 1, None),
+    ("Find, the first of 166", "find-first", 2, 1, None),
+    ("Push 3 × 1,492 bytes to complete", "push-1492", None, 0.5, None),
+    ("Push 3 × 16 bytes to complete", "push-16", None, 0.5, None),
+    ("A push of 16 bytes that waits, empty table", "wait 0", None, 1, 900),
+    ("the same, 31 of 32 places used", "wait 31", None, 1, 900),
+    ("A push of 1,492 bytes that waits, empty table", "wait-1492 0", None, 1, 900),
+    ("the same, 31 of 32 places used", "wait-1492 31", None, 1, 900),
+    ("Sweep of 16 keys, none dropped", "sweep-none", None, 1, None),
+    ("Sweep of 16 keys, all dropped", "sweep-all", None, 1, None),
+]
+WALKS = [10, 30, 100, 300, 497, 1000, 3000, 10000, 15914]
+USED = range(32)
+
+
+def run(command, stdin=b""):
+    done = subprocess.run(COUNTER + command, input=stdin, capture_output=True)
+    found = re.search(rb"^instructions (\d+)$", done.stderr, re.M)
+    if done.returncode != 0 or not found:
+        sys.exit(f"bench: {' '.join(command)} failed with {done.returncode}: {done.stderr.decode(errors='replace')[-500:]}")
+    return done.stdout, int(found.group(1))
+
+
+def counted(words, programs=PROGRAMS):
+    """The instructions of a turn in each program; None where ours has no such call yet."""
+    name, *size = words.split()
+    counts, answers = {}, {}
+    for who, program in programs.items():
+        answers[who], once = run(program + [name, str(TURNS)] + size)
+        again, twice = run(program + [name, str(2 * TURNS)] + size)
+        if again != answers[who]:
+            sys.exit(f"bench: row {words}: {who} answers {answers[who]} and then {again}")
+        counts[who] = (twice - once) / TURNS
+    if answers.get("ours") == b"not there\n":
+        counts["ours"] = None
+        del answers["ours"]
+    if len(set(answers.values())) != 1:
+        sys.exit(f"bench: row {words}: the answers differ: {answers}")
+    return counts
+
+
+def listed():
+    """tlvlist over the largest payload with the most TLVs, less what it takes for an empty one."""
+    payload = b"\x01\x00\x00" * 15913 + b"\x01\x00\x02ab"
+    counts, answers = {}, {}
+    for who, program in LISTERS.items():
+        empty = run(program)
+        answers[who], whole = run(program, payload)
+        answers[who] += empty[0]
+        counts[who] = whole - empty[1]
+    if len(set(answers.values())) != 1:
+        sys.exit(f"bench: tlvlist: the answers differ: { {who: a[-60:] for who, a in answers.items()} }")
+    return counts
+
+
+def shown(n):
+    return "not there yet" if n is None else f"{n:,.0f}"
+
+
+def ratio(counts, to):
+    return "" if counts["ours"] is None else f"{counts['ours'] / counts[to]:.2f}"
+
+
+def judged(counts, plain, original, beyond, copy):
+    """The bars of a row, and those that it misses."""
+    bars, missed = [], []
+    if plain:
+        bars.append(f"≤ {plain} × C")
+        if counts["ours"] is not None and counts["ours"] > plain * counts["plain"]:
+            missed.append(f"{ratio(counts, 'plain')} times plain C, the bar is {plain}")
+    bars.append("< original" if original == 1 else f"≤ {original} × original")
+    if counts["ours"] is not None:
+        share = counts["ours"] / counts["original"]
+        if share > original or (original == 1 and share == 1):
+            missed.append(f"{share:.2f} times the original, the bar is {original}")
+    if beyond:
+        bars.append(f"≤ {beyond} beyond the copy")
+        if counts["ours"] is not None and counts["ours"] - copy > beyond:
+            missed.append(f"{counts['ours'] - copy:,.0f} beyond the copy of its payload, the bar is {beyond}")
+    if counts["ours"] is None:
+        missed.append("not there yet")
+    return bars, missed
+
+
+def reasons():
+    with open("bench/reasons.txt", encoding="utf-8") as f:
+        lines = [line.rstrip("\n") for line in f if line.strip() and not line.startswith("#")]
+    return dict(line.split(": ", 1) for line in lines)
+
+
+def first_line(*command):
+    return subprocess.run(command, capture_output=True, text=True, check=True).stdout.split("\n")[0]
+
+
+def versions():
+    yield "Rattle", first_line("rt", "version")
+    yield "plain C", first_line("x86_64-linux-gnu-gcc", "--version") + ", -O3"
+    yield "original", first_line("/usr/bin/rustc", "--version") + ", release; nom " + re.search(r"nom-([0-9.]+)", " ".join(os.listdir("/usr/share/cargo/registry"))).group(1)
+    yield "counted by", first_line("qemu-x86_64", "--version")
+    for file in sorted(os.listdir(f"{WORK}/original/src/original")):
+        yield f"sha256 of {file}", subprocess.run(["sha256sum", f"{WORK}/original/src/original/{file}"], capture_output=True, text=True, check=True).stdout[:16] + "…"
+
+
+def picture(walks, pushes):
+    import matplotlib
+
+    matplotlib.use("Agg")
+    from matplotlib import pyplot
+
+    names = {"original": "original", "ours": "ours", "plain": "plain C"}
+    figure, (left, right) = pyplot.subplots(1, 2, figsize=(11, 4.5))
+    for who, name in names.items():
+        # plain C and ours may lie on one line
+        style = {"marker": "o", "markersize": 3, "label": name, "linestyle": "--" if who == "plain" else "-", "linewidth": 1 if who == "plain" else 2}
+        left.plot(WALKS, [c[who] for c in walks], **style)
+        right.plot([u + 1 for u in USED], [c[who] for c in pushes], **style)
+    left.set(xscale="log", yscale="log", xlabel="TLVs in the payload", ylabel="instructions", title="Walk")
+    right.set(xlabel="places used, the new one among them", ylabel="instructions", title="A push of 16 bytes that waits", ylim=(0, None))
+    for axes in (left, right):
+        axes.grid(alpha=0.3)
+        axes.legend()
+    figure.tight_layout()
+    figure.savefig("docs/benchmark.png", dpi=110, metadata={"Software": None})
+
+
+def main():
+    # asked first, so that a document is written whole or not at all
+    known = list(versions())
+    copies = {n: counted(f"copy {n}", {"plain": PROGRAMS["plain"]})["plain"] for n in (16, 1492)}
+    told = reasons()
+    table, misses = [], []
+    for title, words, plain, original, beyond in ROWS + [("tlvlist over 47,744 bytes, 15,914 TLVs", "tlvlist", None, 1, None)]:
+        counts = listed() if words == "tlvlist" else counted(words)
+        bars, missed = judged(counts, plain, original, beyond, copies[1492 if "1492" in words else 16])
+        print(f"{words}: {counts}{' MISSES: ' + '; '.join(missed) if missed else ''}", flush=True)
+        table.append(f"| {title} | {shown(counts['plain'])} | {shown(counts['original'])} | {shown(counts['ours'])} | {ratio(counts, 'plain')} | {ratio(counts, 'original')} | {', '.join(bars)} | {'missed' if missed else 'kept'} |")
+        if missed:
+            misses.append(f"- **{title}** (`{words}`): {'; '.join(missed)}. {told.get(words, 'The reason is not recorded yet.')}")
+    walks = [counted(f"walk {n}") for n in WALKS]
+    pushes = [counted(f"wait {u}") for u in USED]
+    picture(walks, pushes)
+    stack = subprocess.run(["bench/stack"], capture_output=True, text=True)
+    frames = [line.split(" ", 2) for line in stack.stdout.strip().split("\n")]
+
+    with open("docs/BENCHMARK.md", "w", encoding="utf-8") as f:
+        f.write(f"""# Speed and stack
+
+Made by `bench/run` on {datetime.date.today().isoformat()}; not to be edited by hand. Instructions of x86-64 executed for one turn, counted by an emulator's plugin, which
+gives the same number on every machine: the difference of runs with {2 * TURNS} and {TURNS} turns, over {TURNS}. Before it is counted, a row's three answers are seen to be the same.
+
+- Plain C is `bench/plain.c`: written by hand, zero-copy, with the same checks, refusals and calls as ours.
+- The original is unchanged. Its rows pay for its own lists and buffers, whose making and freeing belongs to what it does; the fragments that it is pushed are made before
+  the first turn. Its sweep runs in its worker, so a sweep's row has the turn of the runtime that wakes the worker in it.
+- Ours are the exported calls of the crate `ashlar`, linked as an archive; tlvlist is the proved program.
+- A waiting push is held to 900 instructions beyond the copy of its payload, which by itself takes {copies[16]:,.0f} for 16 bytes and {copies[1492]:,.0f} for 1,492.
+
+| Work | Plain C | Original | Ours | to plain C | to the original | Bar | |
+|---|---:|---:|---:|---:|---:|---|---|
+""")
+        f.write("\n".join(table) + "\n\n## Rows that miss their bar\n\n")
+        f.write(("\n".join(misses) if misses else "None.") + "\n\n## How cost grows\n\n![Instructions of a walk by its TLVs, and of a waiting push by the places used](benchmark.png)\n\n")
+        f.write("| TLVs walked | Plain C | Original | Ours |\n|---:|---:|---:|---:|\n")
+        f.writelines(f"| {n:,} | {shown(c['plain'])} | {shown(c['original'])} | {shown(c['ours'])} |\n" for n, c in zip(WALKS, walks))
+        f.write("\n| Places used after a waiting push | Plain C | Original | Ours |\n|---:|---:|---:|---:|\n")
+        f.writelines(f"| {u + 1} | {shown(c['plain'])} | {shown(c['original'])} | {shown(c['ours'])} |\n" for u, c in zip(USED, pushes))
+        f.write("""
+## Stack
+
+Bytes of stack that a call takes with all that it calls, its return address included, read off the archive by `bench/stack`, which fails where a frame isn't constant. The bar is
+3,072, and 2,048 is aimed at.
+
+| Call | Bytes | Deepest way | |
+|---|---:|---|---|
+""")
+        f.writelines(f"| `{name}` | {int(size):,} | {way.replace(' > ', ' → ')} | {'missed' if int(size) > 3072 else 'kept' if int(size) > 2048 else 'within the aim'} |\n" for name, size, way in frames)
+        f.writelines(f"\n`{name}`: {told['stack ' + name]}\n" for name, size, way in frames if int(size) > 3072 and "stack " + name in told)
+        f.write("\n## Versions\n\n")
+        f.writelines(f"- {what}: {version}\n" for what, version in known)
+    if stack.returncode:
+        print(stack.stderr.strip())
+    print(f"docs/BENCHMARK.md: {len(misses)} of {len(table)} rows miss a bar")
+
+
+main()

@@ -1,0 +1,245 @@
+/* The same calls in plain C, as one would write them by hand: nothing copied but the payloads, the same checks and the same refusals. */
+#undef PLAIN
+#define PLAIN
+#include "ashlar.h"
+#include <string.h>
+
+AshlarWalk plain_walk(const uint8_t *p, size_t n) {
+    size_t at = 0, count = 0;
+    while (at < n) {
+        if (n - at < 3) return (AshlarWalk){0, at, 1};
+        size_t length = (size_t)p[at + 1] << 8 | p[at + 2];
+        if (n - at - 3 < length) return (AshlarWalk){0, at, 2};
+        at += 3 + length;
+        count++;
+    }
+    return (AshlarWalk){count, 0, 0};
+}
+
+/* One pass checks and one fills, since a refusal leaves the list as lent. */
+AshlarWalk plain_walk_into(AshlarTlv *list, size_t room, const uint8_t *p, size_t n) {
+    AshlarWalk w = plain_walk(p, n);
+    if (w.refusal) return w;
+    size_t at = 0;
+    if (room < w.count) {
+        for (size_t i = 0; i < room; i++) at += 3 + ((size_t)p[at + 1] << 8 | p[at + 2]);
+        return (AshlarWalk){0, at, 14};
+    }
+    for (size_t i = 0; i < w.count; i++) {
+        uint16_t length = (uint16_t)(p[at + 1] << 8 | p[at + 2]);
+        list[i] = (AshlarTlv){p[at], length, at};
+        at += 3 + (size_t)length;
+    }
+    return w;
+}
+
+static AshlarKind refused(uint8_t number) { return (AshlarKind){0, 0, 0, false, number}; }
+
+static AshlarKind fixed(size_t size, size_t n) { return n < size ? refused(3) : (AshlarKind){0, size, n - size, false, 0}; }
+
+static AshlarKind listed(size_t entries, size_t end, size_t n) { return (AshlarKind){entries, end, n - end, true, 0}; }
+
+/* a head, then entries to the end */
+static AshlarKind to_end(size_t head, size_t entry, size_t n) {
+    if (n < head) return refused(3);
+    if ((n - head) % entry) return refused(4);
+    return listed((n - head) / entry, n, n);
+}
+
+/* one of w bytes of count at p */
+static inline bool counted(size_t w, const uint8_t *v, size_t n, size_t *p, size_t *count) {
+    if (n - *p < w) return false;
+    *count = w == 1 ? v[*p] : (size_t)v[*p] << 8 | v[*p + 1];
+    *p += w;
+    return true;
+}
+
+static inline __attribute__((always_inline)) AshlarKind two(size_t head, size_t entry, const uint8_t *v, size_t n) {
+    size_t p = 0, entries, inner;
+    if (!counted(1, v, n, &p, &entries)) return refused(3);
+    for (size_t i = 0; i < entries; i++) {
+        if (n - p < head) return refused(3);
+        p += head;
+        if (!counted(1, v, n, &p, &inner) || n - p < inner * entry) return refused(3);
+        p += inner * entry;
+    }
+    return listed(entries, p, n);
+}
+
+static inline __attribute__((always_inline)) AshlarKind three(size_t head, size_t w, size_t middle, size_t entry, const uint8_t *v, size_t n) {
+    size_t p = 0, entries, middles, inner;
+    if (!counted(1, v, n, &p, &entries)) return refused(3);
+    for (size_t i = 0; i < entries; i++) {
+        if (n - p < head) return refused(3);
+        p += head;
+        if (!counted(w, v, n, &p, &middles)) return refused(3);
+        for (size_t j = 0; j < middles; j++) {
+            if (n - p < middle) return refused(3);
+            p += middle;
+            if (!counted(w, v, n, &p, &inner) || n - p < inner * entry) return refused(3);
+            p += inner * entry;
+        }
+    }
+    return listed(entries, p, n);
+}
+
+AshlarKind plain_read_kind(uint8_t code, const uint8_t *v, size_t n) {
+    switch (code) {
+    case 0: return n ? refused(4) : fixed(0, 0);
+    case 1: case 2: return fixed(6, n);
+    case 13: case 15: return n && v[0] ? refused(5) : fixed(1, n);
+    case 12: case 16: case 26: return fixed(1, n);
+    case 8: return fixed(n && v[0] == 1 ? 8 : 2, n);
+    case 0x92: return n >= 13 && v[12] & 0x7f ? refused(5) : fixed(13, n);
+    case 0xB3: return n && !v[0] ? refused(5) : fixed(1, n);
+    case 0xB4: return fixed(4, n);
+    case 0x80: return n < 1 || n - 1 < v[0] ? refused(3) : listed(v[0], 1 + v[0], n);
+    case 6: return to_end(6, 6, n);
+    case 7: return to_end(6, 7, n);
+    case 23: return two(6, 9, v, n);
+    case 24: return two(22, 33, v, n);
+    case 4: return two(0, 6, v, n);
+    case 0x83: return three(6, 1, 6, 1, v, n);
+    case 0xB7: return three(6, 1, 8, 1, v, n);
+    case 30: {
+        AshlarKind k = three(6, 2, 6, 6, v, n);
+        return !k.refusal && k.rest ? refused(4) : k;
+    }
+    default: return refused(16);
+    }
+}
+
+static bool is_kind(uint8_t code) {
+    static const uint64_t known[4] = {
+        1ull << 0 | 1ull << 1 | 1ull << 2 | 1ull << 4 | 1ull << 6 | 1ull << 7 | 1ull << 8 | 1ull << 12 | 1ull << 13 | 1ull << 15 | 1ull << 16 | 1ull << 23 | 1ull << 24 | 1ull << 26 | 1ull << 30,
+        0,
+        1ull << 0 | 1ull << 3 | 1ull << 18 | 1ull << 51 | 1ull << 52 | 1ull << 55,
+        0,
+    };
+    return known[code / 64] >> code % 64 & 1;
+}
+
+AshlarFound plain_find(const AshlarTlv *list, size_t count, const uint8_t *p, size_t n, uint8_t code, size_t from) {
+    if (!is_kind(code)) return (AshlarFound){.refusal = 16};
+    for (size_t i = from; i < count; i++) {
+        if (list[i].tlv_type != code || n < 3 || n - 3 < list[i].length || n - 3 - list[i].length < list[i].offset) continue;
+        AshlarKind k = plain_read_kind(code, p + list[i].offset + 3, list[i].length);
+        if (!k.refusal) return (AshlarFound){i, k.entries, k.consumed, k.rest, k.is_list, 0};
+    }
+    return (AshlarFound){.refusal = 15};
+}
+
+AshlarTable plain_fresh(void) { return (AshlarTable){0}; }
+
+static int place_of(const AshlarTable *t, int owner, int number) {
+    for (int i = 0; i < 32; i++)
+        if (t->places[i].owner == owner && t->places[i].number == number) return i;
+    return -1;
+}
+
+static void drop(AshlarTable *t, int row) {
+    t->used[row] = false;
+    t->codes[row] = t->firsts[row] = 0;
+    for (int i = 0; i < 32; i++)
+        if (t->places[i].owner == row + 1) t->places[i] = (AshlarPlace){0};
+}
+
+static void put(AshlarTable *t, uint8_t *store, int place, int row, const AshlarFragment *f, const uint8_t *payload, size_t n) {
+    t->places[place] = (AshlarPlace){f->message_type, (uint16_t)n, (uint8_t)(row + 1), f->number, f->version, f->last};
+    memcpy(store + (size_t)place * ASHLAR_PAYLOAD, payload, n);
+}
+
+static AshlarPushed end(AshlarTable *t, int row, uint8_t answer, size_t length) {
+    if (row >= 0) drop(t, row);
+    return (AshlarPushed){length, answer, 0};
+}
+
+/* A last fragment: what is kept is joined with it. */
+static AshlarPushed finish(AshlarTable *t, const uint8_t *store, uint8_t *out, size_t room, int row, const AshlarFragment *f, const uint8_t *payload, size_t n) {
+    int place[33], kept = 0, highest = f->number;
+    size_t total = n;
+    bool unlike = false, last = f->last;
+    if (row >= 0)
+        for (int i = 0; i < 32; i++) {
+            const AshlarPlace *p = &t->places[i];
+            if (p->owner != row + 1) continue;
+            unlike |= p->version != f->version || p->message_type != f->message_type;
+            if (p->number > highest) highest = p->number, last = p->last;
+            if (p->number < 33) place[p->number] = i;
+            total += p->size;
+            kept++;
+        }
+    if (unlike) return end(t, row, ASHLAR_INCONSISTENT, 0);
+    if (highest != kept) return end(t, row, ASHLAR_MISSING, 0);
+    if (!last) return end(t, row, ASHLAR_MISSING_LAST, 0);
+    if (!kept) return end(t, row, ASHLAR_SINGLE, n);
+    if (room < total) return (AshlarPushed){total, ASHLAR_REFUSED, 13};
+    for (int k = 0; k <= kept; k++) {
+        if (k == f->number) {
+            memcpy(out, payload, n);
+            out += n;
+        } else {
+            memcpy(out, store + (size_t)place[k] * ASHLAR_PAYLOAD, t->places[place[k]].size);
+            out += t->places[place[k]].size;
+        }
+    }
+    return end(t, row, ASHLAR_JOINED, total);
+}
+
+AshlarPushed plain_push(AshlarTable *t, uint8_t *store, size_t store_length, uint8_t *out, size_t room, AshlarArrival a, const uint8_t *payload, size_t n) {
+    if (store_length < ASHLAR_STORE) return (AshlarPushed){0, ASHLAR_REFUSED, 11};
+    if (n > ASHLAR_PAYLOAD) return (AshlarPushed){0, ASHLAR_REFUSED, 12};
+    int row = -1, spare = -1;
+    for (int i = 15; i >= 0; i--) {
+        if (!t->used[i]) spare = i;
+        else if (t->codes[i] == a.key) row = i;
+    }
+    if (row >= 0) {
+        int at = place_of(t, row + 1, a.fragment.number);
+        if (at >= 0) {
+            put(t, store, at, row, &a.fragment, payload, n);
+            return (AshlarPushed){0, ASHLAR_DUPLICATED, 0};
+        }
+    }
+    if (a.fragment.last) return finish(t, store, out, room, row, &a.fragment, payload, n);
+    int free = 0;
+    while (free < 32 && t->places[free].owner) free++;
+    if (free == 32 || (row < 0 && spare < 0)) return (AshlarPushed){0, ASHLAR_REFUSED, 10};
+    if (row < 0) {
+        row = spare;
+        t->used[row] = true;
+        t->codes[row] = a.key;
+        t->firsts[row] = a.time;
+    }
+    put(t, store, free, row, &a.fragment, payload, n);
+    return (AshlarPushed){0, ASHLAR_WAITING, 0};
+}
+
+AshlarShown plain_show(AshlarPushed pushed, const uint8_t *payload, size_t n, const uint8_t *out, size_t room) {
+    (void)payload;
+    (void)out;
+    if (pushed.answer == ASHLAR_SINGLE) return (AshlarShown){pushed.length <= n ? pushed.length : 0, false};
+    if (pushed.answer == ASHLAR_JOINED) return (AshlarShown){pushed.length <= room ? pushed.length : 0, true};
+    return (AshlarShown){0, false};
+}
+
+AshlarCounts plain_sweep(AshlarTable *t, uint64_t time) {
+    AshlarCounts c = {0, 0, 0, 0};
+    for (int row = 0; row < 16; row++) {
+        if (!t->used[row] || time < t->firsts[row] || time - t->firsts[row] < 3000) continue;
+        int kept = 0, beyond = 0;
+        bool marked = false;
+        for (int i = 0; i < 32; i++)
+            if (t->places[i].owner == row + 1) {
+                kept++;
+                if (t->places[i].number >= beyond) beyond = t->places[i].number + 1;
+                marked |= t->places[i].last;
+            }
+        if (!kept) c.empty++;
+        else if (!marked) c.unmarked++;
+        else if (kept < beyond) c.incomplete++;
+        else c.neither++;
+        drop(t, row);
+    }
+    return c;
+}

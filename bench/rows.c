@@ -1,0 +1,166 @@
+/* rows ROW TURNS [SIZE]: does a row's work so many times over, and prints its answer. What a turn needs is made before the first turn, and for
+   MOST turns whatever TURNS is, so that the difference of two runs is the turns alone. */
+#include "ashlar.h"
+#include <stdio.h>
+#include <stdlib.h>
+#include <string.h>
+
+enum { MOST = 64, TLVS = 15914 };
+
+static uint8_t payload[ASHLAR_STORE], store[ASHLAR_STORE], out[3 * ASHLAR_PAYLOAD];
+static AshlarTlv list[TLVS];
+static AshlarTable tables[MOST];
+static size_t size;
+
+static void add(uint8_t type, size_t length) {
+    payload[size] = type;
+    payload[size + 1] = (uint8_t)(length >> 8);
+    payload[size + 2] = (uint8_t)length;
+    for (size_t i = 0; i < length; i++) payload[size + 3 + i] = (uint8_t)(size + i);
+    size += 3 + length;
+}
+
+static void tlvs(size_t many, uint8_t type, size_t length, size_t last) {
+    for (size_t i = 1; i < many; i++) add(type, length);
+    add(type, last);
+}
+
+/* a counted list's count, then its head's bytes */
+static void byte(uint8_t b) { payload[size++] = b; }
+
+static void bytes(size_t n) {
+    while (n--) byte((uint8_t)n);
+}
+
+static void ipv4(void) {
+    byte(8);
+    for (int i = 0; i < 8; i++) bytes(6), byte(16), bytes(16 * 9);
+}
+
+static void operational_bss(void) {
+    byte(2);
+    for (int i = 0; i < 2; i++) {
+        bytes(6), byte(4);
+        for (int j = 0; j < 4; j++) bytes(6), byte(32), bytes(32);
+    }
+}
+
+static AshlarArrival piece(int key, int number, bool last) {
+    return (AshlarArrival){0x020000000000u * 65536 + (unsigned)key, 1000, {2, 0, (uint8_t)number, last}};
+}
+
+/* every table gets the first so many of: numbers 0 and 1 of key 0, of key 1, .. */
+static void filled(int places) {
+    AshlarTable t = CALL(fresh)();
+    for (int i = 0; i < places; i++) CALL(push)(&t, store, sizeof store, out, sizeof out, piece(i / 2, i % 2, false), payload, 16);
+    for (int i = 0; i < MOST; i++) tables[i] = t;
+}
+
+static int keys(const AshlarTable *t) {
+    int n = 0;
+    for (int i = 0; i < 16; i++) n += t->used[i];
+    return n;
+}
+
+static unsigned long sum(const uint8_t *b, size_t n) {
+    unsigned long s = 0;
+    for (size_t i = 0; i < n; i++) s = s * 31 + b[i];
+    return s;
+}
+
+static void walk(int turns) {
+    AshlarWalk w = {0};
+    for (int i = 0; i < turns; i++) w = CALL(walk)(payload, size);
+    printf("%zu %d\n", w.count, w.refusal);
+}
+
+static void walk_into(int turns) {
+    AshlarWalk w = {0};
+    for (int i = 0; i < turns; i++) w = CALL(walk_into)(list, TLVS, payload, size);
+    printf("%zu %d, last %d %d\n", w.count, w.refusal, list[w.count - 1].tlv_type, list[w.count - 1].length);
+}
+
+static void read_kind(int turns, uint8_t code) {
+    AshlarKind k = {0};
+    for (int i = 0; i < turns; i++) k = CALL(read_kind)(code, payload, size);
+    printf("%zu %zu %zu %d\n", k.entries, k.consumed, k.rest, k.refusal);
+}
+
+#ifndef WITHOUT_FIND
+static void find(int turns, uint8_t code) {
+    tlvs(166, 2, 6, 4);
+    AshlarWalk w = CALL(walk_into)(list, TLVS, payload, size);
+    AshlarFound f = {0};
+    for (int i = 0; i < turns; i++) f = CALL(find)(list, w.count, payload, size, code, 0);
+    if (f.refusal) printf("none\n");
+    else printf("%lu\n", sum(payload + list[f.place].offset + 3, 6));
+}
+#else
+static void find(int turns, uint8_t code) {
+    (void)turns, (void)code;
+    printf("not there\n");
+}
+#endif
+
+/* what a payload's copy costs by itself */
+static void copy(int turns, size_t n) {
+    for (int i = 0; i < turns; i++) {
+        memcpy(store, payload, n);
+        __asm__ volatile("" ::: "memory");
+    }
+    printf("%lu\n", sum(store, n));
+}
+
+static void complete(int turns, size_t n) {
+    filled(0);
+    AshlarPushed r = {0};
+    AshlarShown s = {0};
+    for (int i = 0; i < turns; i++) {
+        CALL(push)(tables, store, sizeof store, out, sizeof out, piece(1, 0, false), payload, n);
+        CALL(push)(tables, store, sizeof store, out, sizeof out, piece(1, 1, false), payload + n, n);
+        r = CALL(push)(tables, store, sizeof store, out, sizeof out, piece(1, 2, true), payload + 2 * n, n);
+        s = CALL(show)(r, payload + 2 * n, n, out, sizeof out);
+    }
+    printf("%zu %lu, keys %d\n", s.length, sum(out, s.length), keys(tables));
+}
+
+static void waiting(int turns, int places, size_t n) {
+    filled(places);
+    AshlarPushed r = {0};
+    for (int i = 0; i < turns; i++) r = CALL(push)(&tables[i], store, sizeof store, out, sizeof out, piece(places / 2, places % 2, false), payload, n);
+    printf("%s, keys %d\n", r.answer == ASHLAR_WAITING ? "waiting" : "something else", keys(&tables[turns - 1]));
+}
+
+static void sweep(int turns, uint64_t time) {
+    filled(32);
+    AshlarCounts c = {0};
+    for (int i = 0; i < turns; i++) c = CALL(sweep)(&tables[i], time);
+    printf("dropped %d, keys %d\n", c.empty + c.unmarked + c.incomplete + c.neither, keys(&tables[turns - 1]));
+}
+
+int main(int argc, char **argv) {
+    if (argc < 3) return 2;
+    const char *row = argv[1];
+    int turns = atoi(argv[2]);
+    size_t many = argc > 3 ? (size_t)atol(argv[3]) : 0;
+    if (turns < 1 || turns > MOST) return 2;
+    for (size_t i = 0; i < sizeof payload; i++) payload[i] = (uint8_t)(i * 7);
+    if (!strcmp(row, "walk-497")) tlvs(497, 1, 0, 1), walk(turns);
+    else if (!strcmp(row, "walk-165")) tlvs(165, 1, 6, 13), walk(turns);
+    else if (!strcmp(row, "list-497")) tlvs(497, 1, 0, 1), walk_into(turns);
+    else if (!strcmp(row, "list-165")) tlvs(165, 1, 6, 13), walk_into(turns);
+    else if (!strcmp(row, "walk")) tlvs(many, 1, 0, 0), walk(turns);
+    else if (!strcmp(row, "ipv4")) ipv4(), read_kind(turns, 23);
+    else if (!strcmp(row, "bss")) operational_bss(), read_kind(turns, 0x83);
+    else if (!strcmp(row, "find-none")) find(turns, 1);
+    else if (!strcmp(row, "find-first")) find(turns, 2);
+    else if (!strcmp(row, "push-1492")) complete(turns, 1492);
+    else if (!strcmp(row, "push-16")) complete(turns, 16);
+    else if (!strcmp(row, "wait")) waiting(turns, (int)many, 16);
+    else if (!strcmp(row, "wait-1492")) waiting(turns, (int)many, 1492);
+    else if (!strcmp(row, "copy")) copy(turns, many);
+    else if (!strcmp(row, "sweep-none")) sweep(turns, 3999);
+    else if (!strcmp(row, "sweep-all")) sweep(turns, 4000);
+    else return 2;
+    return 0;
+}

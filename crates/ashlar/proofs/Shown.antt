@@ -1,0 +1,31 @@
+-- What `ashlar_show` gives for an answer in numbers is the part that the table's own showing call returns for that answer.
+use mathlib.Core.Path.{_≡_, refl, sym, ap}
+use mathlib.Core.Bool.{Bool, true, false, cond}
+use mathlib.Core.List.{List, []}
+use Prim.Native.Nat.{ℕ}
+use lib.Dec.{leb}
+use lib.ListN.{length, take}
+use Rattle.numbers.specs.Numbers.{Answer, gives, refuses}
+use Rattle.table.specs.Push.{Heard, waiting, duplicated, inconsistent, missing, missingLast, single, joined}
+use Rattle.table.specs.Show.{startOf, shown}
+use Rattle.ashlar.specs.declared.AshlarShown.{AshlarShown}
+use Rattle.ashlar.specs.Numbers.{pushNumbers, withinOf, shownIn}
+
+-- the part that an answer of `ashlar_show` names
+abbrev pub partOf : AshlarShown → List ℕ → List ℕ → List ℕ
+partOf s payload out = take (s .length) (cond (s .«in_output») out payload)
+
+start : (b : Bool) (n : ℕ) (s : List ℕ) → take (cond b n 0) s ≡ cond b (take n s) []
+start true n s = refl
+start false n s = refl
+
+pub shows : (h : Answer Heard) (payload out : List ℕ) → partOf (shownIn (pushNumbers h) (length payload) (length out)) payload out ≡ shown h payload out
+unfolding shownIn
+shows (gives waiting) payload out = refl
+shows (gives duplicated) payload out = refl
+shows (gives inconsistent) payload out = refl
+shows (gives missing) payload out = refl
+shows (gives missingLast) payload out = refl
+shows (gives (single n)) payload out = start (leb n (length payload)) n payload
+shows (gives (joined n)) payload out = start (leb n (length out)) n out
+shows (refuses n vs) payload out = refl

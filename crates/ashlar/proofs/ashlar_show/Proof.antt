@@ -1,0 +1,28 @@
+-- `ashlar_show` meets its contract: the three cases of the answer.
+use Rattle.ashlar.specs.Numbers.{shownIn}
+use borrow.Author.Tests.{ne-eqb}
+use borrow.Author.Needs.{needs}
+use Rattle.ashlar.proofs.ashlar_show.Statement.{statement}
+use Rattle.ashlar.proofs.ashlar_show.Tie as tie
+
+within-requires : tie.Need-within-requires
+within-requires c κs = search needs
+
+returns : tie.Need-returns
+unfolding shownIn
+returns c = rw (c .before .if1 .taken, c .within .ensures)
+
+within-requires-2 : tie.Need-within-requires-2
+within-requires-2 c κs = search needs
+
+returns-2 : tie.Need-returns-2
+unfolding shownIn
+returns-2 c = rw (c .before .if2 .taken, c .within2 .ensures)
+
+returns-3 : tie.Need-returns-3
+unfolding shownIn
+returns-3 c = rw (ne-eqb _ _ (c .before .before .if1 .left), ne-eqb _ _ (c .if2 .left))
+
+pub ashlar-show-spec : {M : Type 1} → statement M
+ashlar-show-spec =
+    tie.close (tie.spec within-requires returns within-requires-2 returns-2 returns-3)

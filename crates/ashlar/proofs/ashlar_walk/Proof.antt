@@ -1,0 +1,18 @@
+-- `ashlar_walk` meets its contract: the numbers of what `walk` answers.
+use mathlib.Core.Path.{ap, _∙_}
+use Rattle.ashlar.specs.Numbers.{walkNumbers}
+use borrow.Author.Needs.{needs}
+use Rattle.ashlar.proofs.ashlar_walk.Statement.{statement}
+use Rattle.ashlar.proofs.ashlar_walk.Tie as tie
+
+walk-requires : tie.Need-walk-requires
+walk-requires c κs = search needs
+
+walk-numbers-requires : tie.Need-walk-numbers-requires
+walk-numbers-requires c κs = search needs
+
+returns : tie.Need-returns
+returns c = c .walk-numbers .ensures ∙ ap walkNumbers (c .before .walk .ensures)
+
+pub ashlar-walk-spec : {M : Type 1} → statement M
+ashlar-walk-spec = tie.close (tie.spec walk-requires walk-numbers-requires returns)

@@ -1,0 +1,74 @@
+-- Document 01's answers as the numbers that cross to C: `refusal` is the refusal's number, and 0 where nothing is refused.
+use mathlib.Core.Path.{_≡_}
+use mathlib.Core.Bool.{Bool, true, false, cond}
+use mathlib.Core.List.{List}
+use Prim.Native.Nat.{ℕ}
+use lib.Dec.{eqb, leb}
+use lib.ListN.{length, getD}
+use Rattle.numbers.specs.Numbers.{Answer, gives, refuses}
+use Rattle.kinds.specs.Kinds.{Held, one, list, Typed}
+use Rattle.finding.specs.Finding.{Hit}
+use Rattle.table.specs.declared.Table.{Table}
+use Rattle.table.specs.declared.Arrival.{Arrival}
+use Rattle.table.specs.Push.{Heard, waiting, duplicated, inconsistent, missing, missingLast, single, joined, Way, answerBy, tableBy, storeBy, outputBy}
+use Rattle.ashlar.specs.declared.AshlarWalk.{AshlarWalk}
+use Rattle.ashlar.specs.declared.AshlarKind.{AshlarKind}
+use Rattle.ashlar.specs.declared.AshlarFound.{AshlarFound}
+use Rattle.ashlar.specs.declared.AshlarPushed.{AshlarPushed}
+use Rattle.ashlar.specs.declared.AshlarShown.{AshlarShown}
+
+-- a walk's refusal gives the offset of the TLV that failed, first of its values
+abbrev pub walkNumbers : Answer ℕ → AshlarWalk
+walkNumbers (gives n) = record { count = n; at = 0; refusal = 0 }
+walkNumbers (refuses n vs) = record { count = 0; at = getD vs 0 0; refusal = n }
+
+abbrev pub isList : Held → Bool
+isList (one r) = false
+isList (list n) = true
+
+abbrev pub entriesOf : Held → ℕ
+entriesOf (one r) = 0
+entriesOf (list n) = n
+
+-- a record is the first bytes of its value, as many as were consumed
+abbrev pub kindNumbers : Answer Typed → AshlarKind
+kindNumbers (gives t) = record { entries = entriesOf (t .held); consumed = t .consumed; rest = t .rest; «is_list» = isList (t .held); refusal = 0 }
+kindNumbers (refuses n vs) = record { entries = 0; consumed = 0; rest = 0; «is_list» = false; refusal = n }
+
+abbrev pub foundNumbers : Answer Hit → AshlarFound
+foundNumbers (gives h) = record { place = h .place; entries = entriesOf (h .reading .held); consumed = h .reading .consumed; rest = h .reading .rest; «is_list» = isList (h .reading .held); refusal = 0 }
+foundNumbers (refuses n vs) = record { place = 0; entries = 0; consumed = 0; rest = 0; «is_list» = false; refusal = n }
+
+-- push's named answers from 1 on, 0 for a refusal; the length is the message's, or the one that 13 gives
+abbrev pub namedAs : ℕ → ℕ → AshlarPushed
+namedAs answer length = record { length = length; answer = answer; refusal = 0 }
+
+abbrev pub heardNumbers : Heard → AshlarPushed
+heardNumbers waiting = namedAs 1 0
+heardNumbers duplicated = namedAs 2 0
+heardNumbers inconsistent = namedAs 3 0
+heardNumbers missing = namedAs 4 0
+heardNumbers missingLast = namedAs 5 0
+heardNumbers (single n) = namedAs 6 n
+heardNumbers (joined n) = namedAs 7 n
+
+abbrev pub pushNumbers : Answer Heard → AshlarPushed
+pushNumbers (gives h) = heardNumbers h
+pushNumbers (refuses n vs) = record { length = getD vs 0 0; answer = 0; refusal = n }
+
+-- a push's answer in numbers, with its table, store and output, are those of the way w
+pub record Numbered (w : Way) (t : Table) (store out : List ℕ) (a : Arrival) (payload : List ℕ) (answer′ : AshlarPushed) (table′ : Table) (store′ out′ : List ℕ) : Type 0 where
+  pub answers : answer′ ≡ pushNumbers (answerBy w)
+  pub keeps : table′ ≡ tableBy w t a (length payload)
+  pub stores : store′ ≡ storeBy w store payload
+  pub puts : out′ ≡ outputBy w out
+
+-- the message of an answer in numbers lies in the output, or in the payload: "A stated length beyond that slice shows its empty start"
+abbrev pub withinOf : ℕ → ℕ → ℕ
+withinOf n size = cond (leb n size) n 0
+
+unfoldable pub shownIn : AshlarPushed → ℕ → ℕ → AshlarShown
+shownIn pushed payload-size out-size =
+    cond (eqb (pushed .answer) 7) (record { length = withinOf (pushed .length) out-size; «in_output» = true })
+    (cond (eqb (pushed .answer) 6) (record { length = withinOf (pushed .length) payload-size; «in_output» = false })
+    (record { length = 0; «in_output» = false }))

@@ -1,0 +1,317 @@
+// The hot calls for C: each is a thin shell over the layer's own call, and gives its answer in document 01's numbers. `refusal` is 0 where nothing is refused.
+use finding::Found;
+use kinds::KindRead;
+use numbers::Refusal;
+use table::Arrival;
+use table::Counts;
+use table::Pushed;
+use table::Table;
+use walking::Tlv;
+use walking::Walked;
+ghost use mathlib.Core.Path.{_≡_};
+ghost use Rattle.numbers.specs.Numbers.{told};
+ghost use Rattle.walking.specs.Walk.{walkedOf, walkOf, counted, listed, filled};
+ghost use Rattle.kinds.specs.Kinds.{kindReadOf, readKind};
+ghost use Rattle.finding.specs.Finding.{foundOf, findFrom};
+ghost use Rattle.table.specs.Rows.{freshTable};
+ghost use lib.ListN.{length};
+ghost use Rattle.table.specs.Push.{pushedOf, way};
+ghost use Rattle.table.specs.Sweep.{swept, sweptAs};
+ghost use Rattle.table.specs.Made.{Made};
+ghost use Rattle.ashlar.specs.Numbers.{walkNumbers, kindNumbers, foundNumbers, namedAs, pushNumbers, withinOf, shownIn, Numbered};
+
+// How many TLVs a payload has; where one is refused, its offset.
+#[repr(C)]
+pub struct AshlarWalk {
+    pub count: usize,
+    pub at: usize,
+    pub refusal: u8,
+}
+
+// How many entries the value's own list has, if its kind is a list's; a record is the first `consumed` bytes of its value.
+#[repr(C)]
+pub struct AshlarKind {
+    pub entries: usize,
+    pub consumed: usize,
+    pub rest: usize,
+    pub is_list: bool,
+    pub refusal: u8,
+}
+
+// The place of the record that was found, and what its value reads as.
+#[repr(C)]
+pub struct AshlarFound {
+    pub place: usize,
+    pub entries: usize,
+    pub consumed: usize,
+    pub rest: usize,
+    pub is_list: bool,
+    pub refusal: u8,
+}
+
+// What push answers: 1 waiting, 2 duplicated, 3 inconsistent metadata, 4 missing fragments, 5 missing last fragment, 6 a message that is the payload itself,
+// 7 a message in the output; 0 where it is refused. `length` is the message's, or the one that refusal 13 gives.
+#[repr(C)]
+pub struct AshlarPushed {
+    pub length: usize,
+    pub answer: u8,
+    pub refusal: u8,
+}
+
+// Where a message lies: in the output, or in the payload that was pushed; its first bytes, so many.
+#[repr(C)]
+pub struct AshlarShown {
+    pub length: usize,
+    pub in_output: bool,
+}
+
+fn walk_numbers(walked: Walked) -> AshlarWalk
+    ensures { λ r. ⌜ r ≡ walkNumbers (walkedOf walked) ⌝ }
+{
+    match walked {
+        Walked::Count(count) => AshlarWalk {
+            count,
+            at: 0,
+            refusal: 0,
+        },
+        Walked::Refused { refusal, at } => AshlarWalk {
+            count: 0,
+            at,
+            refusal: numbers::number_of(refusal),
+        },
+    }
+}
+
+// The TLVs of a payload, counted.
+#[no_mangle]
+pub extern "C" fn ashlar_walk(payload: &[u8]) -> AshlarWalk
+    ensures { λ r. ⌜ r ≡ walkNumbers (counted (walkOf (now (payload .entry)))) ⌝ }
+{
+    walk_numbers(walking::walk(payload))
+}
+
+// The TLVs of a payload, counted and listed. On a refusal the list stays as lent.
+#[no_mangle]
+pub extern "C" fn ashlar_walk_into(list: &mut [Tlv], payload: &[u8]) -> AshlarWalk
+    ensures { λ r. ⌜ (r ≡ walkNumbers (listed (length (now (list .entry))) (walkOf (now (payload .entry)))))
+        × (now (list .exit) ≡ filled (listed (length (now (list .entry))) (walkOf (now (payload .entry)))) (walkOf (now (payload .entry)) .tlvs) (now (list .entry))) ⌝ }
+{
+    let walked = walking::walk_into(list, payload);
+    walk_numbers(walked)
+}
+
+fn kind_numbers(read: KindRead) -> AshlarKind
+    ensures { λ r. ⌜ r ≡ kindNumbers (kindReadOf read) ⌝ }
+{
+    match read {
+        KindRead::Record {
+            record: _,
+            consumed,
+            rest,
+        } => AshlarKind {
+            entries: 0,
+            consumed,
+            rest,
+            is_list: false,
+            refusal: 0,
+        },
+        KindRead::List {
+            entries,
+            consumed,
+            rest,
+        } => AshlarKind {
+            entries,
+            consumed,
+            rest,
+            is_list: true,
+            refusal: 0,
+        },
+        KindRead::Refused(refusal) => AshlarKind {
+            entries: 0,
+            consumed: 0,
+            rest: 0,
+            is_list: false,
+            refusal: numbers::number_of(refusal),
+        },
+    }
+}
+
+// The typed value of the kind with this code.
+#[no_mangle]
+pub extern "C" fn ashlar_read_kind(code: u8, value: &[u8]) -> AshlarKind
+    ensures { λ r. ⌜ r ≡ kindNumbers (readKind code (now (value .entry))) ⌝ }
+{
+    kind_numbers(kinds::read_kind(code, value))
+}
+
+fn nothing_found(refusal: Refusal) -> AshlarFound
+    ensures { λ r. ⌜ r ≡ foundNumbers (told refusal) ⌝ }
+{
+    AshlarFound {
+        place: 0,
+        entries: 0,
+        consumed: 0,
+        rest: 0,
+        is_list: false,
+        refusal: numbers::number_of(refusal),
+    }
+}
+
+fn found_numbers(found: Found) -> AshlarFound
+    ensures { λ r. ⌜ r ≡ foundNumbers (foundOf found) ⌝ }
+{
+    match found {
+        Found::Record {
+            place,
+            tlv: _,
+            record: _,
+            consumed,
+            rest,
+        } => AshlarFound {
+            place,
+            entries: 0,
+            consumed,
+            rest,
+            is_list: false,
+            refusal: 0,
+        },
+        Found::List {
+            place,
+            tlv: _,
+            entries,
+            consumed,
+            rest,
+        } => AshlarFound {
+            place,
+            entries,
+            consumed,
+            rest,
+            is_list: true,
+            refusal: 0,
+        },
+        Found::Refused(refusal) => nothing_found(refusal),
+    }
+}
+
+// The first readable record of the kind with this code at the place `from` of the list or behind it, and what its value reads as.
+#[no_mangle]
+pub extern "C" fn ashlar_find(list: &[Tlv], payload: &[u8], code: u8, from: usize) -> AshlarFound
+    ensures { λ r. ⌜ r ≡ foundNumbers (findFrom code (now (list .entry)) (now (payload .entry)) from) ⌝ }
+{
+    let found = finding::find(list, payload, code, from);
+    found_numbers(found)
+}
+
+// A table that holds nothing.
+#[no_mangle]
+pub extern "C" fn ashlar_fresh() -> Table
+    ensures { λ r. ⌜ r ≡ freshTable ⌝ }
+{
+    table::fresh()
+}
+
+// An answer of push that is no refusal.
+fn named(answer: u8, length: usize) -> AshlarPushed
+    ensures { λ r. ⌜ r ≡ namedAs answer «length» ⌝ }
+{
+    AshlarPushed {
+        length,
+        answer,
+        refusal: 0,
+    }
+}
+
+fn push_numbers(pushed: Pushed) -> AshlarPushed
+    ensures { λ r. ⌜ r ≡ pushNumbers (pushedOf pushed) ⌝ }
+{
+    match pushed {
+        Pushed::WaitingForMoreFragments => named(1, 0),
+        Pushed::DuplicatedFragment => named(2, 0),
+        Pushed::InconsistentMetadata => named(3, 0),
+        Pushed::MissingFragments => named(4, 0),
+        Pushed::MissingLastFragment => named(5, 0),
+        Pushed::Single(length) => named(6, length),
+        Pushed::Joined(length) => named(7, length),
+        Pushed::Refused(refusal) => AshlarPushed {
+            length: numbers::carried_by(refusal),
+            answer: 0,
+            refusal: numbers::number_of(refusal),
+        },
+    }
+}
+
+// The table after a push, and its answer in numbers.
+struct Coded {
+    table: Table,
+    answer: AshlarPushed,
+}
+
+fn push_coded(t: Table, store: &mut [u8], out: &mut [u8], a: Arrival, payload: &[u8]) -> Coded
+    requires { ⌜ Made t ⌝ }
+    ensures { λ r. ⌜ Numbered (way t (now (store .entry)) a (now (payload .entry)) (length (now (out .entry)))) t (now (store .entry)) (now (out .entry)) a (now (payload .entry)) (r .answer) (r .table) (now (store .exit)) (now (out .exit)) ⌝ }
+{
+    let s = table::push_step(t, store, out, a, payload);
+    let table = s.table;
+    let pushed = s.answer;
+    Coded {
+        table,
+        answer: push_numbers(pushed),
+    }
+}
+
+// A fragment comes in, to a table that these calls made.
+#[no_mangle]
+pub extern "C" fn ashlar_push(
+    t: &mut Table,
+    store: &mut [u8],
+    out: &mut [u8],
+    a: Arrival,
+    payload: &[u8],
+) -> AshlarPushed
+    requires { ⌜ Made (now t) ⌝ }
+    ensures { λ r. ⌜ Numbered (way (now (t .entry)) (now (store .entry)) a (now (payload .entry)) (length (now (out .entry)))) (now (t .entry)) (now (store .entry)) (now (out .entry)) a (now (payload .entry)) r (now (t .exit)) (now (store .exit)) (now (out .exit)) ⌝ }
+{
+    let s = push_coded(*t, store, out, a, payload);
+    *t = s.table;
+    s.answer
+}
+
+// So many bytes of a slice that has at least these, none of a shorter one.
+fn within(n: usize, room: usize) -> usize
+    ensures { λ r. ⌜ r ≡ withinOf n room ⌝ }
+{
+    if n <= room { n } else { 0 }
+}
+
+// The message of an answer that push gave: a part of one of the two slices that push was given.
+#[no_mangle]
+pub extern "C" fn ashlar_show(pushed: AshlarPushed, payload: &[u8], out: &[u8]) -> AshlarShown
+    ensures { λ r. ⌜ r ≡ shownIn pushed (length (now (payload .entry))) (length (now (out .entry))) ⌝ }
+{
+    if pushed.answer == 7 {
+        return AshlarShown {
+            length: within(pushed.length, out.len()),
+            in_output: true,
+        };
+    }
+    if pushed.answer == 6 {
+        return AshlarShown {
+            length: within(pushed.length, payload.len()),
+            in_output: false,
+        };
+    }
+    AshlarShown {
+        length: 0,
+        in_output: false,
+    }
+}
+
+// The keys that are 3,000 milliseconds old are dropped, and counted by what they lacked.
+#[no_mangle]
+pub extern "C" fn ashlar_sweep(t: &mut Table, time: u64) -> Counts
+    ensures { λ r. ⌜ sweptAs (now (t .exit)) r ≡ swept (now (t .entry)) time ⌝ }
+{
+    let s = table::sweep_step(*t, time);
+    *t = s.table;
+    s.counts
+}

@@ -1,0 +1,182 @@
+/* hostile CALLS SEED: so many random calls. Each slice ends at a page that can't be touched, lengths are any, tables are those that the calls made. Every answer is one of
+   document 01's numbers for its call and the same as that of the plain C of bench/plain.c, and so is every byte that was lent. */
+#include "../bench/ashlar.h"
+#define PLAIN
+#include "../bench/ashlar.h"
+#include <stdio.h>
+#include <stdlib.h>
+#include <string.h>
+#include <sys/mman.h>
+
+enum { PAGE = 4096, WALK = 0, WALK_INTO, READ_KIND, FIND, PUSH, SHOW, SWEEP, KINDS };
+
+static const char *const names[KINDS] = {"walk", "walk_into", "read_kind", "find", "push", "show", "sweep"};
+/* which numbers document 01 lets each call give, a bit for each; 0 is no refusal */
+static const unsigned numbers[KINDS] = {
+    1u << 0 | 1u << 1 | 1u << 2,
+    1u << 0 | 1u << 1 | 1u << 2 | 1u << 14,
+    1u << 0 | 1u << 3 | 1u << 4 | 1u << 5 | 1u << 16,
+    1u << 0 | 1u << 15 | 1u << 16,
+    1u << 0 | 1u << 10 | 1u << 11 | 1u << 12 | 1u << 13,
+    1u << 0,
+    1u << 0,
+};
+static unsigned long calls[KINDS], wrong[KINDS];
+static unsigned seen[KINDS], answers;
+static uint64_t state;
+
+static uint64_t any(void) {
+    state ^= state << 13;
+    state ^= state >> 7;
+    state ^= state << 17;
+    return state * 0x2545F4914F6CDD1Dull >> 16;
+}
+
+static size_t below(size_t n) { return any() % n; }
+
+/* room for n bytes whose end can't be passed */
+typedef struct {
+    uint8_t *end;
+    size_t most;
+} Room;
+
+static Room room(size_t most) {
+    size_t size = (most + PAGE - 1) / PAGE * PAGE;
+    uint8_t *at = mmap(0, size + PAGE, PROT_READ | PROT_WRITE, MAP_PRIVATE | MAP_ANONYMOUS, -1, 0);
+    if (at == MAP_FAILED || mprotect(at + size, PAGE, PROT_NONE)) exit(2);
+    return (Room){at + size, size};
+}
+
+static void told(int call, unsigned number, bool same) {
+    calls[call]++;
+    if (number > 16 || !(numbers[call] >> number & 1) || !same) wrong[call]++;
+    else seen[call] |= 1u << number;
+}
+
+static Room payloads, lists, expected, stores[2], outs[2];
+static AshlarTable tables[2];
+
+/* bytes that often read: TLVs and counts are mostly short */
+static uint8_t *bytes(size_t n) {
+    uint8_t *at = payloads.end - n;
+    int form = (int)below(4);
+    for (size_t i = 0; i < n; i++) at[i] = (uint8_t)(form == 0 ? any() : form == 1 ? below(4) : below(3) ? below(3) : any());
+    if (form == 3)
+        for (size_t i = 0; i + 3 <= n;) {
+            size_t length = below(5) ? below(12) : below(400);
+            if (length > n - i - 3 && below(8)) length = n - i - 3;
+            at[i + 1] = (uint8_t)(length >> 8);
+            at[i + 2] = (uint8_t)length;
+            i += 3 + length;
+        }
+    return at;
+}
+
+static uint8_t code(void) {
+    static const uint8_t codes[21] = {0, 1, 2, 4, 6, 7, 8, 12, 13, 15, 16, 23, 24, 26, 30, 0x80, 0x83, 0x92, 0xB3, 0xB4, 0xB7};
+    return below(4) ? codes[below(21)] : (uint8_t)any();
+}
+
+static bool same_walk(AshlarWalk a, AshlarWalk b) { return a.count == b.count && a.at == b.at && a.refusal == b.refusal; }
+
+static void walk(void) {
+    size_t n = below(4) ? below(64) : below(3000);
+    uint8_t *p = bytes(n);
+    AshlarWalk a = ashlar_walk(p, n);
+    told(WALK, a.refusal, same_walk(a, plain_walk(p, n)));
+}
+
+static size_t listed(uint8_t *p, size_t n, AshlarTlv **list) {
+    size_t many = below(4) ? below(20) : below(1100);
+    *list = (AshlarTlv *)(lists.end - many * sizeof(AshlarTlv));
+    AshlarTlv *other = (AshlarTlv *)(expected.end - many * sizeof(AshlarTlv));
+    for (size_t i = 0; i < many * sizeof(AshlarTlv); i++) ((uint8_t *)*list)[i] = (uint8_t)any();
+    memcpy(other, *list, many * sizeof(AshlarTlv));
+    AshlarWalk a = ashlar_walk_into(*list, many, p, n), b = plain_walk_into(other, many, p, n);
+    bool same = same_walk(a, b);
+    for (size_t i = 0; i < many; i++) same &= (*list)[i].tlv_type == other[i].tlv_type && (*list)[i].length == other[i].length && (*list)[i].offset == other[i].offset;
+    told(WALK_INTO, a.refusal, same);
+    return many;
+}
+
+static void walk_into(void) {
+    AshlarTlv *list;
+    size_t n = below(4) ? below(64) : below(3000);
+    listed(bytes(n), n, &list);
+}
+
+static void read_kind(void) {
+    size_t n = below(4) ? below(40) : below(2000);
+    uint8_t *p = bytes(n), k = code();
+    AshlarKind a = ashlar_read_kind(k, p, n), b = plain_read_kind(k, p, n);
+    told(READ_KIND, a.refusal, a.entries == b.entries && a.consumed == b.consumed && a.rest == b.rest && a.is_list == b.is_list && a.refusal == b.refusal);
+}
+
+/* the list holds what a walk left, and behind it anything at all */
+static void find(void) {
+    AshlarTlv *list;
+    size_t n = below(4) ? below(64) : below(3000), many;
+    uint8_t *p = bytes(n), k = code();
+    many = listed(p, n, &list);
+    size_t from = below(4) ? 0 : below(3) ? below(20) : (size_t)any() << 32;
+    AshlarFound a = ashlar_find(list, many, p, n, k, from), b = plain_find(list, many, p, n, k, from);
+    told(FIND, a.refusal, a.place == b.place && a.entries == b.entries && a.consumed == b.consumed && a.rest == b.rest && a.is_list == b.is_list && a.refusal == b.refusal);
+}
+
+static void push(void) {
+    size_t n = below(8) ? below(40) : below(4) ? below(1493) : below(1600);
+    size_t kept = below(64) ? ASHLAR_STORE + below(2) : below(ASHLAR_STORE), space = below(3) ? 200 : below(6000);
+    uint8_t *p = bytes(n);
+    AshlarArrival a = {below(20), any() % 8000, {(uint16_t)(2 + !below(30)), (uint8_t)!below(40), (uint8_t)(below(20) ? below(4) : any()), !below(4)}};
+    uint8_t *out[2];
+    for (int i = 0; i < 2; i++) out[i] = outs[i].end - space;
+    AshlarPushed x = ashlar_push(&tables[0], stores[0].end - kept, kept, out[0], space, a, p, n);
+    AshlarPushed y = plain_push(&tables[1], stores[1].end - kept, kept, out[1], space, a, p, n);
+    bool same = x.length == y.length && x.answer == y.answer && x.refusal == y.refusal && !memcmp(&tables[0], &tables[1], sizeof tables[0]) && !memcmp(out[0], out[1], space);
+    if (!below(16)) same &= !memcmp(stores[0].end - kept, stores[1].end - kept, kept);
+    told(PUSH, x.refusal, same && x.answer <= ASHLAR_JOINED && (x.answer == ASHLAR_REFUSED) == (x.refusal != 0));
+    answers |= 1u << x.answer;
+    if (below(2)) x = (AshlarPushed){(size_t)any() >> below(48), (uint8_t)any(), (uint8_t)any()};
+    AshlarShown s = ashlar_show(x, p, n, out[0], space), t = plain_show(x, p, n, out[0], space);
+    told(SHOW, 0, s.length == t.length && s.in_output == t.in_output && s.length <= (s.in_output ? space : n));
+}
+
+static void sweep(void) {
+    uint64_t time = below(20) ? any() % 11000 : any() << 40;
+    AshlarCounts a = ashlar_sweep(&tables[0], time), b = plain_sweep(&tables[1], time);
+    told(SWEEP, 0, !memcmp(&a, &b, sizeof a) && !memcmp(&tables[0], &tables[1], sizeof tables[0]));
+}
+
+static void fresh(void) {
+    tables[0] = ashlar_fresh();
+    tables[1] = plain_fresh();
+}
+
+int main(int argc, char **argv) {
+    unsigned long many = argc > 1 ? strtoul(argv[1], 0, 10) : 20000, seed = argc > 2 ? strtoul(argv[2], 0, 10) : 1;
+    state = seed * 0x9E3779B97F4A7C15ull | 1;
+    payloads = room(PAGE), lists = room(1100 * sizeof(AshlarTlv)), expected = room(1100 * sizeof(AshlarTlv));
+    for (int i = 0; i < 2; i++) stores[i] = room(ASHLAR_STORE + 1), outs[i] = room(6000);
+    fresh();
+    for (unsigned long i = 0; i < many; i++) {
+        size_t which = below(100);
+        if (which < 10) walk();
+        else if (which < 20) walk_into();
+        else if (which < 35) read_kind();
+        else if (which < 50) find();
+        else if (which < 98) push();
+        else if (below(200)) sweep();
+        else fresh();
+    }
+    int failed = 0;
+    for (int k = 0; k < KINDS; k++) {
+        failed += wrong[k] != 0;
+        printf("%s ashlar_%s, %lu calls, %lu wrong, numbers", wrong[k] ? "FAILED" : "ok", names[k], calls[k], wrong[k]);
+        for (int n = 0; n <= 16; n++)
+            if (seen[k] >> n & 1) printf(" %d", n);
+        printf("\n");
+    }
+    bool all = answers == 0xff && seen[PUSH] == numbers[PUSH] && seen[FIND] == numbers[FIND] && seen[WALK_INTO] == numbers[WALK_INTO] && seen[READ_KIND] == numbers[READ_KIND];
+    printf("%s every number that a call can give came, and every answer of push\n", all ? "ok" : "FAILED");
+    return failed || !all;
+}
