@@ -1,0 +1,46 @@
+/* Finding over lists of records that no walk need have made: the cases are named, and what has to be answered is written from document 01. */
+#include "../bench/ashlar.h"
+#include <stdio.h>
+
+/* an association (kind 0x92) whose last byte is bad, one that joined, an end marker */
+static const uint8_t payload[] = {
+    0x92, 0x00, 0x0D, 2, 0, 0, 0, 0, 1, 2, 0, 0, 0, 0, 2, 0x81, /* at 0: does not read */
+    0x92, 0x00, 0x0D, 2, 0, 0, 0, 0, 1, 2, 0, 0, 0, 0, 2, 0x80, /* at 16: joined */
+    0x92, 0x00, 0x0D, 2, 0, 0, 0, 0, 1, 2, 0, 0, 0, 0, 2, 0x00, /* at 32: left */
+    0x00, 0x00, 0x00,                                           /* at 48: end of message */
+};
+static const AshlarTlv walked[] = {{0x92, 13, 0}, {0x92, 13, 16}, {0x92, 13, 32}, {0, 0, 48}};
+static int failed;
+
+static void finds(const char *name, const AshlarTlv *list, size_t n, uint8_t code, size_t from, size_t place, size_t consumed, uint8_t refusal) {
+    AshlarFound got = ashlar_find(list, n, payload, sizeof payload, code, from);
+    int good = got.refusal == refusal && (refusal != 0 || (got.place == place && got.consumed == consumed));
+    failed += !good;
+    printf("%s finding: %s\n", good ? "ok" : "FAILED", name);
+}
+
+int main(void) {
+    const AshlarTlv outside[] = {{0x92, 13, SIZE_MAX}, {0x92, 13, SIZE_MAX - 2}, {0x92, 13, SIZE_MAX - 15}, {0x92, 13, 51}, {0x92, 13, 36}, {0x92, 13, 16}};
+    const AshlarTlv past[] = {{0x92, 13, 35}, {0x92, 13, 36}};
+    const AshlarTlv longer[] = {{0x92, 13, 0}, {0x92, 13, 16}, {0x92, 13, 32}, {0, 0, 48}, {0x92, 13, 0}, {0x92, 13, 16}};
+    const AshlarTlv other[] = {{0x92, 14, 16}, {0x92, 12, 16}, {1, 6, 3}, {1, 5, 3}};
+
+    finds("an unreadable record before a readable one", walked, 4, 0x92, 0, 1, 13, 0);
+    finds("the next one behind it", walked, 4, 0x92, 2, 2, 13, 0);
+    finds("none behind the last", walked, 4, 0x92, 3, 0, 0, 15);
+    finds("none from the list's end, and from beyond it", walked, 4, 0x92, 4, 0, 0, 15);
+    finds("none from 2 to the 64 less 1", walked, 4, 0x92, SIZE_MAX, 0, 0, 15);
+    finds("records outside the payload are passed over, offsets near 2 to the 64 among them", outside, 6, 0x92, 0, 5, 13, 0);
+    finds("a value that ends with the payload is inside, if it reads", past, 1, 0x92, 0, 0, 13, 0);
+    finds("one that ends a byte past it is not", past + 1, 1, 0x92, 0, 0, 0, 15);
+    finds("an empty list", walked, 0, 0x92, 0, 0, 0, 15);
+    finds("a list longer than the walk's: entries behind are looked at like any other", longer, 6, 0x92, 4, 5, 13, 0);
+    finds("a kind 0 record at the payload's last three bytes", walked, 4, 0, 0, 3, 0, 0);
+    finds("the record's length decides, not the header's: 14 bytes leave one", other, 4, 0x92, 0, 0, 13, 0);
+    finds("and 12 bytes do not read", other + 1, 1, 0x92, 0, 0, 0, 15);
+    finds("the type is the record's, not the payload's", other + 2, 2, 1, 0, 0, 6, 0);
+    finds("no TLV of the kind", walked, 4, 23, 0, 0, 0, 15);
+    finds("a kind that is none of the 21", walked, 4, 3, 0, 0, 0, 16);
+    finds("that, with an empty list", walked, 0, 255, 0, 0, 0, 16);
+    return failed != 0;
+}
