@@ -1,5 +1,5 @@
 -- How the definitions of reading go on by one level and by one entry, in the code's numbers.
-use mathlib.Core.Path.{_≡_, refl, ap, _∙_}
+use mathlib.Core.Path.{_≡_, refl, sym, ap, _∙_}
 use mathlib.Core.Bool.{Bool, true, false, cond}
 use mathlib.Core.List.{List}
 use Prim.Native.Nat.{ℕ, zero, suc, _+_, _-_, _*_, _<_, _≤_}
@@ -12,7 +12,7 @@ use borrow.Author.Tests.{le-leb, lt-leb, leb-true}
 use Rattle.layouts.specs.declared.rows.Row.{Row}
 use Rattle.layouts.specs.declared.lists.End.{End}
 use Rattle.layouts.specs.declared.lists.End.the-variants.{At, Short}
-use Rattle.layouts.specs.declared.lists.Listing.the-variants.{Missing}
+use Rattle.layouts.specs.declared.lists.Listing.the-variants.{Of, Missing}
 use Rattle.layouts.specs.Layouts.{bytes, entry}
 use Rattle.layouts.specs.Reading.{thenEnd, thenList, headOf, countAt, listOf, entriesEnd, endOf}
 use Rattle.layouts.specs.Rows.{headAt, widthAt, counting, layoutAt}
@@ -51,10 +51,17 @@ unfolding listOf
 list-there row k s p f h = rw (layout-more row k f, le-leb (p + headAt row k) (length s) h, head-of row (k - 1))
 
 -- an entry ends in its list
-pub end-list : (row : Row) (k : ℕ) (s : List ℕ) (p : ℕ) → (k ≡ 0 → ⊥) →
+end-list : (row : Row) (k : ℕ) (s : List ℕ) (p : ℕ) → (k ≡ 0 → ⊥) →
     endOf (layoutAt row k) s p ≡ thenList (listOf (layoutAt row k) s p) (λ m q. entriesEnd (endOf (layoutAt row (k - 1)) s) m q)
 unfolding endOf
 end-list row k s p f = rw (layout-more row k f)
+
+pub end-there : (row : Row) (k : ℕ) (s : List ℕ) (p n q : ℕ) → (k ≡ 0 → ⊥) → listOf (layoutAt row k) s p ≡ Of n q →
+    entriesEnd (endOf (layoutAt row (k - 1)) s) n q ≡ endOf (layoutAt row k) s p
+end-there row k s p n q f e = sym (end-list row k s p f ∙ rw e)
+
+pub end-cut : (row : Row) (k : ℕ) (s : List ℕ) (p : ℕ) → (k ≡ 0 → ⊥) → listOf (layoutAt row k) s p ≡ Missing → Short ≡ endOf (layoutAt row k) s p
+end-cut row k s p f e = sym (end-list row k s p f ∙ rw e)
 
 pub end-zero : (row : Row) (k : ℕ) (s : List ℕ) (p : ℕ) → k ≡ 0 → endOf (layoutAt row k) s p ≡ entriesEnd (endOf (bytes (row .h0)) s) 1 p
 unfolding entriesEnd

@@ -2,12 +2,14 @@
 use mathlib.Core.Path.{_≡_, refl}
 use mathlib.Core.Bool.{Bool, true, false, cond}
 use mathlib.Core.List.{List, [], _∷_}
-use Prim.Native.Nat.{ℕ, zero, suc, _≤_}
+use Prim.Native.Nat.{ℕ, zero, suc, _<_, _≤_}
 use native.Mathlib.Omega.{arith}
 use lib.Dec.{eqb, leb, T, leb→le}
 use Rattle.numbers.specs.Numbers.{gives}
 use Rattle.layouts.specs.Layouts.{Counting, c1, c2, to-end, Layout, bytes, entry, Kind, Line, table, lineOf, layoutOf}
+use Rattle.layouts.specs.declared.rows.Row.{Row}
 use Rattle.layouts.specs.Reading.{refusesRest}
+use Rattle.layouts.specs.Rows.{layoutAt, kindOf}
 use Rattle.layouts.proofs.Local.{allCounted}
 
 abbrev holds : (Kind → Bool) → List Line → Bool
@@ -43,6 +45,14 @@ hasList (entry n w e) = true
 
 pub has-list : (code : ℕ) (k : Kind) → layoutOf code ≡ gives k → T (hasList (k .layout))
 has-list code k x = each (λ k. hasList (k .layout)) tt code k x
+
+above-leaf : (row : Row) (k : ℕ) → T (hasList (layoutAt row k)) → 0 < k
+unfolding layoutAt
+above-leaf row zero h = absurd h
+above-leaf row (suc k) h = omega arith
+
+pub row-levels : (code : ℕ) (row : Row) → layoutOf code ≡ gives (kindOf row) → 0 < row .levels
+row-levels code row x = above-leaf row (row .levels) (has-list code (kindOf row) x)
 
 -- a list goes to the end only where its entries are of one size, and not of none
 abbrev sized : Layout → Bool

@@ -9,7 +9,7 @@ ghost use mathlib.Core.Path.{_≡_};
 ghost use Prim.Native.Nat.{_-_, _*_, _<_, _≤_};
 ghost use lib.ListN.{length};
 ghost use Rattle.layouts.specs.Layouts.{bytes};
-ghost use Rattle.layouts.specs.Reading.{countAt, listOf, lengthOf, entriesEnd, endOf, readingOf, readAs};
+ghost use Rattle.layouts.specs.Reading.{countAt, listOf, entriesEnd, endOf, readingOf, readAs};
 ghost use Rattle.layouts.specs.Rows.{headAt, counting, layoutAt, kindOf, Few};
 
 // Where a part ends; Short where the bytes end inside it.
@@ -115,6 +115,18 @@ fn shallow_list(row: Row, n: usize, s: &[u8], at: usize) -> End
     End::At(p)
 }
 
+// Where the entry of level 2 that starts at `at` ends: the lists of the deepest kinds are of such entries, and each is read here without a call that comes back
+// to the two readers below.
+fn middle_entry(row: Row, s: &[u8], at: usize) -> End
+    requires { ⌜ at ≤ length (now s) ⌝ }
+    ensures { λ r. ⌜ r ≡ endOf (layoutAt row 2) (now (s .entry)) at ⌝ }
+{
+    match list_at(row, 2, s, at) {
+        Listing::Of { n, first } => shallow_list(row, n, s, first),
+        Listing::Missing => End::Short,
+    }
+}
+
 // Where n entries of level k end, the first of which starts at `at`. It goes over the entries in a loop, so that the stack grows with the levels alone.
 pub fn read_list(row: Row, k: u8, n: usize, s: &[u8], at: usize) -> End
     requires { ⌜ (at ≤ length (now s)) × (n * headAt row k < 9223372036854775808) ⌝ }
@@ -150,30 +162,26 @@ pub fn read_entry(row: Row, k: u8, s: &[u8], at: usize) -> End
     if k == 0 {
         return skip(wide(row.h0), 1, s, at);
     }
+    if k == 2 {
+        return middle_entry(row, s, at);
+    }
     match list_at(row, k, s, at) {
         Listing::Of { n, first } => read_list(row, k - 1, n, s, first),
         Listing::Missing => End::Short,
     }
 }
 
-// How many entries the value's own list has.
-fn top_entries(row: Row, s: &[u8]) -> usize
-    ensures { λ r. ⌜ r ≡ lengthOf (listOf (layoutAt row (row .levels)) (now (s .entry)) 0) ⌝ }
-{
-    match list_at(row, row.levels, s, 0) {
-        Listing::Of { n, first: _ } => n,
-        Listing::Missing => 0,
-    }
-}
-
-// The value of this row at the start of s.
+// The value of this row at the start of s. Its count is read once, for the answer and for its entries.
 pub fn read_row(row: Row, s: &[u8]) -> Reading
+    requires { ⌜ 0 < row .levels ⌝ }
     ensures { λ r. ⌜ readingOf r ≡ readAs (kindOf row) (now (s .entry)) ⌝ }
 {
-    let End::At(consumed) = read_entry(row, row.levels, s, 0) else {
+    let Listing::Of { n: entries, first } = list_at(row, row.levels, s, 0) else {
         return Reading::Refused(Refusal::CutShort);
     };
-    let entries = top_entries(row, s);
+    let End::At(consumed) = read_list(row, row.levels - 1, entries, s, first) else {
+        return Reading::Refused(Refusal::CutShort);
+    };
     let rest = s.len() - consumed;
     if row.strict {
         if 0 < rest {

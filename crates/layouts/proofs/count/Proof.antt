@@ -2,10 +2,12 @@
 use borrow.Author.Needs.{needs}
 use Rattle.layouts.proofs.count.Statement.{statement}
 use Rattle.layouts.proofs.count.Tie as tie
-use mathlib.Core.Path.{sym, _∙_}
+use mathlib.Core.Path.{_≡_, sym, _∙_}
+use Rattle.numbers.specs.Numbers.{gives}
 use Rattle.layouts.specs.Layouts.{layoutOf}
 use Rattle.layouts.specs.Rows.{kindOf}
 use Rattle.layouts.proofs.Answers.{then-gives, then-told}
+use Rattle.layouts.proofs.Table.{row-levels}
 use Rattle.layouts.specs.Access.{numbersOf, lengthAt, ofValue, countEntries}
 
 row-of-requires : tie.Need-row-of-requires
@@ -14,8 +16,12 @@ row-of-requires c κs = search needs
 enum-known-row : tie.Need-enum-known-row
 enum-known-row c = search needs
 
+-- the row that was found
+has : (c : tie.After-row) → layoutOf (c .before .before .before .before .args .code) ≡ gives (kindOf (c .row .given .0 .0))
+has c = sym (rw (c .row .given .1) at (c .before .before .row-of .ensures))
+
 count-in-requires : tie.Need-count-in-requires
-count-in-requires c κs = search needs
+count-in-requires c κs = let r = c .before in row-levels (r .before .before .before .before .args .code) (r .row .given .0 .0) (has r)
 
 enum-known-r : tie.Need-enum-known-r
 enum-known-r c = search needs
@@ -26,7 +32,7 @@ returns c =
     let d = c .before .before .before .before in
     let a = d .before .before .args in
     let g = c .before .before .row .given in
-    c .count-in .ensures ∙ then-gives (layoutOf (a .code)) (λ k. ofValue (λ l t. lengthAt l (numbersOf (a .path)) t) k (a .s .now)) (kindOf (g .0 .0)) (sym (rw (g .1) at (d .row-of .ensures)))
+    c .count-in .ensures ∙ then-gives (layoutOf (a .code)) (λ k. ofValue (λ l t. lengthAt l (numbersOf (a .path)) t) k (a .s .now)) (kindOf (g .0 .0)) (has (c .before .before))
 
 returns-2 : tie.Need-returns-2
 unfolding countEntries

@@ -9,6 +9,7 @@ use Rattle.layouts.proofs.lists.read_list.Reads as read-list
 use Rattle.layouts.proofs.lists.read_list.Kinds as read-list-kinds
 use Rattle.layouts.proofs.lists.+read_entry+read_list.Lts-read_list as read-list-lts
 use Rattle.layouts.proofs.lists.list_at.Reads as list-at-reads
+use Rattle.layouts.proofs.lists.middle_entry.Reads as middle-entry-reads
 use Rattle.layouts.proofs.lists.shallow_list.Reads as shallow-list-reads
 use Rattle.layouts.proofs.lists.skip.Reads as skip-reads
 use Rattle.layouts.proofs.rows.wide.Reads as wide-reads
@@ -18,8 +19,8 @@ use borrow.Author.Needs.{needs}
 use mathlib.Core.Path.{_≡_, sym, _∙_}
 use Rattle.layouts.specs.Rows.{layoutAt}
 use Rattle.layouts.specs.Reading.{listOf}
-use Rattle.layouts.specs.declared.lists.Listing.the-variants.{Of, Missing}
-use Rattle.layouts.proofs.Laws.{layout-zero, end-list, end-zero}
+use Rattle.layouts.specs.declared.lists.Listing.the-variants.{Of}
+use Rattle.layouts.proofs.Laws.{layout-zero, end-there, end-cut, end-zero}
 use Rattle.layouts.proofs.Within.{list-within}
 use Rattle.layouts.proofs.Loop.{Left, left-all, left-none, left-cut, left-more}
 
@@ -47,7 +48,7 @@ read-list-below t =
 -- what each reader may take from those that it calls
 abbrev entry-claims : ℕ → read-entry-lts.Claims
 entry-claims t =
-    (wide-reads.Asked, wide-reads.Learnt, skip-reads.Asked, skip-reads.Learnt, list-at-reads.Asked, list-at-reads.Learnt, read-list-below t, read-list.Post)
+    (wide-reads.Asked, wide-reads.Learnt, skip-reads.Asked, skip-reads.Learnt, middle-entry-reads.Asked, middle-entry-reads.Learnt, list-at-reads.Asked, list-at-reads.Learnt, read-list-below t, read-list.Post)
 
 abbrev list-claims : ℕ → read-list-lts.Claims
 list-claims t = (wide-reads.Asked, wide-reads.Learnt, skip-reads.Asked, skip-reads.Learnt, shallow-list-reads.Asked, shallow-list-reads.Learnt, read-entry-below t, read-entry.Post)
@@ -63,6 +64,12 @@ read-entry-returns t c =
     let a = c .before .before .before .before .args in
     c .skip .ensures ∙ rw (c .before .wide .ensures .0) (sym (end-zero (a .row) (a .k) (a .s .now) (a .at) (c .before .before .if1 .taken)))
 
+read-entry-middle-entry-requires : (t : ℕ) → read-entry-lts.Need-middle-entry-requires (entry-claims t) (read-entry-at t) read-entry.Post
+read-entry-middle-entry-requires t c κs = search needs
+
+read-entry-returns-2 : (t : ℕ) → read-entry-lts.Need-returns-2 (entry-claims t) (read-entry-at t) read-entry.Post
+read-entry-returns-2 t c = rw (c .before .if2 .taken) (c .middle-entry .ensures)
+
 read-entry-list-at-requires : (t : ℕ) → read-entry-lts.Need-list-at-requires (entry-claims t) (read-entry-at t) read-entry.Post
 read-entry-list-at-requires t c κs = search needs
 
@@ -75,7 +82,7 @@ read-entry-sub-read-list t c = search needs
 read-entry-read-list-requires : (t : ℕ) → read-entry-lts.Need-read-list-requires (entry-claims t) (read-entry-at t) read-entry.Post
 read-entry-read-list-requires t c κs =
     let d = c .before .before .before in
-    let a = d .before .before .before .args in
+    let a = d .before .before .before .before .args in
     let g = c .before .n .given in
     let e : listOf (layoutAt (a .row) (a .k)) (a .s .now) (a .at) ≡ Of (g .0 .0) (g .0 .1 .0) = cc (d .list-at .ensures .0, g .1) in
     let w = list-within (layoutAt (a .row) (a .k)) (a .s .now) (a .at) (g .0 .0) (g .0 .1 .0) e in
@@ -84,20 +91,19 @@ read-entry-read-list-requires t c κs =
 read-entry-enum-told : (t : ℕ) → read-entry-lts.Need-enum-told (entry-claims t) (read-entry-at t) read-entry.Post
 read-entry-enum-told t c = search needs
 
-read-entry-returns-2 : (t : ℕ) → read-entry-lts.Need-returns-2 (entry-claims t) (read-entry-at t) read-entry.Post
-read-entry-returns-2 t c =
-    let d = c .before .before .before .before in
-    let a = d .before .before .before .args in
-    let g = c .before .before .n .given in
-    let e : listOf (layoutAt (a .row) (a .k)) (a .s .now) (a .at) ≡ Of (g .0 .0) (g .0 .1 .0) = cc (d .list-at .ensures .0, g .1) in
-    c .read-list .ensures ∙ sym (end-list (a .row) (a .k) (a .s .now) (a .at) (d .before .if1 .left) ∙ rw e)
-
 read-entry-returns-3 : (t : ℕ) → read-entry-lts.Need-returns-3 (entry-claims t) (read-entry-at t) read-entry.Post
 read-entry-returns-3 t c =
+    let d = c .before .before .before .before in
+    let a = d .before .before .before .before .args in
+    let g = c .before .before .n .given in
+    let e : listOf (layoutAt (a .row) (a .k)) (a .s .now) (a .at) ≡ Of (g .0 .0) (g .0 .1 .0) = cc (d .list-at .ensures .0, g .1) in
+    c .read-list .ensures ∙ end-there (a .row) (a .k) (a .s .now) (a .at) (g .0 .0) (g .0 .1 .0) (d .before .before .if1 .left) e
+
+read-entry-returns-4 : (t : ℕ) → read-entry-lts.Need-returns-4 (entry-claims t) (read-entry-at t) read-entry.Post
+read-entry-returns-4 t c =
     let d = c .before .before in
-    let a = d .before .before .before .args in
-    let e : listOf (layoutAt (a .row) (a .k)) (a .s .now) (a .at) ≡ Missing = cc (d .list-at .ensures .0, c .enum-told .given .1) in
-    sym (end-list (a .row) (a .k) (a .s .now) (a .at) (d .before .if1 .left) ∙ rw e)
+    let a = d .before .before .before .before .args in
+    end-cut (a .row) (a .k) (a .s .now) (a .at) (d .before .before .if1 .left) (cc (d .list-at .ensures .0, c .enum-told .given .1))
 
 abbrev read-list-Inv-loop : read-list-lts.InvT-loop
 read-list-Inv-loop row k n s at p₀ i₀ p i = Left (layoutAt row k) s n at i p
@@ -174,13 +180,15 @@ pub +read-entry+read-list-spec : {M : Type 1} → statement M
     (read-entry-wide-requires t)
     (read-entry-skip-requires t)
     (read-entry-returns t)
+    (read-entry-middle-entry-requires t)
+    (read-entry-returns-2 t)
     (read-entry-list-at-requires t)
     (read-entry-enum-known-n t)
     (read-entry-sub-read-list t)
     (read-entry-read-list-requires t)
     (read-entry-enum-told t)
-    (read-entry-returns-2 t)
-    (read-entry-returns-3 t))
+    (read-entry-returns-3 t)
+    (read-entry-returns-4 t))
     λ t. read-list-lts.spec (list-claims t)
     (read-list-at t)
     read-list.Post
