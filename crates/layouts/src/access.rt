@@ -100,7 +100,7 @@ fn length_at(row: Row, path: Path, s: &[u8]) -> Counted
 }
 
 // The same two, of a value that has to read whole first.
-pub fn locate_in(row: Row, path: Path, s: &[u8]) -> Located
+pub(crate) fn locate_in(row: Row, path: Path, s: &[u8]) -> Located
     requires { ⌜ 0 < row .levels ⌝ }
     ensures { λ r. ⌜ locatedOf r ≡ ofValue (λ l t. spanOf l (numbersOf path) t) (kindOf row) (now (s .entry)) ⌝ }
 {
@@ -114,7 +114,7 @@ pub fn locate_in(row: Row, path: Path, s: &[u8]) -> Located
     }
 }
 
-pub fn count_in(row: Row, path: Path, s: &[u8]) -> Counted
+pub(crate) fn count_in(row: Row, path: Path, s: &[u8]) -> Counted
     requires { ⌜ 0 < row .levels ⌝ }
     ensures { λ r. ⌜ countedOf r ≡ ofValue (λ l t. lengthAt l (numbersOf path) t) (kindOf row) (now (s .entry)) ⌝ }
 {

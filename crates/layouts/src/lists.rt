@@ -25,7 +25,7 @@ pub enum Listing {
 }
 
 // The list at `at` whose count has w bytes, of entries with heads of h bytes.
-pub fn count_at(w: u8, h: usize, s: &[u8], at: usize) -> Listing
+fn count_at(w: u8, h: usize, s: &[u8], at: usize) -> Listing
     requires { ⌜ (at ≤ length (now s)) × (h < 256) ⌝ }
     ensures { λ r. ⌜ (r ≡ countAt (counting w) h (now (s .entry)) at) × Few h r ⌝ }
 {
@@ -57,7 +57,7 @@ pub fn count_at(w: u8, h: usize, s: &[u8], at: usize) -> Listing
 }
 
 // The list of the entry of level k that starts at `at`: it stands behind the entry's head.
-pub fn list_at(row: Row, k: u8, s: &[u8], at: usize) -> Listing
+pub(crate) fn list_at(row: Row, k: u8, s: &[u8], at: usize) -> Listing
     requires { ⌜ at ≤ length (now s) ⌝ }
     ensures { λ r. ⌜ (r ≡ listOf (layoutAt row k) (now (s .entry)) at) × Few (headAt row (k - 1)) r ⌝ }
 {
@@ -72,7 +72,7 @@ pub fn list_at(row: Row, k: u8, s: &[u8], at: usize) -> Listing
 }
 
 // Where n entries of h bytes each end: no need to look at them.
-pub fn skip(h: usize, n: usize, s: &[u8], at: usize) -> End
+fn skip(h: usize, n: usize, s: &[u8], at: usize) -> End
     requires { ⌜ (at ≤ length (now s)) × (n * h < 9223372036854775808) ⌝ }
     ensures { λ r. ⌜ r ≡ entriesEnd (endOf (bytes h) (now (s .entry))) n at ⌝ }
 {
@@ -128,7 +128,7 @@ fn middle_entry(row: Row, s: &[u8], at: usize) -> End
 }
 
 // Where n entries of level k end, the first of which starts at `at`. It goes over the entries in a loop, so that the stack grows with the levels alone.
-pub fn read_list(row: Row, k: u8, n: usize, s: &[u8], at: usize) -> End
+pub(crate) fn read_list(row: Row, k: u8, n: usize, s: &[u8], at: usize) -> End
     requires { ⌜ (at ≤ length (now s)) × (n * headAt row k < 9223372036854775808) ⌝ }
     ensures { λ r. ⌜ r ≡ entriesEnd (endOf (layoutAt row k) (now (s .entry))) n at ⌝ }
 {
@@ -155,7 +155,7 @@ pub fn read_list(row: Row, k: u8, n: usize, s: &[u8], at: usize) -> End
 }
 
 // Where the entry of level k that starts at `at` ends: in the list of the level below, if it has one.
-pub fn read_entry(row: Row, k: u8, s: &[u8], at: usize) -> End
+pub(crate) fn read_entry(row: Row, k: u8, s: &[u8], at: usize) -> End
     requires { ⌜ at ≤ length (now s) ⌝ }
     ensures { λ r. ⌜ r ≡ endOf (layoutAt row k) (now (s .entry)) at ⌝ }
 {
@@ -172,7 +172,7 @@ pub fn read_entry(row: Row, k: u8, s: &[u8], at: usize) -> End
 }
 
 // The value of this row at the start of s. Its count is read once, for the answer and for its entries.
-pub fn read_row(row: Row, s: &[u8]) -> Reading
+pub(crate) fn read_row(row: Row, s: &[u8]) -> Reading
     requires { ⌜ 0 < row .levels ⌝ }
     ensures { λ r. ⌜ readingOf r ≡ readAs (kindOf row) (now (s .entry)) ⌝ }
 {

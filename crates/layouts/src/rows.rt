@@ -75,7 +75,7 @@ fn three(h3: u8, w2: u8, h2: u8, w1: u8, h1: u8, w0: u8, h0: u8, strict: bool) -
 }
 
 // The row of the list kind with this code.
-pub fn row_of(code: u8) -> KindRow
+pub(crate) fn row_of(code: u8) -> KindRow
     ensures { λ r. ⌜ rowOf r ≡ layoutOf code ⌝ }
 {
     match code {
@@ -101,14 +101,14 @@ pub fn row_of(code: u8) -> KindRow
     }
 }
 
-pub fn wide(x: u8) -> usize
+pub(crate) fn wide(x: u8) -> usize
     ensures { λ r. ⌜ (r ≡ x) × (r < 256) ⌝ }
 {
     x as usize
 }
 
 // The bytes at the head of an entry of level k.
-pub fn head_at(row: Row, k: u8) -> usize
+pub(crate) fn head_at(row: Row, k: u8) -> usize
     ensures { λ r. ⌜ (r ≡ headAt row k) × (r < 256) ⌝ }
 {
     if k == 0 {
@@ -124,7 +124,7 @@ pub fn head_at(row: Row, k: u8) -> usize
 }
 
 // The bytes of the count of a list of entries of level k.
-pub fn width_at(row: Row, k: u8) -> u8
+pub(crate) fn width_at(row: Row, k: u8) -> u8
     ensures { λ r. ⌜ r ≡ widthAt row k ⌝ }
 {
     if k == 0 {
