@@ -26,7 +26,7 @@ read-list-requires c κs =
     let d = c .before .before .before .before in
     let a = d .before .before .args in
     let g = c .before .before .n .given in
-    let e : listOf (layoutAt (a .row) (a .k)) (a .s .now) (a .p) ≡ Of (g .0 .0) (g .0 .1 .0) = cc (d .list-at .ensures .0, g .1) in
+    let e : listOf (layoutAt (a .row) (a .k)) (a .s .now) (a .p) ≡ Of (g .0 .0) (g .0 .1 .0) = sym (d .list-at .ensures .0) ∙ g .1 in
     let w = list-within (layoutAt (a .row) (a .k)) (a .s .now) (a .p) (g .0 .0) (g .0 .1 .0) e in
     (w .1, fewer (a .i) (g .0 .0) (headAt (a .row) (a .k - 1)) (search needs) (rw (g .1) at (d .list-at .ensures .1)))
 
@@ -35,7 +35,7 @@ returns c =
     let d = c .before .before .before .before .before in
     let a = d .before .before .args in
     let g = c .before .before .before .n .given in
-    let e : listOf (layoutAt (a .row) (a .k)) (a .s .now) (a .p) ≡ Of (g .0 .0) (g .0 .1 .0) = cc (d .list-at .ensures .0, g .1) in
+    let e : listOf (layoutAt (a .row) (a .k)) (a .s .now) (a .p) ≡ Of (g .0 .0) (g .0 .1 .0) = sym (d .list-at .ensures .0) ∙ g .1 in
     let down = below-row (a .row) (a .k) (omega arith) in
     c .read-list .ensures ∙ sym (rw down at (child-there (layoutAt (a .row) (a .k)) (a .i) (a .s .now) (a .p) (g .0 .0) (g .0 .1 .0) e (c .before .if1 .taken)))
 
@@ -47,14 +47,14 @@ returns-2 c =
     let d = c .before .before .before .before in
     let a = d .before .before .args in
     let g = c .before .before .n .given in
-    let e : listOf (layoutAt (a .row) (a .k)) (a .s .now) (a .p) ≡ Of (g .0 .0) (g .0 .1 .0) = cc (d .list-at .ensures .0, g .1) in
+    let e : listOf (layoutAt (a .row) (a .k)) (a .s .now) (a .p) ≡ Of (g .0 .0) (g .0 .1 .0) = sym (d .list-at .ensures .0) ∙ g .1 in
     sym (child-past (layoutAt (a .row) (a .k)) (a .i) (a .s .now) (a .p) (g .0 .0) (g .0 .1 .0) e (c .if1 .left))
 
 returns-3 : tie.Need-returns-3
 returns-3 c =
     let d = c .before .before in
     let a = d .before .before .args in
-    sym (child-none (layoutAt (a .row) (a .k)) (a .i) (a .s .now) (a .p) (cc (d .list-at .ensures .0, c .enum-told .given .1)))
+    sym (child-none (layoutAt (a .row) (a .k)) (a .i) (a .s .now) (a .p) (sym (d .list-at .ensures .0) ∙ c .enum-told .given .1))
 
 pub child-spec : {M : Type 1} → statement M
 child-spec =

@@ -48,7 +48,7 @@ returns-2 c =
     let v = l .loop in
     let more = numbers-more (v .left) (v .i0) (v .i1) (v .i2) (c .before .before .before .before .loop-test .taken) in
     let is = numbers (v .left - 1) (v .i1) (v .i2) 0 in
-    let e : childAt (layoutAt row (v .k)) (v .i0) s (v .at) ≡ Short = cc (c .before .before .child .ensures, c .enum-told .given .1) in
+    let e : childAt (layoutAt row (v .k)) (v .i0) s (v .at) ≡ Short = sym (c .before .before .child .ensures) ∙ c .enum-told .given .1 in
     sym (v .inv .1 ∙ rw more (find-stop (layoutAt row (v .k)) (v .i0) is s (v .at) e))
 
 sub-k : tie.Need-sub-k Inv-loop μ-loop
@@ -69,7 +69,7 @@ loop-again c =
     let more = numbers-more (v .left) (v .i0) (v .i1) (v .i2) (c .before .before .before .before .before .loop-test .taken) in
     let is = numbers (v .left - 1) (v .i1) (v .i2) 0 in
     let q = c .before .q .given .0 .0 in
-    let e : childAt (layoutAt row (v .k)) (v .i0) s (v .at) ≡ At q = cc (c .before .before .before .child .ensures, c .before .q .given .1) in
+    let e : childAt (layoutAt row (v .k)) (v .i0) s (v .at) ≡ At q = sym (c .before .before .before .child .ensures) ∙ c .before .q .given .1 in
     let down = below-row row (v .k) (c .before .before .before .before .if1 .left) in (
       child-within (layoutAt row (v .k)) (v .i0) s (v .at) q e .1,
       v .inv .1 ∙ rw more (rw down at (find-on (layoutAt row (v .k)) (v .i0) is s (v .at) q e)),

@@ -2,7 +2,7 @@
 use borrow.Author.Needs.{needs}
 use Rattle.layouts.proofs.access.length_at.Statement.{statement}
 use Rattle.layouts.proofs.access.length_at.Tie as tie
-use mathlib.Core.Path.{_≡_, sym}
+use mathlib.Core.Path.{_≡_, sym, _∙_}
 use Rattle.layouts.specs.Access.{numbersOf, findEntry, found, nowhere, lengthAt}
 use Rattle.layouts.specs.declared.lists.Listing.the-variants.{Of as Counts, Missing}
 use Rattle.layouts.specs.Reading.{listOf}
@@ -54,7 +54,7 @@ returns-2 c =
     let g = c .before .before .before .before .before .k .given in
     let h = c .before .n .given in
     let e : findEntry l is (a .s .now) 0 ≡ found (layoutAt (a .row) (g .0 .0)) (g .0 .1 .0) = sym (rw (g .1) at (f .find-entry .ensures)) in
-    let b : listOf (layoutAt (a .row) (g .0 .0)) (a .s .now) (g .0 .1 .0) ≡ Counts (h .0 .0) (h .0 .1 .0) = cc (c .before .before .before .list-at .ensures .0, h .1) in
+    let b : listOf (layoutAt (a .row) (g .0 .0)) (a .s .now) (g .0 .1 .0) ≡ Counts (h .0 .0) (h .0 .1 .0) = sym (c .before .before .before .list-at .ensures .0) ∙ h .1 in
     rw (e, b)
 
 returns-3 : tie.Need-returns-3
@@ -66,7 +66,7 @@ returns-3 c =
     let l = layoutAt (a .row) (a .row .levels) in
     let g = c .before .before .before .before .k .given in
     let e : findEntry l is (a .s .now) 0 ≡ found (layoutAt (a .row) (g .0 .0)) (g .0 .1 .0) = sym (rw (g .1) at (f .find-entry .ensures)) in
-    let b : listOf (layoutAt (a .row) (g .0 .0)) (a .s .now) (g .0 .1 .0) ≡ Missing = cc (c .before .before .list-at .ensures .0, c .enum-told2 .given .1) in
+    let b : listOf (layoutAt (a .row) (g .0 .0)) (a .s .now) (g .0 .1 .0) ≡ Missing = sym (c .before .before .list-at .ensures .0) ∙ c .enum-told2 .given .1 in
     rw (e, b)
 
 pub length-at-spec : {M : Type 1} → statement M

@@ -62,7 +62,7 @@ returns-3 c =
     let some = span-some l (p .depth) (p .i0) (p .i1) (p .i2) (a .s .now) (f .before .if1 .left) in
     let g = c .before .before .before .before .k .given in
     let e : findEntry l is (a .s .now) 0 ≡ found (layoutAt (a .row) (g .0 .0)) (g .0 .1 .0) = sym (rw (g .1) at (f .find-entry .ensures)) in
-    let b : endOf (layoutAt (a .row) (g .0 .0)) (a .s .now) (g .0 .1 .0) ≡ Short = cc (c .before .before .read-entry .ensures, c .enum-told2 .given .1) in
+    let b : endOf (layoutAt (a .row) (g .0 .0)) (a .s .now) (g .0 .1 .0) ≡ Short = sym (c .before .before .read-entry .ensures) ∙ c .enum-told2 .given .1 in
     sym (some ∙ rw (e, b))
 
 returns-4 : tie.Need-returns-4
@@ -76,7 +76,7 @@ returns-4 c =
     let g = c .before .before .before .before .before .k .given in
     let h = c .before .end .given in
     let e : findEntry l is (a .s .now) 0 ≡ found (layoutAt (a .row) (g .0 .0)) (g .0 .1 .0) = sym (rw (g .1) at (f .find-entry .ensures)) in
-    let b : endOf (layoutAt (a .row) (g .0 .0)) (a .s .now) (g .0 .1 .0) ≡ At (h .0 .0) = cc (c .before .before .before .read-entry .ensures, h .1) in
+    let b : endOf (layoutAt (a .row) (g .0 .0)) (a .s .now) (g .0 .1 .0) ≡ At (h .0 .0) = sym (c .before .before .before .read-entry .ensures) ∙ h .1 in
     sym (some ∙ rw (e, b))
 
 pub span-of-spec : {M : Type 1} → statement M

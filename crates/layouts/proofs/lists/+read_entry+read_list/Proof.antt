@@ -84,7 +84,7 @@ read-entry-read-list-requires t c κs =
     let d = c .before .before .before in
     let a = d .before .before .before .before .args in
     let g = c .before .n .given in
-    let e : listOf (layoutAt (a .row) (a .k)) (a .s .now) (a .at) ≡ Of (g .0 .0) (g .0 .1 .0) = cc (d .list-at .ensures .0, g .1) in
+    let e : listOf (layoutAt (a .row) (a .k)) (a .s .now) (a .at) ≡ Of (g .0 .0) (g .0 .1 .0) = sym (d .list-at .ensures .0) ∙ g .1 in
     let w = list-within (layoutAt (a .row) (a .k)) (a .s .now) (a .at) (g .0 .0) (g .0 .1 .0) e in
     (search needs, (w .1, rw (g .1) at (d .list-at .ensures .1)))
 
@@ -96,14 +96,14 @@ read-entry-returns-3 t c =
     let d = c .before .before .before .before in
     let a = d .before .before .before .before .args in
     let g = c .before .before .n .given in
-    let e : listOf (layoutAt (a .row) (a .k)) (a .s .now) (a .at) ≡ Of (g .0 .0) (g .0 .1 .0) = cc (d .list-at .ensures .0, g .1) in
+    let e : listOf (layoutAt (a .row) (a .k)) (a .s .now) (a .at) ≡ Of (g .0 .0) (g .0 .1 .0) = sym (d .list-at .ensures .0) ∙ g .1 in
     c .read-list .ensures ∙ end-there (a .row) (a .k) (a .s .now) (a .at) (g .0 .0) (g .0 .1 .0) (d .before .before .if1 .left) e
 
 read-entry-returns-4 : (t : ℕ) → read-entry-lts.Need-returns-4 (entry-claims t) (read-entry-at t) read-entry.Post
 read-entry-returns-4 t c =
     let d = c .before .before in
     let a = d .before .before .before .before .args in
-    end-cut (a .row) (a .k) (a .s .now) (a .at) (d .before .before .if1 .left) (cc (d .list-at .ensures .0, c .enum-told .given .1))
+    end-cut (a .row) (a .k) (a .s .now) (a .at) (d .before .before .if1 .left) (sym (d .list-at .ensures .0) ∙ c .enum-told .given .1)
 
 abbrev read-list-Inv-loop : read-list-lts.InvT-loop
 read-list-Inv-loop row k n s at p₀ i₀ p i = Left (layoutAt row k) s n at i p
@@ -148,7 +148,7 @@ read-list-returns-3 t c =
     let a = l .before .before .before .before .args in
     let v = l .loop in
     let w = layoutAt (a .row) (a .k) in
-    left-cut w (a .s .now) (a .n) (a .at) (v .i) (v .p) (v .inv) (c .before .before .before .loop-test .taken) (cc (c .before .before .read-entry .ensures, c .enum-told .given .1))
+    left-cut w (a .s .now) (a .n) (a .at) (v .i) (v .p) (v .inv) (c .before .before .before .loop-test .taken) (sym (c .before .before .read-entry .ensures) ∙ c .enum-told .given .1)
 
 read-list-add-i : (t : ℕ) → read-list-lts.Need-add-i (list-claims t) (read-list-at t) read-list.Post read-list-Inv-loop read-list-μ-loop
 read-list-add-i t c = search needs
@@ -163,7 +163,7 @@ read-list-loop-again t c =
     let v = l .loop in
     let w = layoutAt (a .row) (a .k) in
     let g = c .before .q .given in
-    left-more w (a .s .now) (a .n) (a .at) (v .i) (v .p) (v .inv) (g .0 .0) (c .before .before .before .before .loop-test .taken) (cc (c .before .before .before .read-entry .ensures, g .1))
+    left-more w (a .s .now) (a .n) (a .at) (v .i) (v .p) (v .inv) (g .0 .0) (c .before .before .before .before .loop-test .taken) (sym (c .before .before .before .read-entry .ensures) ∙ g .1)
 
 read-list-returns-4 : (t : ℕ) → read-list-lts.Need-returns-4 (list-claims t) (read-list-at t) read-list.Post read-list-Inv-loop read-list-μ-loop
 read-list-returns-4 t c =

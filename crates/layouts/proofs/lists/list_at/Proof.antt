@@ -3,7 +3,7 @@ use borrow.Author.Needs.{needs}
 use Rattle.layouts.proofs.lists.list_at.Statement.{statement}
 use Rattle.layouts.proofs.lists.list_at.Tie as tie
 use native.Mathlib.Omega.{arith}
-use mathlib.Core.Path.{sym}
+use mathlib.Core.Path.{sym, _∙_}
 use lib.ListN.{length}
 use Prim.Native.Nat.{_+_, _-_, _≤_, _<_}
 use Rattle.layouts.specs.Rows.{headAt}
@@ -50,7 +50,7 @@ returns-3 c =
     let h = b .before .head-at .ensures in
     let l : a .at + headAt (a .row) (a .k) ≤ length (a .s .now) = omega arith in
     let there = list-there (a .row) (a .k) (a .s .now) (a .at) (b .before .before .if1 .left) l in (
-      cc (c .count-at .ensures .0, c .before .head-at2 .ensures .0, c .before .before .width-at .ensures, h .0, there),
+      c .count-at .ensures .0 ∙ rw (c .before .head-at2 .ensures .0, c .before .before .width-at .ensures, h .0) (sym there),
       rw (← (c .before .head-at2 .ensures .0)) (c .count-at .ensures .1),
     )
 

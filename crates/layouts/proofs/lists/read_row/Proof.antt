@@ -24,7 +24,7 @@ returns : tie.Need-returns
 returns c =
     let d = c .before .before in
     let a = d .before .before .args in
-    read-short (kindOf (a .row)) (a .s .now) (sym (end-cut (a .row) (a .row .levels) (a .s .now) 0 (search needs) (cc (d .list-at .ensures .0, c .enum-told .given .1))))
+    read-short (kindOf (a .row)) (a .s .now) (sym (end-cut (a .row) (a .row .levels) (a .s .now) 0 (search needs) (sym (d .list-at .ensures .0) ∙ c .enum-told .given .1)))
 
 sub-read-list : tie.Need-sub-read-list
 sub-read-list c = search needs
@@ -33,7 +33,7 @@ sub-read-list c = search needs
 has : (c : tie.After-entries) →
     let a = c .before .before .before .before .args in
     listOf (layoutAt (a .row) (a .row .levels)) (a .s .now) 0 ≡ Of (c .entries .given .0 .0) (c .entries .given .0 .1 .0)
-has c = cc (c .before .before .list-at .ensures .0, c .entries .given .1)
+has c = sym (c .before .before .list-at .ensures .0) ∙ c .entries .given .1
 
 read-list-requires : tie.Need-read-list-requires
 read-list-requires c κs =
@@ -62,35 +62,35 @@ returns-2 : tie.Need-returns-2
 returns-2 c =
     let r = c .before .before in
     let a = r .before .before .before .before .before .before .before .args in
-    read-short (kindOf (a .row)) (a .s .now) (cc (ends r, c .enum-told2 .given .1))
+    read-short (kindOf (a .row)) (a .s .now) (ends r ∙ c .enum-told2 .given .1)
 
 sub-rest : tie.Need-sub-rest
 sub-rest c =
     let r = c .before .before .before in
     let a = r .before .before .before .before .before .before .before .args in
     let g = c .before .consumed .given in
-    end-within (layoutAt (a .row) (a .row .levels)) (a .s .now) 0 (g .0 .0) (cc (ends r, g .1)) .1
+    end-within (layoutAt (a .row) (a .row .levels)) (a .s .now) 0 (g .0 .0) (ends r ∙ g .1) .1
 
 returns-3 : tie.Need-returns-3
 returns-3 c =
     let r = c .before .before .before .before .before in
     let a = r .before .before .before .before .before .before .before .args in
     let g = c .before .before .before .consumed .given in
-    read-left (kindOf (a .row)) (a .s .now) (g .0 .0) (cc (ends r, g .1)) (rw (c .before .if1 .taken)) (omega arith)
+    read-left (kindOf (a .row)) (a .s .now) (g .0 .0) (ends r ∙ g .1) (rw (c .before .if1 .taken)) (omega arith)
 
 returns-4 : tie.Need-returns-4
 returns-4 c =
     let r = c .before .before .before .before .before in
     let a = r .before .before .before .before .before .before .before .args in
     let g = c .before .before .before .consumed .given in
-    rw (has (r .before .before .before)) at (read-whole (kindOf (a .row)) (a .s .now) (g .0 .0) (cc (ends r, g .1)) (omega arith))
+    rw (has (r .before .before .before)) at (read-whole (kindOf (a .row)) (a .s .now) (g .0 .0) (ends r ∙ g .1) (omega arith))
 
 returns-5 : tie.Need-returns-5
 returns-5 c =
     let r = c .before .before .before .before in
     let a = r .before .before .before .before .before .before .before .args in
     let g = c .before .before .consumed .given in
-    rw (has (r .before .before .before)) at (read-rest (kindOf (a .row)) (a .s .now) (g .0 .0) (cc (ends r, g .1)) (rw (c .if1 .left)))
+    rw (has (r .before .before .before)) at (read-rest (kindOf (a .row)) (a .s .now) (g .0 .0) (ends r ∙ g .1) (rw (c .if1 .left)))
 
 pub read-row-spec : {M : Type 1} → statement M
 read-row-spec =

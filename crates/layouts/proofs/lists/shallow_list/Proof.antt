@@ -5,6 +5,7 @@ use borrow.Author.Needs.{needs}
 use Prim.Native.Nat.{_-_}
 use Rattle.layouts.specs.Rows.{layoutAt}
 use Rattle.layouts.proofs.Loop.{Left, left-all, left-none, left-cut, left-more}
+use mathlib.Core.Path.{sym, _∙_}
 
 abbrev Inv-loop : tie.InvT-loop
 Inv-loop row n s at p₀ read₀ p read = Left (layoutAt row 1) s n at read p
@@ -30,7 +31,7 @@ returns c =
     let a = l .before .before .args in
     let v = l .loop in
     let w = layoutAt (a .row) 1 in
-    left-cut w (a .s .now) (a .n) (a .at) (v .read) (v .p) (v .inv) (c .before .before .before .loop-test .taken) (cc (c .before .before .shallow-entry .ensures, c .enum-told .given .1))
+    left-cut w (a .s .now) (a .n) (a .at) (v .read) (v .p) (v .inv) (c .before .before .before .loop-test .taken) (sym (c .before .before .shallow-entry .ensures) ∙ c .enum-told .given .1)
 
 add-read : tie.Need-add-read Inv-loop μ-loop
 add-read c = search needs
@@ -45,7 +46,7 @@ loop-again c =
     let v = l .loop in
     let w = layoutAt (a .row) 1 in
     let g = c .before .q .given in
-    left-more w (a .s .now) (a .n) (a .at) (v .read) (v .p) (v .inv) (g .0 .0) (c .before .before .before .before .loop-test .taken) (cc (c .before .before .before .shallow-entry .ensures, g .1))
+    left-more w (a .s .now) (a .n) (a .at) (v .read) (v .p) (v .inv) (g .0 .0) (c .before .before .before .before .loop-test .taken) (sym (c .before .before .before .shallow-entry .ensures) ∙ g .1)
 
 returns-2 : tie.Need-returns-2 Inv-loop μ-loop
 returns-2 c =
