@@ -1,4 +1,10 @@
-/* The exported calls as C sees them. A slice is a pointer and a length; an empty one may have any pointer that is not null.
+/* The exported calls as C sees them. Every call takes any bytes, lengths and numbers, and refuses by document 01's number. What it can't see is expected of
+   the caller, as a Rust compiler would see to it:
+   - a slice is a pointer and the length of what lies there; an empty one may have any pointer that is not null;
+   - what is lent to be written (list, store, out, table) overlaps nothing else that is lent to the same call;
+   - pointers are aligned as their types are, and a bool is 0 or 1;
+   - a table is one that ashlar_fresh, ashlar_push and ashlar_sweep made, and its store is written by ashlar_push alone.
+   A key is the sender's six bytes as a number, first byte highest, times 65,536, plus the message id. Times are milliseconds.
    CALL(name) is ashlar_name, or plain_name of plain.c where PLAIN is defined; included twice, with and without, it declares both. */
 #ifndef ASHLAR_H
 #define ASHLAR_H

@@ -37,13 +37,9 @@ header-one (HeaderRead.Refused r) (HeaderRead.Refused r′) e = ap HeaderRead.Re
 pub read-tlv-firm : (s : List ℕ) (a b : Read) → readOf a ≡ readTlv s → readOf b ≡ readTlv s → a ≡ b
 read-tlv-firm s a b p q = read-one a b (p ∙ sym q)
 
--- a writing call: the answer; what the buffer holds is an equation by itself
+-- a writing call: the answer; what the buffer holds is an equation by itself, as a part that is returned is (numbers' equal-firm)
 pub write-firm : (defined : Answer ℕ) (a b : Written) → writtenOf a ≡ defined → writtenOf b ≡ defined → a ≡ b
 write-firm defined a b p q = written-one a b (p ∙ sym q)
 
 pub read-header-firm : (s : List ℕ) (a b : HeaderRead) → headerOf a ≡ readHeader s → headerOf b ≡ readHeader s → a ≡ b
 read-header-firm s a b p q = header-one a b (p ∙ sym q)
-
--- a part that is returned, and a buffer that was lent: two lists that equal one definition
-pub list-firm : (defined a b : List ℕ) → a ≡ defined → b ≡ defined → a ≡ b
-list-firm defined a b p q = p ∙ sym q

@@ -1,4 +1,4 @@
--- What a row of the code's table says: the layout whose heads and counts it holds.
+-- What a row of the code's table says: the layout whose heads and counts it holds. No contract of a public call cites this file.
 use mathlib.Core.Bool.{Bool, true, false, cond}
 use Prim.Native.Nat.{ℕ, zero, suc, _*_, _<_}
 use lib.Dec.{eqb}

@@ -1,4 +1,4 @@
--- Two refusals that document 01 tells alike are one.
+-- How firm an answer is: what a contract says by an equation alone is one thing, and two refusals that document 01 tells alike are one.
 use mathlib.Core.Path.{_≡_, refl, sym, ap, _∙_}
 use mathlib.Core.List.{List, [], _∷_}
 use Prim.Native.Nat.{ℕ}
@@ -39,3 +39,7 @@ firm A a b e = firm-numbered a b (cc) (cc)
 -- what is given is no refusal
 pub never : {A B : Type 0} (a : A) (n : ℕ) (vs : List ℕ) → gives a ≡ refuses n vs → B
 never a n vs e = let z : _≡_ {A = ℕ} 0 1 = cc in absurd (omega arith)
+
+-- a number, a part that is returned, a list or a table that was lent: two that a contract says to equal one definition are one
+pub equal-firm : {A : Type 0} (defined a b : A) → a ≡ defined → b ≡ defined → a ≡ b
+equal-firm defined a b p q = p ∙ sym q

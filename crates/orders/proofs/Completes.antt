@@ -248,7 +248,7 @@ pub fresh-completes : (m : Message) (bring : ℕ → Push) (order : List ℕ) (s
     → Completes m bring order (start store)
 fresh-completes m bring order store long = completes m bring order (start store) byFresh long (fresh-holds store fresh-sound (m .key)) (fresh-room m)
 
--- and among any other calls, by the story told alone: if these are what is left of the key's calls, they are answered so
+-- and among pushes under other keys, by the story told alone: if these are all that is left of the key's calls and the run's sweeps, they are answered so
 pub completes-among : (m : Message) (bring : ℕ → Push) (order : List ℕ) (store : List ℕ) (others : List Call) → 47744 ≤ length store
     → ((k : ℕ) → k ≤ m .final → Brings m k (bring k)) → Ordering m order → (1 ≤ m .final → length (whole m) ≤ bring (m .final) .room)
     → mine (m .key) (crossed (start store) others) ≡ calls m bring order
