@@ -83,9 +83,6 @@ module _ (code : ℕ) (s : List ℕ) where
       as-list (layouts.layoutOf code) refl _
       ∙ ap (λ (b : Bool). cond (isGiven (layouts.layoutOf code)) true b) (as-record (records.withCode code kinds) refl)
 
-  -- what reads is of a kind, and a kind whose value is refused by 16 is none
+  -- what reads is of a kind
   pub reads-a-kind : (t : Typed) → gives t ≡ readKind code s → true ≡ isKind code
   reads-a-kind t e = ap not16 e ∙ among
-
-  pub refused-by : (n : ℕ) (vs : List ℕ) → refuses n vs ≡ readKind code s → not (eqb n 16) ≡ isKind code
-  refused-by n vs e = ap not16 e ∙ among

@@ -31,9 +31,6 @@ module _ (code : ℕ) (payload : List ℕ) (t : Tlv) where
   part = let e : t .offset + 3 + t .length - (t .offset + 3) ≡ t .length = omega arith in rw e
 
   module _ (place : ℕ) (behind : Answer Hit) where
-    pub hit : (r : Typed) → gives r ≡ readsAs code payload t → gives (record { place = place; tlv = t; reading = r }) ≡ thereOr (readsAs code payload t) place t behind
-    hit r e = rw (← e)
-
     pub miss : (n : ℕ) (vs : List ℕ) → refuses n vs ≡ readsAs code payload t → behind ≡ thereOr (readsAs code payload t) place t behind
     miss n vs e = rw (← e)
 

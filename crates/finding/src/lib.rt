@@ -12,6 +12,7 @@ ghost use lib.ListN.{drop};
 ghost use mathlib.Core.List.{[]};
 ghost use Rattle.numbers.specs.Numbers.{refuses};
 ghost use Rattle.walking.specs.Walk.{walkOf};
+ghost use Rattle.kinds.specs.Kinds.{kindReadOf};
 ghost use Rattle.finding.specs.Finding.{foundOf, searchedOf, isGiven, isKind, readsAs, thereOr, firstOf, findFrom, findInPayload};
 
 // The record that was found, its place in the list, from 0, and what its value reads as: a record, or a list of so many entries.
@@ -39,29 +40,11 @@ pub enum Searched {
     Answered(Found),
 }
 
-// A look at one record, the answer if it is a readable one of the kind. Its type is looked at first, so that a record of another kind costs no more than
-// that. No sum can wrap: what is left of the payload is compared, never an end that the record claims.
-fn look(t: Tlv, payload: &[u8], code: u8, place: usize) -> Found
-    ensures { λ r. ⌜ foundOf r ≡ thereOr (readsAs code (now (payload .entry)) t) place t (refuses 15 []) ⌝ }
+// What is found where the value of the record t reads so.
+fn hit_of(read: KindRead, t: Tlv, place: usize) -> Found
+    ensures { λ r. ⌜ foundOf r ≡ thereOr (kindReadOf read) place t (refuses 15 []) ⌝ }
 {
-    let tlv_type = t.tlv_type;
-    if tlv_type != code {
-        return Found::Refused(Refusal::NotFound);
-    }
-    let offset = t.offset;
-    if payload.len() < 3 {
-        return Found::Refused(Refusal::NotFound);
-    }
-    if payload.len() - 3 < offset {
-        return Found::Refused(Refusal::NotFound);
-    }
-    let length = t.length as usize;
-    let start = offset + 3;
-    if payload.len() - start < length {
-        return Found::Refused(Refusal::NotFound);
-    }
-    let end = start + length;
-    match kinds::read_kind(code, &payload[start..end]) {
+    match read {
         KindRead::Record {
             record,
             consumed,
@@ -88,6 +71,33 @@ fn look(t: Tlv, payload: &[u8], code: u8, place: usize) -> Found
     }
 }
 
+// A look at one record, the answer if it is a readable one of the kind. Its type is looked at first and its offset last, so that a record of another kind
+// costs no more than its type: the compiler makes one test of the type's and the offset's where nothing stands between them. No sum can wrap: what is left
+// of the payload is compared, never an end that the record claims.
+fn look(t: Tlv, payload: &[u8], code: u8, place: usize) -> Found
+    ensures { λ r. ⌜ foundOf r ≡ thereOr (readsAs code (now (payload .entry)) t) place t (refuses 15 []) ⌝ }
+{
+    let tlv_type = t.tlv_type;
+    if tlv_type != code {
+        return Found::Refused(Refusal::NotFound);
+    }
+    if payload.len() < 3 {
+        return Found::Refused(Refusal::NotFound);
+    }
+    let room = payload.len() - 3;
+    let length = t.length as usize;
+    if room < length {
+        return Found::Refused(Refusal::NotFound);
+    }
+    let offset = t.offset;
+    if room - length < offset {
+        return Found::Refused(Refusal::NotFound);
+    }
+    let start = offset + 3;
+    let end = start + length;
+    hit_of(kinds::read_kind(code, &payload[start..end]), t, place)
+}
+
 fn is_hit(found: Found) -> bool
     ensures { λ r. ⌜ r ≡ isGiven (foundOf found) ⌝ }
 {
@@ -110,30 +120,43 @@ fn is_hit(found: Found) -> bool
     }
 }
 
-// Is the code among the 21? A value of any other is refused by 16, whatever it holds; here the empty start of some bytes is read.
-fn is_kind(code: u8, bytes: &[u8]) -> bool
+// Is the code among the 21?
+fn is_kind(code: u8) -> bool
     ensures { λ r. ⌜ r ≡ isKind code ⌝ }
 {
-    match kinds::read_kind(code, &bytes[0..0]) {
-        KindRead::Record {
-            record: _,
-            consumed: _,
-            rest: _,
-        } => true,
-        KindRead::List {
-            entries: _,
-            consumed: _,
-            rest: _,
-        } => true,
-        KindRead::Refused(refusal) => numbers::number_of(refusal) != 16,
+    match code {
+        // the nine that are lists
+        4 => true,
+        6 => true,
+        7 => true,
+        23 => true,
+        24 => true,
+        30 => true,
+        0x80 => true,
+        0x83 => true,
+        0xB7 => true,
+        // the twelve that are records
+        0 => true,
+        1 => true,
+        2 => true,
+        8 => true,
+        12 => true,
+        13 => true,
+        15 => true,
+        16 => true,
+        26 => true,
+        0x92 => true,
+        0xB3 => true,
+        0xB4 => true,
+        _ => false,
     }
 }
 
 // What is refused where no record was found.
-fn none(code: u8, bytes: &[u8]) -> Found
+fn none(code: u8) -> Found
     ensures { λ r. ⌜ foundOf r ≡ cond (isKind code) (refuses 15 []) (refuses 16 []) ⌝ }
 {
-    if is_kind(code, bytes) {
+    if is_kind(code) {
         return Found::Refused(Refusal::NotFound);
     }
     Found::Refused(Refusal::UnknownKind)
@@ -152,7 +175,7 @@ pub fn find(list: &[Tlv], payload: &[u8], code: u8, from: usize) -> Found
         }
         place += 1;
     }
-    none(code, payload)
+    none(code)
 }
 
 // A look at a record, if its place does not come before `from`.
@@ -202,7 +225,7 @@ fn search(payload: &[u8], code: u8, from: usize) -> Found
 pub fn find_in_payload(payload: &[u8], code: u8, from: usize) -> Searched
     ensures { λ r. ⌜ searchedOf r ≡ findInPayload code (now (payload .entry)) from ⌝ }
 {
-    if is_kind(code, payload) {
+    if is_kind(code) {
         match walking::walk(payload) {
             Walked::Count(_) => Searched::Answered(search(payload, code, from)),
             Walked::Refused { refusal, at } => Searched::Unwalked { refusal, at },

@@ -23,7 +23,7 @@ use contract.Lifetimes.{Lfts}
 use contract.Monad.{Fun, fact}
 use contract.Running.{givenOf, tables, tablesOf}
 use types.Kit as Kit
-use types.Kit.{Given, Item, Sq, runs, frees, prop, anyQ, atRet, ‵, raw, given, some, later, _⊛_, ⋆, _$_, _∵_, !, qed, by, move, keep, drop, use1, use2, split, join, learn, pick, rewrite, fsplit, fjoin, suffices, frame, await, done}
+use types.Kit.{Given, Item, Sq, runs, frees, prop, anyQ, atRet, ‵, raw, given, some, later, _⊛_, ⋆, _$_, _∵_, !, qed, by, move, keep, drop, use0, use1, use2, split, join, learn, pick, rewrite, fsplit, fjoin, suffices, frame, await, done}
 use types.Part.{whole, sub, look-in}
 use types.Share.{arr-parts}
 use types.Run.{look, look-raw, init, store, forget, stop, hop, fld, from, load, lit, of-opd, bin, and-then, no-more, assigns, assigns-last, land, first, skips, jumps, blocks, branches, loops, again, Below, returns-within, returns, exec, enter, alloc1, alloc0, params1, pass1, pass0, free1, free0}
@@ -188,18 +188,16 @@ module _ {M : Type 1} (𝓤 : URA M) (H : Heap 𝓤) (A : Atoms 𝓤) (W : Given
 
   -- the call of `none`
   abbrev to-none : NoneC 𝓤 H A mem run .Ghost
-  to-none = (((κ′, tt), (q′, tt), tt, (kind, (pay, tt)), (vint w8 kind ∷ [], (sp ∷ [], tt))), tt)
+  to-none = ((tt, tt, tt, (kind, tt), (vint w8 kind ∷ [], tt)), tt)
 
-  asked-none : kind < 2 ^ 8 → ent 𝓤 (⋆ 𝓤 H A (‵ (flft κ′ q′) ∷ ‵ Pay ∷ [])) (NoneC 𝓤 H A mem run .pre to-none)
-  asked-none gk =
-      qed W (‵ (flft κ′ q′) ∷ ‵ Pay ∷ []) ∵ nothing ! $ move ! (1 ∷ 0 ∷ []) $ join ! $ move ! (1 ∷ []) $
-      nothing ! $ move ! (1 ∷ 0 ∷ []) $ fjoin ! $ owned ! u8 (Is u8) (uint-makes 𝓤 H A W w8) kind _ (refl, gk) $ fjoin ! $ move ! (1 ∷ 0 ∷ []) $ join ! $ frame ! $ done !
+  asked-none : kind < 2 ^ 8 → ent 𝓤 (⋆ 𝓤 H A []) (NoneC 𝓤 H A mem run .pre to-none)
+  asked-none gk = qed W [] ∵ nothing ! $ owned ! u8 (Is u8) (uint-makes 𝓤 H A W w8) kind _ (refl, gk) $ fjoin ! $ nothing ! $ join ! $ frame ! $ done !
 
   abbrev NoneIs : Found → Type 0
   NoneIs r = foundOf r ≡ cond (isKind kind) (refuses 15 []) (refuses 16 [])
 
-  said-none : (r : Found) → ent 𝓤 (ensured 𝓤 H A none.ended (none.clauses 𝓤 H A mem run) (κ′, tt) (kind, (pay, tt)) tt r) (fact 𝓤 (NoneIs r))
-  said-none r = exE 𝓤 _ (λ ws. snd∗ 𝓤 (sem 𝓤 H A (lasts none.ended (κ′, tt) (kind, (pay, tt)) ws)) (fact 𝓤 (NoneIs r)))
+  said-none : (r : Found) → ent 𝓤 (ensured 𝓤 H A none.ended (none.clauses 𝓤 H A mem run) tt (kind, tt) tt r) (fact 𝓤 (NoneIs r))
+  said-none r = exE 𝓤 _ (λ ws. snd∗ 𝓤 (sem 𝓤 H A (lasts none.ended tt (kind, tt) ws)) (fact 𝓤 (NoneIs r)))
 
   module _ (𝓣 : Tables 𝓤 H) (known : Triple 𝓤 (𝓣 .C #finding·look) (LookC 𝓤 H A mem run)) (known″ : Triple 𝓤 (𝓣 .C #finding·is-hit) (HitC 𝓤 H A mem run)) (known′ : Triple 𝓤 (𝓣 .C #finding·none) (NoneC 𝓤 H A mem run)) (gn : Room R n) (gk : kind < 2 ^ 8) (gf : i₀ < 2 ^ 64) (l₀ l₁ l₂ l₃ l₄ l₅ l₆ l₇ l₈ l₉ l₁₀ l₁₁ : ℕ) where
     abbrev C : Calls 𝓤 H
@@ -296,18 +294,15 @@ module _ {M : Type 1} (𝓤 : URA M) (H : Heap 𝓤) (A : Atoms 𝓤) (W : Given
         again ! ≺ I i (i + 1) (omega (arith, l))))))))))))))
         (λ ge. jumps ! $ exec ! C Λ E mir.t-3 (atRet E Post) $
         -- [_5; _10; _9; _8; _7; _6; _4; _3; _2; _1; _0; _11; the borrow; token; token′; payload; res; …]
-        move ! (15 ∷ []) $ use1 W (‵ Pay ⊛ ‵ Pay) (shr-slice-copy 𝓤 H A W (named 1) κ′ u8 .twice pay (sp ∷ [])) $ split ! $ move ! (16 ∷ 0 ∷ []) $
-        use2 W (raw (NoneC 𝓤 H A mem run .pre to-none)) (asked-none gk) $
-        -- [pre; payload; _5; _10; _9; _8; _7; _6; _4; _3; _2; _1; _0; _11; the borrow; token; res; …]
-        calls-at ! (fmOf 𝓤 H (W .laws) 𝓣) (NoneC 𝓤 H A mem run) known′ to-none (and-then ! (load ! (from ! (stop !)) (look ! 9 refl)) (and-then ! (load ! (from ! (stop !)) (look ! 10 refl)) (no-more !))) (λ u.
-        use1 W (later (some (λ (r : Found). ((‵ (flft κ′ q′) ⊛ ‵ ftrue) ⊛ ‵ (S.the-row .own r (u ∷ []))) ⊛ raw (ensured 𝓤 H A none.ended (none.clauses 𝓤 H A mem run) (κ′, tt) (kind, (pay, tt)) tt r)))) (id⊢ 𝓤 _) $ await ! tt $ pick ! (λ r.
+        use0 W (raw (NoneC 𝓤 H A mem run .pre to-none)) (asked-none gk) $
+        calls-at ! (fmOf 𝓤 H (W .laws) 𝓣) (NoneC 𝓤 H A mem run) known′ to-none (and-then ! (load ! (from ! (stop !)) (look ! 8 refl)) (no-more !)) (λ u.
+        use1 W (later (some (λ (r : Found). (‵ ftrue ⊛ ‵ (S.the-row .own r (u ∷ []))) ⊛ raw (ensured 𝓤 H A none.ended (none.clauses 𝓤 H A mem run) tt (kind, tt) tt r)))) (id⊢ 𝓤 _) $ await ! tt $ pick ! (λ r.
         split ! $ move ! (1 ∷ []) $ use1 W (raw (fact 𝓤 (NoneIs r))) (said-none r) $ heard ! (NoneIs r) (λ e. split ! $ move ! (1 ∷ []) $
         peeks ! S.the-row (Is S.the-row) (shows 𝓤 H A S.the-row) r (u ∷ []) (λ is.
-        land ! (from ! (stop !)) (init ! 13 refl (EL.lawful S.the-type S′.the-laws 𝓤 H A W tt .typed r (u ∷ []) is .0)) $ drop ! $ split ! $
-        -- [token′; true; payload; _5; _10; _9; _8; _7; _6; _4; _3; _2; _1; _0; _11; the borrow; token; res; …]
-        rewrite ! 13 (λ (w : Val). ‵ (fat fullShare (ty 0) l₀ 0 w)) (ap only (EL.tells S.the-type S′.the-laws r (u ∷ []) is)) refl $
-        returns ! (look ! 13 refl) $ forget ! 3 refl $ forget ! 6 refl $ forget ! 7 refl $ forget ! 9 refl $ forget ! 10 refl $ forget ! 11 refl $ forget ! 12 refl $ forget ! 13 refl $
-        keep ! (3 ∷ 4 ∷ 5 ∷ 6 ∷ 7 ∷ 8 ∷ 9 ∷ 10 ∷ 11 ∷ 12 ∷ 13 ∷ 14 ∷ 15 ∷ 16 ∷ 0 ∷ 2 ∷ 17 ∷ 18 ∷ 19 ∷ 20 ∷ 21 ∷ 22 ∷ 23 ∷ 24 ∷ 25 ∷ 26 ∷ 27 ∷ 28 ∷ 29 ∷ []) $
+        land ! (from ! (stop !)) (init ! 12 refl (EL.lawful S.the-type S′.the-laws 𝓤 H A W tt .typed r (u ∷ []) is .0)) $ drop ! $ drop ! $
+        -- [_5; _10; _9; _8; _7; _6; _4; _3; _2; _1; _0; _11; the borrow; token; token′; payload; res; …]
+        rewrite ! 10 (λ (w : Val). ‵ (fat fullShare (ty 0) l₀ 0 w)) (ap only (EL.tells S.the-type S′.the-laws r (u ∷ []) is)) refl $
+        returns ! (look ! 10 refl) $ forget ! 0 refl $ forget ! 3 refl $ forget ! 4 refl $ forget ! 6 refl $ forget ! 7 refl $ forget ! 8 refl $ forget ! 9 refl $ forget ! 10 refl $
         leaves r (subst (Is S.the-row r) (EL.tells S.the-type S′.the-laws r (u ∷ []) is) is) (missed kind (now pay) ys i₀ i p (nltb→le i n ge) (foundOf r) e)))))))
 
   walk : (𝓣 : Tables 𝓤 H) → Triple 𝓤 (𝓣 .C #finding·look) (LookC 𝓤 H A mem run) → Triple 𝓤 (𝓣 .C #finding·is-hit) (HitC 𝓤 H A mem run) → Triple 𝓤 (𝓣 .C #finding·none) (NoneC 𝓤 H A mem run) → Room R n → Room u8 (length (pay .now)) → kind < 2 ^ 8 → i₀ < 2 ^ 64

@@ -1,8 +1,11 @@
 -- `look` meets its contract: a law of `readsAs` for each exit.
-use mathlib.Core.Path.{sym, _∙_, ap}
+use mathlib.Core.Path.{_∙_, ap}
+use mathlib.Core.List.{[]}
 use native.Mathlib.Omega.{arith}
-use Rattle.kinds.specs.Kinds.{kindReadOf, readKind}
-use Rattle.finding.proofs.Looking.{other, outside, inside, part, hit, miss}
+use Rattle.numbers.specs.Numbers.{Answer, refuses}
+use Rattle.kinds.specs.Kinds.{Typed, readKind}
+use Rattle.finding.specs.Finding.{thereOr}
+use Rattle.finding.proofs.Looking.{other, outside, inside, part, miss}
 use borrow.Author.Needs.{needs}
 use Rattle.finding.proofs.look.Statement.{statement}
 use Rattle.finding.proofs.look.Tie as tie
@@ -13,23 +16,20 @@ returns c = miss _ _ _ _ _ _ _ (other _ _ _ (c .if1 .taken))
 returns-2 : tie.Need-returns-2
 returns-2 c = miss _ _ _ _ _ _ _ (outside _ _ _ (c .before .if1 .left) (omega arith))
 
-sub-if3 : tie.Need-sub-if3
-sub-if3 c = search needs
-
-returns-3 : tie.Need-returns-3
-returns-3 c = miss _ _ _ _ _ _ _ (outside _ _ _ (c .before .before .if1 .left) (omega arith))
+sub-room : tie.Need-sub-room
+sub-room c = search needs
 
 cast-length : tie.Need-cast-length
 cast-length c = search needs
 
-add-start : tie.Need-add-start
-add-start c = search needs
-
-sub-if4 : tie.Need-sub-if4
-sub-if4 c = search needs
+returns-3 : tie.Need-returns-3
+returns-3 c = miss _ _ _ _ _ _ _ (outside _ _ _ (c .before .before .before .if1 .left) (omega arith))
 
 returns-4 : tie.Need-returns-4
 returns-4 c = miss _ _ _ _ _ _ _ (outside _ _ _ (c .before .before .before .before .if1 .left) (omega arith))
+
+add-start : tie.Need-add-start
+add-start c = search needs
 
 add-end : tie.Need-add-end
 add-end c = search needs
@@ -46,23 +46,17 @@ part-read-kind-end c = search needs
 read-kind-requires : tie.Need-read-kind-requires
 read-kind-requires c κs = search needs
 
-enum-known-record : tie.Need-enum-known-record
-enum-known-record c = search needs
-
-enum-known-entries : tie.Need-enum-known-entries
-enum-known-entries c = search needs
-
-enum-told : tie.Need-enum-told
-enum-told c = search needs
+hit-of-requires : tie.Need-hit-of-requires
+hit-of-requires c κs = search needs
 
 returns-5 : tie.Need-returns-5
-returns-5 c = hit _ _ _ _ _ _ (ap kindReadOf (sym (c .before .«record» .given .1)) ∙ c .before .before .before .read-kind .ensures ∙ ap (readKind (c .before .before .before .before .before .before .before .before .before .before .before .args .code)) (part (c .before .before .before .before .before .before .before .before .before .before .before .args .code) (c .before .before .before .before .before .before .before .before .before .before .before .args .payload .now) (c .before .before .before .before .before .before .before .before .before .before .before .args .t)) ∙ inside _ _ _ (c .before .before .before .before .before .before .before .before .before .if1 .left) (omega arith))
-
-returns-6 : tie.Need-returns-6
-returns-6 c = hit _ _ _ _ _ _ (ap kindReadOf (sym (c .before .entries .given .1)) ∙ c .before .before .before .read-kind .ensures ∙ ap (readKind (c .before .before .before .before .before .before .before .before .before .before .before .args .code)) (part (c .before .before .before .before .before .before .before .before .before .before .before .args .code) (c .before .before .before .before .before .before .before .before .before .before .before .args .payload .now) (c .before .before .before .before .before .before .before .before .before .before .before .args .t)) ∙ inside _ _ _ (c .before .before .before .before .before .before .before .before .before .if1 .left) (omega arith))
-
-returns-7 : tie.Need-returns-7
-returns-7 c = miss _ _ _ _ _ _ _ (ap kindReadOf (sym (c .enum-told .given .1)) ∙ c .before .before .read-kind .ensures ∙ ap (readKind (c .before .before .before .before .before .before .before .before .before .before .args .code)) (part (c .before .before .before .before .before .before .before .before .before .before .args .code) (c .before .before .before .before .before .before .before .before .before .before .args .payload .now) (c .before .before .before .before .before .before .before .before .before .before .args .t)) ∙ inside _ _ _ (c .before .before .before .before .before .before .before .before .if1 .left) (omega arith))
+returns-5 c =
+    let k = c .before in
+    let f = k .before .before .before .before .before .before in
+    let x = f .before .before .args in
+    c .hit-of .ensures
+    ∙ ap (λ (y : Answer Typed). thereOr y (x .place) (x .t) (refuses 15 []))
+    (k .read-kind .ensures ∙ ap (readKind (x .code)) (part (x .code) (x .payload .now) (x .t)) ∙ inside _ _ _ (f .if1 .left) (omega arith))
 
 pub look-spec : {M : Type 1} → statement M
 look-spec =
@@ -70,20 +64,15 @@ look-spec =
     (tie.spec
     returns
     returns-2
-    sub-if3
-    returns-3
+    sub-room
     cast-length
-    add-start
-    sub-if4
+    returns-3
     returns-4
+    add-start
     add-end
     sub-read-kind
     part-read-kind-start
     part-read-kind-end
     read-kind-requires
-    enum-known-record
-    enum-known-entries
-    enum-told
-    returns-5
-    returns-6
-    returns-7)
+    hit-of-requires
+    returns-5)
