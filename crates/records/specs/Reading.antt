@@ -8,6 +8,7 @@ use Rattle.numbers.specs.Numbers.{Answer, gives, refuses, told}
 use Rattle.records.specs.declared.Kind.{Kind}
 use Rattle.records.specs.declared.Record.{Record}
 use Rattle.records.specs.declared.Read.{Read}
+use Rattle.records.specs.declared.Measured.{Measured}
 use Rattle.records.specs.Values.{recordIn}
 use Rattle.records.specs.Kinds.{kinds, codeOf, layout, leftOver, accepted}
 
@@ -39,3 +40,12 @@ readAs (refuses n vs) s = refuses n vs
 
 unfoldable pub readRecord : ℕ → List ℕ → Answer Reading
 readRecord c s = readAs (withCode c kinds) s
+
+-- measuring: the bytes consumed, without the record
+abbrev pub sizeOf : Answer Reading → Answer ℕ
+sizeOf (gives r) = gives (r .consumed)
+sizeOf (refuses n vs) = refuses n vs
+
+abbrev pub measuredOf : Measured → Answer ℕ
+measuredOf (Measured.Bytes n) = gives n
+measuredOf (Measured.Refused r) = told r

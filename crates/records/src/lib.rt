@@ -6,7 +6,7 @@ mod rows;
 
 ghost use mathlib.Core.Path.{_≡_};
 ghost use Rattle.records.specs.Values.{bandOf, versionOf, resultOf, profileOf, stateOf, unitsOf};
-ghost use Rattle.records.specs.Reading.{readOf, readRecord};
+ghost use Rattle.records.specs.Reading.{readOf, readRecord, measuredOf, sizeOf};
 
 pub struct MacAddr {
     pub b0: u8,
@@ -214,5 +214,32 @@ pub fn read_record(code: u8, s: &[u8]) -> Read
         0xB3 => reading::read_multi_ap_profile(s),
         0xB4 => reading::read_profile2_ap_capability(s),
         _ => Read::Refused(Refusal::UnknownKind),
+    }
+}
+
+// What measuring a typed value finds: how many bytes its layout took.
+pub enum Measured {
+    Bytes(usize),
+    Refused(Refusal),
+}
+
+// The same value, measured alone: for who needs no record, which then is never made.
+pub fn measure(code: u8, s: &[u8]) -> Measured
+    ensures { λ r. ⌜ measuredOf r ≡ sizeOf (readRecord code (now (s .entry))) ⌝ }
+{
+    match code {
+        0 => reading::measure_kind(Kind::EndOfMessage, s),
+        1 => reading::measure_kind(Kind::AlMacAddress, s),
+        2 => reading::measure_kind(Kind::MacAddress, s),
+        13 => reading::measure_kind(Kind::SearchedRole, s),
+        15 => reading::measure_kind(Kind::SupportedRole, s),
+        16 => reading::measure_kind(Kind::SupportedFreqBand, s),
+        26 => reading::measure_kind(Kind::Ieee1905ProfileVersion, s),
+        12 => reading::measure_kind(Kind::LinkMetricResultCode, s),
+        8 => reading::measure_kind(Kind::LinkMetricQuery, s),
+        0x92 => reading::measure_kind(Kind::ClientAssociation, s),
+        0xB3 => reading::measure_kind(Kind::MultiApProfile, s),
+        0xB4 => reading::measure_kind(Kind::Profile2ApCapability, s),
+        _ => Measured::Refused(Refusal::UnknownKind),
     }
 }

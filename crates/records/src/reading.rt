@@ -7,6 +7,7 @@ use crate::Kind;
 use crate::LinkMetricQuery;
 use crate::LinkMetricResultCode;
 use crate::MacAddr;
+use crate::Measured;
 use crate::MultiApProfile;
 use crate::NeighborMac;
 use crate::Profile2ApCapability;
@@ -24,7 +25,7 @@ ghost use Prim.Native.Nat.{_≤_};
 ghost use lib.ListN.{getD};
 ghost use Rattle.records.specs.Values.{addressAt, queryIn, associationIn, capabilityIn, recordIn};
 ghost use Rattle.records.specs.Kinds.{querySize, sizeIn, surplus, passing};
-ghost use Rattle.records.specs.Reading.{readOf, readKind};
+ghost use Rattle.records.specs.Reading.{readOf, readKind, measuredOf, sizeOf};
 
 // A value of each kind.
 pub(crate) fn read_end_of_message(s: &[u8]) -> Read
@@ -117,6 +118,19 @@ fn read_kind(kind: Kind, s: &[u8]) -> Read
         };
     }
     Read::Refused(Refusal::BadValue)
+}
+
+// The bytes of such a value.
+pub(crate) fn measure_kind(kind: Kind, s: &[u8]) -> Measured
+    ensures { λ r. ⌜ measuredOf r ≡ sizeOf (readKind kind (now (s .entry))) ⌝ }
+{
+    match read_kind(kind, s) {
+        Read::Got {
+            record: _,
+            consumed,
+        } => Measured::Bytes(consumed),
+        Read::Refused(refusal) => Measured::Refused(refusal),
+    }
 }
 
 // Bytes that a layout takes of the value s.
