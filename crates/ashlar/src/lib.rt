@@ -1,6 +1,6 @@
 // The hot calls for C: each is a thin shell over the layer's own call, and gives its answer in document 01's numbers. `refusal` is 0 where nothing is refused.
 use finding::Found;
-use kinds::KindRead;
+use kinds::KindSize;
 use numbers::Refusal;
 use table::Arrival;
 use table::Counts;
@@ -11,7 +11,7 @@ use walking::Walked;
 ghost use mathlib.Core.Path.{_≡_};
 ghost use Rattle.numbers.specs.Numbers.{told};
 ghost use Rattle.walking.specs.Walk.{walkedOf, walkOf, counted, listed, filled};
-ghost use Rattle.kinds.specs.Kinds.{kindReadOf, readKind};
+ghost use Rattle.kinds.specs.Kinds.{readKind};
 ghost use Rattle.finding.specs.Finding.{foundOf, findFrom};
 ghost use Rattle.table.specs.Rows.{freshTable};
 ghost use lib.ListN.{length};
@@ -100,22 +100,20 @@ pub extern "C" fn ashlar_walk_into(list: &mut [Tlv], payload: &[u8]) -> AshlarWa
     walk_numbers(walked)
 }
 
-fn kind_numbers(read: KindRead) -> AshlarKind
-    ensures { λ r. ⌜ r ≡ kindNumbers (kindReadOf read) ⌝ }
+// The typed value of the kind with this code: measured alone, for a record doesn't cross to C.
+#[no_mangle]
+pub extern "C" fn ashlar_read_kind(code: u8, value: &[u8]) -> AshlarKind
+    ensures { λ r. ⌜ r ≡ kindNumbers (readKind code (now (value .entry))) ⌝ }
 {
-    match read {
-        KindRead::Record {
-            record: _,
-            consumed,
-            rest,
-        } => AshlarKind {
+    match kinds::measure(code, value) {
+        KindSize::Record { consumed, rest } => AshlarKind {
             entries: 0,
             consumed,
             rest,
             is_list: false,
             refusal: 0,
         },
-        KindRead::List {
+        KindSize::List {
             entries,
             consumed,
             rest,
@@ -126,7 +124,7 @@ fn kind_numbers(read: KindRead) -> AshlarKind
             is_list: true,
             refusal: 0,
         },
-        KindRead::Refused(refusal) => AshlarKind {
+        KindSize::Refused(refusal) => AshlarKind {
             entries: 0,
             consumed: 0,
             rest: 0,
@@ -134,14 +132,6 @@ fn kind_numbers(read: KindRead) -> AshlarKind
             refusal: numbers::number_of(refusal),
         },
     }
-}
-
-// The typed value of the kind with this code.
-#[no_mangle]
-pub extern "C" fn ashlar_read_kind(code: u8, value: &[u8]) -> AshlarKind
-    ensures { λ r. ⌜ r ≡ kindNumbers (readKind code (now (value .entry))) ⌝ }
-{
-    kind_numbers(kinds::read_kind(code, value))
 }
 
 fn nothing_found(refusal: Refusal) -> AshlarFound

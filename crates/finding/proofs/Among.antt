@@ -16,6 +16,7 @@ use Rattle.layouts.specs.Reading as lists
 use Rattle.layouts.specs.declared.lists.End.{End}
 use Rattle.layouts.specs.declared.lists.End.the-variants.{At, Short}
 use Rattle.kinds.specs.Kinds.{Typed, asRecord, asList, orElse, readRecordKind, readKind}
+use Rattle.kinds.proofs.RecordsFirst.{kind-or-16}
 use Rattle.finding.specs.Finding.{isGiven, isKind}
 
 -- an answer that is not 16
@@ -29,14 +30,6 @@ line-or-16 code [] n vs e = cc
 line-or-16 code (l ∷ ls) n vs e = go (eqb code (l .code)) e (line-or-16 code ls n vs)
   where
     go : (b : Bool) → cond b (gives (l .kind)) (layouts.lineOf code ls) ≡ refuses n vs → (layouts.lineOf code ls ≡ refuses n vs → n ≡ 16) → n ≡ 16
-    go true e on = let z : _≡_ {A = ℕ} 0 1 = cc in absurd (omega arith)
-    go false e on = on e
-
-kind-or-16 : (code : ℕ) (ks : List Kind) (n : ℕ) (vs : List ℕ) → records.withCode code ks ≡ refuses n vs → n ≡ 16
-kind-or-16 code [] n vs e = cc
-kind-or-16 code (k ∷ ks) n vs e = go (eqb code (codeOf k)) e (kind-or-16 code ks n vs)
-  where
-    go : (b : Bool) → cond b (gives k) (records.withCode code ks) ≡ refuses n vs → (records.withCode code ks ≡ refuses n vs → n ≡ 16) → n ≡ 16
     go true e on = let z : _≡_ {A = ℕ} 0 1 = cc in absurd (omega arith)
     go false e on = on e
 

@@ -81,16 +81,13 @@ fn look(t: Tlv, payload: &[u8], code: u8, place: usize) -> Found
     if tlv_type != code {
         return Found::Refused(Refusal::NotFound);
     }
-    if payload.len() < 3 {
-        return Found::Refused(Refusal::NotFound);
-    }
-    let room = payload.len() - 3;
     let length = t.length as usize;
-    if room < length {
+    let size = length + 3;
+    if payload.len() < size {
         return Found::Refused(Refusal::NotFound);
     }
     let offset = t.offset;
-    if room - length < offset {
+    if payload.len() - size < offset {
         return Found::Refused(Refusal::NotFound);
     }
     let start = offset + 3;

@@ -1,3 +1,4 @@
 pub mod Firm
 pub mod Laws
+pub mod RecordsFirst
 pub mod RoundTrip

@@ -12,6 +12,8 @@ use Rattle.layouts.specs.Reading as layouts
 use Rattle.layouts.specs.Access as access
 use Rattle.kinds.specs.declared.KindRead.{KindRead}
 use Rattle.kinds.specs.declared.KindRead.the-variants as KindRead
+use Rattle.kinds.specs.declared.KindSize.{KindSize}
+use Rattle.kinds.specs.declared.KindSize.the-variants as KindSize
 
 -- what a typed value holds: a record, or a list of so many entries
 pub data Held : Type 0 where
@@ -48,6 +50,29 @@ readRecordKind code s = asRecord (length s) (records.readRecord code s)
 
 unfoldable pub readKind : ℕ → List ℕ → Answer Typed
 readKind code s = orElse (asList (layouts.readValue code s)) (readRecordKind code s)
+
+-- measuring: the same without the record itself
+pub data Shape : Type 0 where
+  lone : Shape
+  many : ℕ → Shape
+
+pub record Size : Type 0 where
+  pub shape : Shape
+  pub consumed : ℕ
+  pub rest : ℕ
+
+abbrev pub shapeOf : Held → Shape
+shapeOf (one r) = lone
+shapeOf (list n) = many n
+
+abbrev pub sizeOf : Answer Typed → Answer Size
+sizeOf (gives t) = gives (record { shape = shapeOf (t .held); consumed = t .consumed; rest = t .rest })
+sizeOf (refuses n vs) = refuses n vs
+
+abbrev pub kindSizeOf : KindSize → Answer Size
+kindSizeOf (KindSize.Record c n) = gives (record { shape = lone; consumed = c; rest = n })
+kindSizeOf (KindSize.List n c m) = gives (record { shape = many n; consumed = c; rest = m })
+kindSizeOf (KindSize.Refused r) = told r
 
 -- an entry of a record kind: there is none, which is 6 "after the value has read"
 abbrev pub noneIn : {A B : Type 0} → Answer A → Answer B

@@ -5,6 +5,7 @@ use layouts::Located;
 use layouts::Path;
 use layouts::Reading;
 use numbers::Refusal;
+use records::Measured;
 use records::Read;
 use records::Record;
 ghost use mathlib.Core.Path.{_≡_};
@@ -13,7 +14,7 @@ ghost use lib.ListN.{length};
 ghost use Rattle.numbers.specs.Numbers.{told};
 ghost use Rattle.framing.specs.Tlv.{writtenOf, leaves};
 ghost use Rattle.layouts.specs.Access.{numbersOf, locatedOf, countedOf, partOf};
-ghost use Rattle.kinds.specs.Kinds.{kindReadOf, readKind, readRecordKind, noEntryIn, locateKind, countKind};
+ghost use Rattle.kinds.specs.Kinds.{kindReadOf, readKind, readRecordKind, kindSizeOf, sizeOf, noEntryIn, locateKind, countKind};
 ghost use Rattle.kinds.specs.Writing.{writeKind, kindBytes};
 
 // What reading a typed value finds: a record, or how many entries a list kind's own list has; with the bytes that were consumed, and how many are left
@@ -32,9 +33,59 @@ pub enum KindRead {
     Refused(Refusal),
 }
 
-// The value s of the record kind with this code.
-fn read_record_kind(code: u8, s: &[u8]) -> KindRead
-    ensures { λ r. ⌜ kindReadOf r ≡ readRecordKind code (now (s .entry)) ⌝ }
+// The same without the record itself.
+pub enum KindSize {
+    Record {
+        consumed: usize,
+        rest: usize,
+    },
+    List {
+        entries: usize,
+        consumed: usize,
+        rest: usize,
+    },
+    Refused(Refusal),
+}
+
+// The value s of the record kind with this code, measured.
+fn measure_record(code: u8, s: &[u8]) -> KindSize
+    ensures { λ r. ⌜ kindSizeOf r ≡ sizeOf (readRecordKind code (now (s .entry))) ⌝ }
+{
+    match records::measure(code, s) {
+        Measured::Bytes(consumed) => KindSize::Record {
+            consumed,
+            rest: s.len() - consumed,
+        },
+        Measured::Refused(refusal) => KindSize::Refused(refusal),
+    }
+}
+
+// The value s of the kind with this code, measured: for who needs no record, which then is never made.
+pub fn measure(code: u8, s: &[u8]) -> KindSize
+    ensures { λ r. ⌜ kindSizeOf r ≡ sizeOf (readKind code (now (s .entry))) ⌝ }
+{
+    match layouts::read_value(code, s) {
+        Reading::Value {
+            consumed,
+            rest,
+            entries,
+        } => KindSize::List {
+            entries,
+            consumed,
+            rest,
+        },
+        Reading::Refused(refusal) => {
+            if numbers::number_of(refusal) == 16 {
+                return measure_record(code, s);
+            }
+            KindSize::Refused(refusal)
+        }
+    }
+}
+
+// The value s of the kind with this code. Records come first, since they are small, and no code is of a record and of a list.
+pub fn read_kind(code: u8, s: &[u8]) -> KindRead
+    ensures { λ r. ⌜ kindReadOf r ≡ readKind code (now (s .entry)) ⌝ }
 {
     match records::read_record(code, s) {
         Read::Got { record, consumed } => KindRead::Record {
@@ -42,29 +93,27 @@ fn read_record_kind(code: u8, s: &[u8]) -> KindRead
             consumed,
             rest: s.len() - consumed,
         },
-        Read::Refused(refusal) => KindRead::Refused(refusal),
-    }
-}
-
-// The value s of the kind with this code.
-pub fn read_kind(code: u8, s: &[u8]) -> KindRead
-    ensures { λ r. ⌜ kindReadOf r ≡ readKind code (now (s .entry)) ⌝ }
-{
-    match layouts::read_value(code, s) {
-        Reading::Value {
-            consumed,
-            rest,
-            entries,
-        } => KindRead::List {
-            entries,
-            consumed,
-            rest,
-        },
-        Reading::Refused(refusal) => {
-            if numbers::number_of(refusal) == 16 {
-                return read_record_kind(code, s);
+        Read::Refused(refusal) => {
+            if numbers::number_of(refusal) != 16 {
+                return KindRead::Refused(refusal);
             }
-            KindRead::Refused(refusal)
+            match measure(code, s) {
+                KindSize::List {
+                    entries,
+                    consumed,
+                    rest,
+                } => KindRead::List {
+                    entries,
+                    consumed,
+                    rest,
+                },
+                // never, for this code is no record's
+                KindSize::Record {
+                    consumed: _,
+                    rest: _,
+                } => KindRead::Refused(refusal),
+                KindSize::Refused(other) => KindRead::Refused(other),
+            }
         }
     }
 }

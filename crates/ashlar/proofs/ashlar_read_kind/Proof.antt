@@ -1,18 +1,44 @@
--- `ashlar_read_kind` meets its contract: the numbers of what `read_kind` answers.
-use mathlib.Core.Path.{ap, _∙_}
-use Rattle.ashlar.specs.Numbers.{kindNumbers}
+-- `ashlar_read_kind` meets its contract: the numbers of what `measure` answers.
+use mathlib.Core.Path.{sym, ap, _∙_}
+use Rattle.kinds.specs.Kinds.{kindSizeOf}
+use Rattle.ashlar.proofs.Measured.{as-read}
 use borrow.Author.Needs.{needs}
 use Rattle.ashlar.proofs.ashlar_read_kind.Statement.{statement}
 use Rattle.ashlar.proofs.ashlar_read_kind.Tie as tie
 
-read-kind-requires : tie.Need-read-kind-requires
-read-kind-requires c κs = search needs
+measure-requires : tie.Need-measure-requires
+measure-requires c κs = search needs
 
-kind-numbers-requires : tie.Need-kind-numbers-requires
-kind-numbers-requires c κs = search needs
+enum-known-consumed : tie.Need-enum-known-consumed
+enum-known-consumed c = search needs
+
+enum-known-entries : tie.Need-enum-known-entries
+enum-known-entries c = search needs
+
+enum-known-refusal : tie.Need-enum-known-refusal
+enum-known-refusal c = search needs
+
+number-of-requires : tie.Need-number-of-requires
+number-of-requires c κs = search needs
 
 returns : tie.Need-returns
-returns c = c .kind-numbers .ensures ∙ ap kindNumbers (c .before .read-kind .ensures)
+returns c = as-read _ _ _ (ap kindSizeOf (sym (c .before .consumed .given .1)) ∙ c .before .before .before .measure .ensures)
+
+returns-2 : tie.Need-returns-2
+returns-2 c = as-read _ _ _ (ap kindSizeOf (sym (c .before .entries .given .1)) ∙ c .before .before .before .measure .ensures)
+
+returns-3 : tie.Need-returns-3
+returns-3 c = rw (c .number-of .ensures) (as-read _ _ _ (ap kindSizeOf (sym (c .before .before .refusal .given .1)) ∙ c .before .before .before .before .measure .ensures))
 
 pub ashlar-read-kind-spec : {M : Type 1} → statement M
-ashlar-read-kind-spec = tie.close (tie.spec read-kind-requires kind-numbers-requires returns)
+ashlar-read-kind-spec =
+    tie.close
+    (tie.spec
+    measure-requires
+    enum-known-consumed
+    enum-known-entries
+    enum-known-refusal
+    number-of-requires
+    returns
+    returns-2
+    returns-3)

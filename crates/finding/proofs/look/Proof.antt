@@ -13,20 +13,20 @@ use Rattle.finding.proofs.look.Tie as tie
 returns : tie.Need-returns
 returns c = miss _ _ _ _ _ _ _ (other _ _ _ (c .if1 .taken))
 
-returns-2 : tie.Need-returns-2
-returns-2 c = miss _ _ _ _ _ _ _ (outside _ _ _ (c .before .if1 .left) (omega arith))
-
-sub-room : tie.Need-sub-room
-sub-room c = search needs
-
 cast-length : tie.Need-cast-length
 cast-length c = search needs
 
+add-size : tie.Need-add-size
+add-size c = search needs
+
+returns-2 : tie.Need-returns-2
+returns-2 c = miss _ _ _ _ _ _ _ (outside _ _ _ (c .before .before .if1 .left) (omega arith))
+
+sub-if3 : tie.Need-sub-if3
+sub-if3 c = search needs
+
 returns-3 : tie.Need-returns-3
 returns-3 c = miss _ _ _ _ _ _ _ (outside _ _ _ (c .before .before .before .if1 .left) (omega arith))
-
-returns-4 : tie.Need-returns-4
-returns-4 c = miss _ _ _ _ _ _ _ (outside _ _ _ (c .before .before .before .before .if1 .left) (omega arith))
 
 add-start : tie.Need-add-start
 add-start c = search needs
@@ -49,10 +49,10 @@ read-kind-requires c κs = search needs
 hit-of-requires : tie.Need-hit-of-requires
 hit-of-requires c κs = search needs
 
-returns-5 : tie.Need-returns-5
-returns-5 c =
+returns-4 : tie.Need-returns-4
+returns-4 c =
     let k = c .before in
-    let f = k .before .before .before .before .before .before in
+    let f = k .before .before .before .before .before in
     let x = f .before .before .args in
     c .hit-of .ensures
     ∙ ap (λ (y : Answer Typed). thereOr y (x .place) (x .t) (refuses 15 []))
@@ -63,11 +63,11 @@ look-spec =
     tie.close
     (tie.spec
     returns
-    returns-2
-    sub-room
     cast-length
+    add-size
+    returns-2
+    sub-if3
     returns-3
-    returns-4
     add-start
     add-end
     sub-read-kind
@@ -75,4 +75,4 @@ look-spec =
     part-read-kind-end
     read-kind-requires
     hit-of-requires
-    returns-5)
+    returns-4)
