@@ -13,10 +13,13 @@ use Rattle.layouts.specs.Access.{locatedOf, countedOf}
 use Rattle.layouts.specs.declared.Located.{Located}
 use Rattle.layouts.specs.declared.Counted.{Counted}
 use Rattle.layouts.proofs.Firm.{located-firm, counted-firm}
-use Rattle.kinds.specs.Kinds.{Held, one, list, Typed, kindReadOf, readKind, locateKind, countKind}
+use Rattle.kinds.specs.Kinds.{Held, one, list, Typed, Shape, lone, many, Size, kindReadOf, readKind, kindSizeOf, sizeOf, locateKind, countKind}
 use Rattle.kinds.specs.Writing.{writeKind}
 use Rattle.kinds.specs.declared.KindRead.{KindRead}
 use Rattle.kinds.specs.declared.KindRead.the-variants as KindRead
+use Rattle.kinds.specs.declared.KindSize.{KindSize}
+use Rattle.kinds.specs.declared.KindSize.the-variants as KindSize
+use Rattle.kinds.proofs.RecordsFirst.{same}
 
 -- what was given is one, part by part
 parts : (h h′ : Held) (c c′ n n′ : ℕ) → _≡_ {A = Answer Typed} (gives (record { held = h; consumed = c; rest = n })) (gives (record { held = h′; consumed = c′; rest = n′ })) → (h ≡ h′) × ((c ≡ c′) × (n ≡ n′))
@@ -45,6 +48,28 @@ alike (KindRead.Refused f) (KindRead.Refused f′) e = ap KindRead.Refused (firm
 
 pub read-kind-firm : (code : ℕ) (s : List ℕ) (a b : KindRead) → kindReadOf a ≡ readKind code s → kindReadOf b ≡ readKind code s → a ≡ b
 read-kind-firm code s a b p q = alike a b (p ∙ sym q)
+
+-- a size is the answer that was made of it
+abbrev sizedAs : Shape → ℕ → ℕ → KindSize
+sizedAs lone c m = KindSize.Record c m
+sizedAs (many n) c m = KindSize.List n c m
+
+sized-as : (a b : Size) → a ≡ b → sizedAs (a .shape) (a .consumed) (a .rest) ≡ sizedAs (b .shape) (b .consumed) (b .rest)
+sized-as a b e = ap (λ (z : Size). sizedAs (z .shape) (z .consumed) (z .rest)) e
+
+sizes-alike : (a b : KindSize) → kindSizeOf a ≡ kindSizeOf b → a ≡ b
+sizes-alike (KindSize.Record c m) (KindSize.Record d k) e = sized-as _ _ (same _ _ e)
+sizes-alike (KindSize.Record c m) (KindSize.List n d k) e = sized-as _ _ (same _ _ e)
+sizes-alike (KindSize.Record c m) (KindSize.Refused f) e = never _ _ _ e
+sizes-alike (KindSize.List n c m) (KindSize.Record d k) e = sized-as _ _ (same _ _ e)
+sizes-alike (KindSize.List n c m) (KindSize.List j d k) e = sized-as _ _ (same _ _ e)
+sizes-alike (KindSize.List n c m) (KindSize.Refused f) e = never _ _ _ e
+sizes-alike (KindSize.Refused f) (KindSize.Record c m) e = never _ _ _ (sym e)
+sizes-alike (KindSize.Refused f) (KindSize.List n c m) e = never _ _ _ (sym e)
+sizes-alike (KindSize.Refused f) (KindSize.Refused g) e = ap KindSize.Refused (firm Size f g e)
+
+pub measure-firm : (code : ℕ) (s : List ℕ) (a b : KindSize) → kindSizeOf a ≡ sizeOf (readKind code s) → kindSizeOf b ≡ sizeOf (readKind code s) → a ≡ b
+measure-firm code s a b p q = sizes-alike a b (p ∙ sym q)
 
 pub locate-firm : (code : ℕ) (is s : List ℕ) (a b : Located) → locatedOf a ≡ locateKind code is s → locatedOf b ≡ locateKind code is s → a ≡ b
 locate-firm code is s a b p q = located-firm a b (p ∙ sym q)

@@ -51,7 +51,7 @@ no-layout Kind.MultiApProfile = refl
 no-layout Kind.Profile2ApCapability = refl
 
 -- what a value's size says of the value
-same : (a b : Size) → _≡_ {A = Answer Size} (gives a) (gives b) → a ≡ b
+pub same : (a b : Size) → _≡_ {A = Answer Size} (gives a) (gives b) → a ≡ b
 same a b e = cc
 
 given-size : (x : Answer Typed) (n c m : ℕ) → gives (record { shape = many n; consumed = c; rest = m }) ≡ sizeOf x → gives (record { held = list n; consumed = c; rest = m }) ≡ x

@@ -52,9 +52,9 @@ fn measure_record(code: u8, s: &[u8]) -> KindSize
     ensures { λ r. ⌜ kindSizeOf r ≡ sizeOf (readRecordKind code (now (s .entry))) ⌝ }
 {
     match records::measure(code, s) {
-        Measured::Bytes(consumed) => KindSize::Record {
-            consumed,
-            rest: s.len() - consumed,
+        Measured::Bytes(size) => KindSize::Record {
+            consumed: size,
+            rest: s.len() - size,
         },
         Measured::Refused(refusal) => KindSize::Refused(refusal),
     }

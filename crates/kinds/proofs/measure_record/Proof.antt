@@ -9,17 +9,17 @@ use Rattle.kinds.proofs.measure_record.Tie as tie
 measure-requires : tie.Need-measure-requires
 measure-requires c κs = search needs
 
-enum-known-consumed : tie.Need-enum-known-consumed
-enum-known-consumed c = search needs
+enum-known-size : tie.Need-enum-known-size
+enum-known-size c = search needs
 
 sub-t8 : tie.Need-sub-t8
-sub-t8 c = weighed _ _ _ (ap measuredOf (sym (c .before .consumed .given .1)) ∙ c .before .before .before .measure .ensures) .inside
+sub-t8 c = weighed _ _ _ (ap measuredOf (sym (c .before .size .given .1)) ∙ c .before .before .before .measure .ensures) .inside
 
 enum-known-refusal : tie.Need-enum-known-refusal
 enum-known-refusal c = search needs
 
 returns : tie.Need-returns
-returns c = weighed _ _ _ (ap measuredOf (sym (c .before .consumed .given .1)) ∙ c .before .before .before .measure .ensures) .is
+returns c = weighed _ _ _ (ap measuredOf (sym (c .before .size .given .1)) ∙ c .before .before .before .measure .ensures) .is
 
 returns-2 : tie.Need-returns-2
 returns-2 c = unweighed _ _ _ _ (ap measuredOf (sym (c .before .refusal .given .1)) ∙ c .before .before .before .measure .ensures)
@@ -27,4 +27,4 @@ returns-2 c = unweighed _ _ _ _ (ap measuredOf (sym (c .before .refusal .given .
 pub measure-record-spec : {M : Type 1} → statement M
 measure-record-spec =
     tie.close
-    (tie.spec measure-requires enum-known-consumed sub-t8 enum-known-refusal returns returns-2)
+    (tie.spec measure-requires enum-known-size sub-t8 enum-known-refusal returns returns-2)
