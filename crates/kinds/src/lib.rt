@@ -60,7 +60,7 @@ fn measure_record(code: u8, s: &[u8]) -> KindSize
     }
 }
 
-// The value s of the kind with this code, measured: for who needs no record, which then is never made.
+// The value s of the kind with this code measured alone, for a caller that needs no record.
 pub fn measure(code: u8, s: &[u8]) -> KindSize
     ensures { λ r. ⌜ kindSizeOf r ≡ sizeOf (readKind code (now (s .entry))) ⌝ }
 {

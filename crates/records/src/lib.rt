@@ -223,7 +223,7 @@ pub enum Measured {
     Refused(Refusal),
 }
 
-// The same value, measured alone: for who needs no record, which then is never made.
+// The same value measured alone, for a caller that needs no record.
 pub fn measure(code: u8, s: &[u8]) -> Measured
     ensures { λ r. ⌜ measuredOf r ≡ sizeOf (readRecord code (now (s .entry))) ⌝ }
 {
