@@ -1,16 +1,10 @@
 // Answers the commands on standard input, a line each, through the library's public calls (oracle/COMMANDS.md). It is held against the original
 // by oracle/run, and against a kept list of the original's answers whenever it is checked.
-mod fields;
-mod found;
-mod framed;
-mod parse;
-mod pushed;
-mod show;
-mod typed;
-
 use libc::STDIN_FILENO;
-use pushed::Served;
+use pushes::Served;
 use table::Table;
+use words::parse;
+use words::show;
 ghost use Prim.Native.Nat.{_≤_};
 ghost use Rattle.table.specs.Made.{Made};
 
@@ -30,97 +24,15 @@ struct Filled {
     ended: bool,
 }
 
-// The last field of a line with so many.
-fn decoded(line: &[u8], fields: usize, data: &mut [u8]) -> usize {
-    parse::decode(parse::field(line, fields), data)
-}
-
-// The commands of framing, whose bytes are the field that is given.
-fn answer_framed(
-    letter: u8,
-    line: &[u8],
-    data: &mut [u8],
-    out: &mut [u8],
-    text: &mut [u8],
-    used: usize,
-) -> usize {
-    if letter == b'w' {
-        let n = decoded(line, 3, data);
-        return framed::write(
-            parse::byte_in(line, 1),
-            parse::size_in(line, 2),
-            parse::part(data, 0, n),
-            out,
-            text,
-            used,
-        );
-    }
-    let n = decoded(line, 1, data);
-    let bytes = parse::part(data, 0, n);
-    match letter {
-        b't' => framed::read(bytes, text, used),
-        b'h' => framed::header(bytes, text, used),
-        b'k' => framed::walk(bytes, text, used),
-        b'g' => framed::walk(bytes, text, used),
-        _ => show::put(text, used, b"bad"),
-    }
-}
-
-// The commands of the kinds.
-fn answer_typed(
-    letter: u8,
-    line: &[u8],
-    data: &mut [u8],
-    out: &mut [u8],
-    text: &mut [u8],
-    used: usize,
-) -> usize {
-    let code = parse::byte_in(line, 1);
-    if letter == b'f' {
-        return typed::write(code, parse::size_in(line, 2), line, out, text, used);
-    }
-    if letter == b's' {
-        let n = decoded(line, 3, data);
-        let bytes = parse::part(data, 0, n);
-        return typed::rewrite(code, parse::size_in(line, 2), bytes, out, text, used);
-    }
-    if letter == b'e' {
-        let n = decoded(line, 3, data);
-        return typed::entry(
-            code,
-            parse::field(line, 2),
-            parse::part(data, 0, n),
-            text,
-            used,
-        );
-    }
-    let n = decoded(line, 2, data);
-    let bytes = parse::part(data, 0, n);
-    if letter == b'a' {
-        return typed::entries(code, bytes, text, used);
-    }
-    typed::read(code, bytes, text, used)
-}
-
-// The commands of finding.
-fn answer_finding(letter: u8, line: &[u8], data: &mut [u8], text: &mut [u8], used: usize) -> usize {
-    let code = parse::byte_in(line, 1);
-    let n = decoded(line, 2, data);
-    let payload = parse::part(data, 0, n);
-    if letter == b'd' {
-        return found::first(payload, code, text, used);
-    }
-    found::every(payload, code, text, used)
-}
-
 // One line answered; where the text then ends.
 fn answer(line: &[u8], data: &mut [u8], out: &mut [u8], text: &mut [u8], used: usize) -> usize {
     let letter = parse::byte_at(line, 0);
     match letter {
-        b'r' | b's' | b'f' | b'e' | b'a' => answer_typed(letter, line, data, out, text, used),
-        b'd' | b'D' => answer_finding(letter, line, data, text, used),
-        b'l' => show::put(text, used, b"skip"),
-        _ => answer_framed(letter, line, data, out, text, used),
+        b'k' | b'g' | b'd' | b'D' | b'l' => lists::answer(letter, line, data, text, used),
+        b'r' | b's' | b'f' | b'e' | b'a' => {
+            values::answer_typed(letter, line, data, out, text, used)
+        }
+        _ => values::answer_framed(letter, line, data, out, text, used),
     }
 }
 
@@ -158,8 +70,8 @@ fn turn(
 {
     let used = show::with_room(text, before);
     if is_of_table(parse::byte_at(line, 0)) {
-        let n = decoded(line, 8, data);
-        return pushed::answer(t, line, parse::part(data, 0, n), out, store, text, used);
+        let n = parse::decode_in(line, 8, data);
+        return pushes::answer(t, line, parse::part(data, 0, n), out, store, text, used);
     }
     let end = answer(line, data, out, text, used);
     Served {
@@ -168,10 +80,11 @@ fn turn(
     }
 }
 
-// Answers a line, or reads more where no line is there; at the input's end it writes out what is left.
-fn step(
+// Answers the line that stands there up to `end`.
+fn answered(
     s: State,
-    input: &mut [u8],
+    end: usize,
+    input: &[u8],
     data: &mut [u8],
     out: &mut [u8],
     store: &mut [u8],
@@ -181,27 +94,25 @@ fn step(
     ensures { λ r. ⌜ Made (r .table) ⌝ }
 {
     let t = s.table;
-    let end = parse::line_end(input, s.at, s.have);
-    if end < s.have {
-        let served = turn(
-            t,
-            parse::part(input, s.at, end),
-            data,
-            out,
-            store,
-            text,
-            s.used,
-        );
-        let after = served.table;
-        return State {
-            table: after,
-            used: show::put(text, served.used, b"\n"),
-            at: std::num::wrapping_add_usize(end, 1),
-            have: s.have,
-            ended: s.ended,
-            done: false,
-        };
+    let line = parse::part(input, s.at, end);
+    let served = turn(t, line, data, out, store, text, s.used);
+    let after = served.table;
+    State {
+        table: after,
+        used: show::put(text, served.used, b"\n"),
+        at: std::num::wrapping_add_usize(end, 1),
+        have: s.have,
+        ended: s.ended,
+        done: false,
     }
+}
+
+// Reads more; at the input's end it writes out what is left.
+fn supplied(s: State, input: &mut [u8], text: &[u8]) -> State
+    requires { ⌜ Made (s .table) ⌝ }
+    ensures { λ r. ⌜ Made (r .table) ⌝ }
+{
+    let t = s.table;
     if s.ended {
         show::flush(text, s.used);
         return State {
@@ -224,6 +135,25 @@ fn step(
     }
 }
 
+// Answers a line, or reads more where no line is there.
+fn step(
+    s: State,
+    input: &mut [u8],
+    data: &mut [u8],
+    out: &mut [u8],
+    store: &mut [u8],
+    text: &mut [u8],
+) -> State
+    requires { ⌜ Made (s .table) ⌝ }
+    ensures { λ r. ⌜ Made (r .table) ⌝ }
+{
+    let end = parse::line_end(input, s.at, s.have);
+    if end < s.have {
+        return answered(s, end, input, data, out, store, text);
+    }
+    supplied(s, input, text)
+}
+
 // Answers line by line until the input ends. A proved loop has to end, and nothing says that an input does: so it counts its turns.
 fn serve(input: &mut [u8], data: &mut [u8], out: &mut [u8], store: &mut [u8], text: &mut [u8]) {
     let mut s = start();
@@ -241,7 +171,7 @@ fn serve(input: &mut [u8], data: &mut [u8], out: &mut [u8], store: &mut [u8], te
 fn start() -> State
     ensures { λ r. ⌜ Made (r .table) ⌝ }
 {
-    let t = pushed::made_fresh();
+    let t = pushes::made_fresh();
     State {
         table: t,
         used: 0,
