@@ -5,6 +5,7 @@ use numbers::Refusal;
 use walking::Walked;
 use words::parse;
 use words::show;
+use words::show::Tally;
 
 // A found TLV: its place among the payload's, and where the bytes that were read of its value start and end.
 pub(crate) enum Hit {
@@ -18,12 +19,6 @@ pub(crate) enum Hit {
         at: usize,
     },
     Refused(Refusal),
-}
-
-// How many were found, and the checksum over them.
-struct Hits {
-    count: usize,
-    sum: u64,
 }
 
 // More than a payload has TLVs.
@@ -66,7 +61,7 @@ fn first_from(payload: &[u8], code: u8, from: usize) -> Hit {
     }
 }
 
-fn put_unwalked(refusal: Refusal, at: usize, text: &mut [u8], used: usize) -> usize {
+pub(crate) fn put_unwalked(refusal: Refusal, at: usize, text: &mut [u8], used: usize) -> usize {
     let a = show::put_refused(text, used, refusal);
     show::put_next_size(text, a, at)
 }
@@ -91,25 +86,15 @@ pub(crate) fn first(payload: &[u8], code: u8, text: &mut [u8], used: usize) -> u
     }
 }
 
-fn with_hit(h: Hits, part: &[u8]) -> Hits {
-    Hits {
-        count: std::num::wrapping_add_usize(h.count, 1),
-        sum: show::sum_of(show::sum_two(h.sum, part.len()), part),
-    }
-}
-
 // One after the other, each behind the one before.
-fn all_hits(payload: &[u8], code: u8) -> Hits {
-    let mut all = Hits {
-        count: 0,
-        sum: show::NOTHING,
-    };
+fn all_hits(payload: &[u8], code: u8) -> Tally {
+    let mut all = show::no_parts();
     let mut from = 0;
     let mut turn = 0;
     while turn < TURNS {
         match first_from(payload, code, from) {
             Hit::At { place, start, end } => {
-                all = with_hit(all, parse::part(payload, start, end));
+                all = show::with_part(all.count, all.sum, parse::part(payload, start, end));
                 from = std::num::wrapping_add_usize(place, 1);
             }
             Hit::Unwalked { refusal: _, at: _ } => {
@@ -124,12 +109,6 @@ fn all_hits(payload: &[u8], code: u8) -> Hits {
     all
 }
 
-fn put_hits(all: Hits, text: &mut [u8], used: usize) -> usize {
-    let a = show::put_ok(text, used);
-    let b = show::put_next_size(text, a, all.count);
-    show::put_next_sum(text, b, all.sum)
-}
-
 // D: every readable one.
 pub(crate) fn every(payload: &[u8], code: u8, text: &mut [u8], used: usize) -> usize {
     match first_from(payload, code, 0) {
@@ -137,11 +116,11 @@ pub(crate) fn every(payload: &[u8], code: u8, text: &mut [u8], used: usize) -> u
             place: _,
             start: _,
             end: _,
-        } => put_hits(all_hits(payload, code), text, used),
+        } => show::put_tally(text, used, all_hits(payload, code)),
         Hit::Unwalked { refusal, at } => put_unwalked(refusal, at, text, used),
         Hit::Refused(refusal) => {
             if numbers::number_of(refusal) == 15 {
-                return put_hits(all_hits(payload, code), text, used);
+                return show::put_tally(text, used, all_hits(payload, code));
             }
             show::put_refused(text, used, refusal)
         }

@@ -1,4 +1,5 @@
 // The commands of the walk: k and g.
+use crate::found;
 use crate::listing;
 use walking::Tlv;
 use walking::Walked;
@@ -110,9 +111,6 @@ pub(crate) fn walk(data: &[u8], text: &mut [u8], used: usize) -> usize {
             }
             show::put_next_sum(text, b, sum_all(data, count))
         }
-        Walked::Refused { refusal, at } => {
-            let a = show::put_refused(text, used, refusal);
-            show::put_next_size(text, a, at)
-        }
+        Walked::Refused { refusal, at } => found::put_unwalked(refusal, at, text, used),
     }
 }

@@ -1,17 +1,13 @@
 // The commands of the kinds: r, s, f, e and a.
 use crate::framed;
 use fields::Given;
+use framing::Written;
 use kinds::KindRead;
 use layouts::Located;
 use layouts::Path;
 use words::parse;
 use words::show;
-
-// The entries asked for so far: how many there were, and the checksum over them.
-struct Tally {
-    count: usize,
-    sum: u64,
-}
+use words::show::Tally;
 
 // Where to look next, while there is more to look for.
 struct Onward {
@@ -30,6 +26,13 @@ fn put_front(code: u8, data: &[u8], text: &mut [u8], used: usize) -> usize {
     show::put(text, used, b" -")
 }
 
+// How many bytes of a value were read, and how many are left.
+fn put_sizes(consumed: usize, rest: usize, text: &mut [u8], used: usize) -> usize {
+    let a = show::put_ok(text, used);
+    let b = show::put_next_size(text, a, consumed);
+    show::put_next_size(text, b, rest)
+}
+
 // r: a value read.
 pub(crate) fn read(code: u8, data: &[u8], text: &mut [u8], used: usize) -> usize {
     match kinds::read_kind(code, data) {
@@ -38,27 +41,40 @@ pub(crate) fn read(code: u8, data: &[u8], text: &mut [u8], used: usize) -> usize
             consumed,
             rest,
         } => {
-            let a = show::put_ok(text, used);
-            let b = show::put_next_size(text, a, consumed);
-            let c = show::put_next_size(text, b, rest);
-            fields::put_record(record, text, c)
+            let a = put_sizes(consumed, rest, text, used);
+            fields::put_record(record, text, a)
         }
         KindRead::List {
             entries,
             consumed,
             rest,
         } => {
-            let a = show::put_ok(text, used);
-            let b = show::put_next_size(text, a, consumed);
-            let c = show::put_next_size(text, b, rest);
-            let d = put_front(code, data, text, c);
-            show::put_next_size(text, d, entries)
+            let a = put_sizes(consumed, rest, text, used);
+            let b = put_front(code, data, text, a);
+            show::put_next_size(text, b, entries)
         }
         KindRead::Refused(refusal) => show::put_refused(text, used, refusal),
     }
 }
 
-// s: a value read, and written as it was read: a record from the record, a list from its bytes.
+// A value written as it was read: a record from the record, a list from its bytes.
+fn write_read(code: u8, data: &[u8], out: &mut [u8]) -> Written {
+    match kinds::read_kind(code, data) {
+        KindRead::Record {
+            record,
+            consumed: _,
+            rest: _,
+        } => record_writing::write_record(record, out),
+        KindRead::List {
+            entries: _,
+            consumed: _,
+            rest: _,
+        } => kinds::write_kind(code, data, out),
+        KindRead::Refused(refusal) => Written::Refused(refusal),
+    }
+}
+
+// s: a value read, and written into so much room.
 pub(crate) fn rewrite(
     code: u8,
     asked: usize,
@@ -68,25 +84,8 @@ pub(crate) fn rewrite(
     used: usize,
 ) -> usize {
     let room = parse::least(asked, out.len());
-    match kinds::read_kind(code, data) {
-        KindRead::Record {
-            record,
-            consumed: _,
-            rest: _,
-        } => {
-            let written = record_writing::write_record(record, &mut out[0..room]);
-            framed::put_written(written, out, text, used)
-        }
-        KindRead::List {
-            entries: _,
-            consumed: _,
-            rest: _,
-        } => {
-            let written = kinds::write_kind(code, data, &mut out[0..room]);
-            framed::put_written(written, out, text, used)
-        }
-        KindRead::Refused(refusal) => show::put_refused(text, used, refusal),
-    }
+    let written = write_read(code, data, &mut out[0..room]);
+    framed::put_written(written, out, text, used)
 }
 
 // f: a record written from its fields.
@@ -204,12 +203,8 @@ fn sum_path(sum: u64, p: Path) -> u64 {
     show::sum_two(b, p.i2)
 }
 
-fn with_entry(e: Tally, p: Path, part: &[u8]) -> Tally {
-    let named = sum_path(e.sum, p);
-    Tally {
-        count: std::num::wrapping_add_usize(e.count, 1),
-        sum: show::sum_of(show::sum_two(named, part.len()), part),
-    }
+fn with_entry(all: Tally, p: Path, part: &[u8]) -> Tally {
+    show::with_part(all.count, sum_path(all.sum, p), part)
 }
 
 fn is_there(code: u8, p: Path, data: &[u8]) -> bool {
@@ -221,10 +216,7 @@ fn is_there(code: u8, p: Path, data: &[u8]) -> bool {
 
 // Every entry of a value, each before those below it.
 fn all_entries(code: u8, data: &[u8]) -> Tally {
-    let mut all = Tally {
-        count: 0,
-        sum: show::NOTHING,
-    };
+    let mut all = show::no_parts();
     let mut p = Path {
         depth: 1,
         i0: 0,
@@ -255,17 +247,11 @@ pub(crate) fn entries(code: u8, data: &[u8], text: &mut [u8], used: usize) -> us
             record: _,
             consumed: _,
             rest: _,
-        } => put_entries(all_entries(code, data), text, used),
+        } => show::put_tally(text, used, all_entries(code, data)),
         KindRead::List {
             entries: _,
             consumed: _,
             rest: _,
-        } => put_entries(all_entries(code, data), text, used),
+        } => show::put_tally(text, used, all_entries(code, data)),
     }
-}
-
-fn put_entries(all: Tally, text: &mut [u8], used: usize) -> usize {
-    let a = show::put_ok(text, used);
-    let b = show::put_next_size(text, a, all.count);
-    show::put_next_sum(text, b, all.sum)
 }

@@ -136,6 +136,34 @@ pub fn sum_of(sum: u64, s: &[u8]) -> u64 {
     all
 }
 
+// Parts that were met one after the other: how many, and the checksum over them.
+pub struct Tally {
+    pub count: usize,
+    pub sum: u64,
+}
+
+// None yet.
+pub fn no_parts() -> Tally {
+    Tally {
+        count: 0,
+        sum: NOTHING,
+    }
+}
+
+// One part more, behind what the sum goes over: its length in two bytes, and its bytes.
+pub fn with_part(count: usize, sum: u64, part: &[u8]) -> Tally {
+    Tally {
+        count: std::num::wrapping_add_usize(count, 1),
+        sum: sum_of(sum_two(sum, part.len()), part),
+    }
+}
+
+pub fn put_tally(text: &mut [u8], used: usize, all: Tally) -> usize {
+    let a = put_ok(text, used);
+    let b = put_next_size(text, a, all.count);
+    put_next_sum(text, b, all.sum)
+}
+
 // Writes the first bytes of the text out.
 pub fn flush(text: &[u8], used: usize) {
     io::write_all(STDOUT_FILENO, crate::parse::part(text, 0, used));

@@ -1,3 +1,4 @@
+-- `serve` is safe and ends: it counts its turns, and the table stays one that the table's calls made.
 use mathlib.Core.Path.{_≡_}
 use lib.ListN.{length}
 use Rattle.table.specs.Made.{Made}

@@ -1,3 +1,4 @@
+-- `all_hits` is safe and ends: it counts its turns.
 use Prim.Native.Nat.{_-_}
 use borrow.Author.Needs.{needs}
 use Rattle.lists.proofs.found.all_hits.Statement.{statement}
@@ -8,6 +9,9 @@ Inv-loop payload code all₀ from₀ turn₀ all from turn = Unit {0}
 
 abbrev μ-loop : tie.MeasureT-loop
 μ-loop payload code all₀ from₀ turn₀ all from turn = 30000 - turn
+
+no-parts-requires : tie.Need-no-parts-requires Inv-loop μ-loop
+no-parts-requires c κs = search needs
 
 loop-holds : tie.Need-loop-holds Inv-loop μ-loop
 loop-holds c = tt
@@ -21,8 +25,8 @@ enum-known-place c = search needs
 part-requires : tie.Need-part-requires Inv-loop μ-loop
 part-requires c κs = search needs
 
-with-hit-requires : tie.Need-with-hit-requires Inv-loop μ-loop
-with-hit-requires c κs = search needs
+with-part-requires : tie.Need-with-part-requires Inv-loop μ-loop
+with-part-requires c κs = search needs
 
 wrapping-add-usize-requires : tie.Need-wrapping-add-usize-requires Inv-loop μ-loop
 wrapping-add-usize-requires c κs = search needs
@@ -57,11 +61,12 @@ all-hits-spec =
     (tie.spec
     Inv-loop
     μ-loop
+    no-parts-requires
     loop-holds
     first-from-requires
     enum-known-place
     part-requires
-    with-hit-requires
+    with-part-requires
     wrapping-add-usize-requires
     enum-told
     returns

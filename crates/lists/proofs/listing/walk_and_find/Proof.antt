@@ -276,7 +276,7 @@ module _ {M : Type 1} (𝓤 : URA M) (H : Heap 𝓤) (A : Atoms 𝓤) (W : Given
         rewrite ! 14 (λ (w : Val). ‵ (fat fullShare (ty 7) l₇ 0 w)) (ap only (EL.tells F.the-type F′.the-laws o (v ∷ []) is-o)) refl $
         let held = made-array T.the-field T′.the-field-laws 40 zs is-zs (typed zs (array-vals vals zs) is-zs .0 .1) in
         let is-d = LL.owes L.the-type L′.the-laws (answer zs r o)
-                (held .1, (subst (Is S.the-row r) (EL.tells S.the-type S′.the-laws r (u ∷ []) is-r) is-r, (subst (Is F.the-row o) (EL.tells F.the-type F′.the-laws o (v ∷ []) is-o) is-o, tt))) in
+        (held .1, (subst (Is S.the-row r) (EL.tells S.the-type S′.the-laws r (u ∷ []) is-r) is-r, (subst (Is F.the-row o) (EL.tells F.the-type F′.the-laws o (v ∷ []) is-o) is-o, tt))) in
         -- [_5; token′; token; …; _12; …]
         assigns ! (of-opd ! (load ! (from ! (stop !)) (look ! 0 refl))) (from ! (stop !)) (init ! 4 refl (typed zs (array-vals vals zs) is-zs .0)) $ rewrite ! 4 (λ (w : Val). ‵ (fat fullShare (ty 12) l₁₂ 0 w)) (held .0) refl $
         assigns ! (agg ! (and-then ! (load ! (from ! (stop !)) (look ! 4 refl)) (and-then ! (load ! (from ! (stop !)) (look ! 16 refl)) (and-then ! (load ! (from ! (stop !)) (look ! 14 refl)) (no-more !))))) (from ! (stop !))

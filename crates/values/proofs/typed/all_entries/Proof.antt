@@ -1,3 +1,4 @@
+-- `all_entries` is safe and ends: it counts its turns.
 use Prim.Native.Nat.{_-_}
 use borrow.Author.Needs.{needs}
 use Rattle.values.proofs.typed.all_entries.Statement.{statement}
@@ -8,6 +9,9 @@ Inv-loop code «data» all₀ p₀ turn₀ all p turn = Unit {0}
 
 abbrev μ-loop : tie.MeasureT-loop
 μ-loop code «data» all₀ p₀ turn₀ all p turn = 1000000 - turn
+
+no-parts-requires : tie.Need-no-parts-requires Inv-loop μ-loop
+no-parts-requires c κs = search needs
 
 loop-holds : tie.Need-loop-holds Inv-loop μ-loop
 loop-holds c = tt
@@ -45,6 +49,7 @@ all-entries-spec =
     (tie.spec
     Inv-loop
     μ-loop
+    no-parts-requires
     loop-holds
     is-there-requires
     entry-requires

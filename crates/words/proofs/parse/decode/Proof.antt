@@ -1,3 +1,4 @@
+-- `decode` is safe and ends: each turn goes on by two bytes or more, and no sum wraps in a field of at most a million bytes.
 use mathlib.Core.Path.{_≡_}
 use Prim.Native.Nat.{_≤_, _-_}
 use lib.ListN.{length}

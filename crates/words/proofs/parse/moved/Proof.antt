@@ -1,3 +1,4 @@
+-- `moved` meets its contract: what is moved came from within the bytes, so no more comes to the start than there is.
 use mathlib.Core.Path.{_≡_}
 use Prim.Native.Nat.{_≤_, _+_, _-_}
 use lib.ListN.{length}

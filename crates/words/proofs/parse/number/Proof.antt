@@ -1,3 +1,4 @@
+-- `number` is safe and ends: it takes each digit once.
 use Prim.Native.Nat.{_-_}
 use lib.ListN.{length}
 use borrow.Author.Needs.{needs}

@@ -1,3 +1,4 @@
+-- `piece` is safe and ends: it goes behind so many separators.
 use Prim.Native.Nat.{_-_}
 use borrow.Author.Needs.{needs}
 use Rattle.words.proofs.parse.piece.Statement.{statement}

@@ -1,3 +1,4 @@
+-- `pieces` is safe and ends: it looks at each byte once.
 use Prim.Native.Nat.{_-_}
 use lib.ListN.{length}
 use borrow.Author.Needs.{needs}

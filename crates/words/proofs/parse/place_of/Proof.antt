@@ -1,3 +1,4 @@
+-- `place_of` meets its contract: it looks at each byte once, and the place that it gives lies within the bytes.
 use Prim.Native.Nat.{_-_}
 use lib.ListN.{length}
 use borrow.Author.Needs.{needs}

@@ -1,3 +1,4 @@
+-- `repeat` is safe and ends: it stores so many times.
 use mathlib.Core.Path.{_≡_}
 use Prim.Native.Nat.{_-_}
 use lib.ListN.{length}

@@ -1,3 +1,4 @@
+-- `put` is safe and ends: the bytes have room behind what the text holds.
 use mathlib.Core.Path.{_≡_}
 use Prim.Native.Nat.{_≤_, _-_}
 use lib.ListN.{length}

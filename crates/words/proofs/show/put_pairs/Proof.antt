@@ -1,3 +1,4 @@
+-- `put_pairs` is safe and ends: it shows each byte once.
 use mathlib.Core.Path.{_≡_}
 use Prim.Native.Nat.{_-_}
 use lib.ListN.{length}
