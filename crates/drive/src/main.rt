@@ -28,11 +28,11 @@ struct Filled {
 fn answer(line: &[u8], data: &mut [u8], out: &mut [u8], text: &mut [u8], used: usize) -> usize {
     let letter = parse::byte_at(line, 0);
     match letter {
-        b'k' | b'g' | b'd' | b'D' | b'l' => lists::answer(letter, line, data, text, used),
+        b'k' | b'g' | b'd' | b'D' | b'l' => payloads::answer(letter, line, data, text, used),
         b'r' | b's' | b'f' | b'e' | b'a' => {
-            values::answer_typed(letter, line, data, out, text, used)
+            singles::answer_typed(letter, line, data, out, text, used)
         }
-        _ => values::answer_framed(letter, line, data, out, text, used),
+        _ => singles::answer_framed(letter, line, data, out, text, used),
     }
 }
 

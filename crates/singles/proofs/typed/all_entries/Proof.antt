@@ -1,8 +1,8 @@
 -- `all_entries` is safe and ends: it counts its turns.
 use Prim.Native.Nat.{_-_}
 use borrow.Author.Needs.{needs}
-use Rattle.values.proofs.typed.all_entries.Statement.{statement}
-use Rattle.values.proofs.typed.all_entries.Tie as tie
+use Rattle.singles.proofs.typed.all_entries.Statement.{statement}
+use Rattle.singles.proofs.typed.all_entries.Tie as tie
 
 abbrev Inv-loop : tie.InvT-loop
 Inv-loop code «data» all₀ p₀ turn₀ all p turn = Unit {0}

@@ -1,8 +1,8 @@
 -- `all_hits` is safe and ends: it counts its turns.
 use Prim.Native.Nat.{_-_}
 use borrow.Author.Needs.{needs}
-use Rattle.lists.proofs.found.all_hits.Statement.{statement}
-use Rattle.lists.proofs.found.all_hits.Tie as tie
+use Rattle.payloads.proofs.found.all_hits.Statement.{statement}
+use Rattle.payloads.proofs.found.all_hits.Tie as tie
 
 abbrev Inv-loop : tie.InvT-loop
 Inv-loop payload code all₀ from₀ turn₀ all from turn = Unit {0}

@@ -3,8 +3,8 @@ use mathlib.Core.Path.{_≡_}
 use Prim.Native.Nat.{_-_}
 use lib.ListN.{length}
 use borrow.Author.Needs.{needs}
-use Rattle.lists.proofs.given.list_of.Statement.{statement}
-use Rattle.lists.proofs.given.list_of.Tie as tie
+use Rattle.payloads.proofs.given.list_of.Statement.{statement}
+use Rattle.payloads.proofs.given.list_of.Tie as tie
 
 abbrev Inv-loop : tie.InvT-loop
 Inv-loop records tlvs₀ count i₀ tlvs i = length tlvs ≡ 40

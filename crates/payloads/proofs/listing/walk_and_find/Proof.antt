@@ -1,4 +1,4 @@
--- `lists::listing::walk_and_find` meets its contract: a walk of its MIR, by hand. The list lies in a local array. It is lent as a `&mut [Tlv]` for a lifetime that is made for the walk, comes back, is lent as a `&[Tlv]` for another one, and comes back to be copied into the answer.
+-- `payloads::listing::walk_and_find` meets its contract: a walk of its MIR, by hand. The list lies in a local array. It is lent as a `&mut [Tlv]` for a lifetime that is made for the walk, comes back, is lent as a `&[Tlv]` for another one, and comes back to be copied into the answer.
 -- Assumes nothing.
 use mathlib.Core.Path.{_≡_, refl, sym, _∙_, ap, subst}
 use Prim.Native.Nat.{ℕ, _<_, _^_}
@@ -71,14 +71,14 @@ use Rattle.finding.proofs.find as find
 use Rattle.finding.proofs.find.Symbol as find-def
 use Rattle.finding.proofs.find.Symbol.{name as #finding·find}
 use Rattle.finding.proofs.find.Met as find-thm
-use Rattle.lists.specs.declared.listing.Listed.{Listed}
-use Rattle.lists.proofs.listing.Listed as L
-use Rattle.lists.proofs.listing.Listed.Laws as L′
-use Rattle.lists.proofs.listing.walk_and_find.Key.{name as #lists·walk-and-find}
-use Rattle.lists.proofs.listing.walk_and_find as f
-use Rattle.lists.proofs.listing.walk_and_find.Statement as stated
-use Rattle.lists.proofs.listing.walk_and_find.Code as code
-use Rattle.lists.proofs.listing.walk_and_find.Code.Mir as mir
+use Rattle.payloads.specs.declared.listing.Listed.{Listed}
+use Rattle.payloads.proofs.listing.Listed as L
+use Rattle.payloads.proofs.listing.Listed.Laws as L′
+use Rattle.payloads.proofs.listing.walk_and_find.Key.{name as #payloads·walk-and-find}
+use Rattle.payloads.proofs.listing.walk_and_find as f
+use Rattle.payloads.proofs.listing.walk_and_find.Statement as stated
+use Rattle.payloads.proofs.listing.walk_and_find.Code as code
+use Rattle.payloads.proofs.listing.walk_and_find.Code.Mir as mir
 
 abbrev Arg : Type 0
 Arg = List Tlv × (RefT (List ℕ) × (RefT (List ℕ) × (ℕ × Unit {0})))
@@ -305,7 +305,7 @@ pub walk-and-find-spec : {M : Type 1} → stated.statement M
 unfolding code.routine tablesOf
 walk-and-find-spec 𝓤 H 𝓜 𝓖 𝓡 =
     entered 𝓤 H (tripleOf 𝓤 H (𝓖 .A) f.signature (f.spec 𝓤 H (𝓖 .A) (𝓜 .mem) (𝓡 .run)))
-    (tables 𝓤 H 𝓜 𝓡 code.env .C) (tables 𝓤 H 𝓜 𝓡 code.env .Λ) #lists·walk-and-find code.function (code.unfolded 𝓤 H 𝓜 𝓡)
+    (tables 𝓤 H 𝓜 𝓡 code.env .C) (tables 𝓤 H 𝓜 𝓡 code.env .Λ) #payloads·walk-and-find code.function (code.unfolded 𝓤 H 𝓜 𝓡)
     (list-meets 𝓤 H (𝓖 .A) (givenOf 𝓤 H 𝓜 𝓖) (𝓜 .mem) (𝓡 .run) (tablesOf 𝓤 H 𝓜 (tables 𝓤 H 𝓜 𝓡 code.env))
     (cited 𝓤 H (WalkC 𝓤 H (𝓖 .A) (𝓜 .mem) (𝓡 .run)) 𝓜 𝓡 code.env #walking·walk-into walk-into-def.routine code.calls-walking·walk-into (walk-into-thm.met 𝓤 H 𝓜 𝓖 𝓡))
     (cited 𝓤 H (FindC 𝓤 H (𝓖 .A) (𝓜 .mem) (𝓡 .run)) 𝓜 𝓡 code.env #finding·find find-def.routine code.calls-finding·find (find-thm.met 𝓤 H 𝓜 𝓖 𝓡)))

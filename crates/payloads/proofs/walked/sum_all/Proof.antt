@@ -1,8 +1,8 @@
 -- `sum_all` is safe and ends: it takes no more turns than there are TLVs.
 use Prim.Native.Nat.{_-_}
 use borrow.Author.Needs.{needs}
-use Rattle.lists.proofs.walked.sum_all.Statement.{statement}
-use Rattle.lists.proofs.walked.sum_all.Tie as tie
+use Rattle.payloads.proofs.walked.sum_all.Statement.{statement}
+use Rattle.payloads.proofs.walked.sum_all.Tie as tie
 
 abbrev Inv-loop : tie.InvT-loop
 Inv-loop «data» count sum₀ from₀ i₀ sum from i = Unit {0}
