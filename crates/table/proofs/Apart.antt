@@ -8,14 +8,14 @@ use lib.Dec.{eqb, ltb}
 use lib.ListN.{length, getD, take, drop, length-drop, take-append-drop}
 use lib.Seq.{paste, drop-paste, drop-drop, take-append-le, drop-append-le, length-take-le, getD-set-other, getD-set-same}
 use borrow.Author.Tests.{eqb-true, eqb-false, ne-eqb, ltb-true, ltb-false, not-true}
-use Rattle.table.specs.declared.Place.{Place}
 use Rattle.table.specs.declared.Table.{Table}
 use Rattle.table.specs.declared.Arrival.{Arrival}
-use Rattle.table.specs.Rows.{ownerOf, freePlace, placeAt, isRowOf, rowOf, isSpare, isNumbered, placeOf, isFree, lowestFree, withKey, withPlace, without, bytesAt}
+use Rattle.table.specs.Rows.{Place, ownerOf, freePlace, placeAt, isRowOf, rowOf, isSpare, isNumbered, placeOf, isFree, lowestFree, withKey, withPlace, without, bytesAt}
 use Rattle.table.specs.Joining.{kept, heldIn, heldBy, since, firstTime}
 use Rattle.table.specs.Push.{Way, way, tableBy, storeBy, placeFor}
 use Rattle.table.proofs.Search.{lowest-holds, lowest-same}
-use Rattle.table.proofs.Sound.{Sound, used-row, place-holds, row-holds, freed-at, dropped-unused, dropped-other, dropped-code}
+use Rattle.table.proofs.Places.{put-here, put-elsewhere, freed-at}
+use Rattle.table.proofs.Sound.{Sound, used-row, place-holds, row-holds, dropped-unused, dropped-other, dropped-code}
 use Rattle.table.proofs.Pieces.{kept-in, kept-out, fragment}
 use Rattle.table.proofs.Ways.{Went, went, went-refuse, went-replace, went-keep, went-open, went-end}
 
@@ -77,8 +77,8 @@ module _ (t t′ : Table) (store store′ : List ℕ) (row : ℕ) (same : Same t
           let there : placeOf t′ row number < 32 = omega (arith, same-place number) in
           kept-in t′ store′ (placeOf t′ row number) there
           ∙ ap (λ (j : ℕ). kept (fragment t′ store′ j)) (same-place number)
-          ∙ ap (λ (p : Place). kept (record { version = p .version; message-type = p .«message_type»; last = p .last; payload = bytesAt store′ i (p .size) })) (same .stays i own)
-          ∙ ap (λ (l : List ℕ). kept (record { version = placeAt t i .version; message-type = placeAt t i .«message_type»; last = placeAt t i .last; payload = l })) (same .bytes i own)
+          ∙ ap (λ (p : Place). kept (record { version = p .version; message-type = p .message-type; last = p .last; payload = bytesAt store′ i (p .size) })) (same .stays i own)
+          ∙ ap (λ (l : List ℕ). kept (record { version = placeAt t i .version; message-type = placeAt t i .message-type; last = placeAt t i .last; payload = l })) (same .bytes i own)
           ∙ sym (kept-in t store i h)
       by-found false e =
           let out : 32 ≤ placeOf t′ row number = omega (arith, same-place number, ltb-false (placeOf t row number) 32 e) in
@@ -103,7 +103,7 @@ module _ (t : Table) (s : Sound t) (store payload : List ℕ) (row i : ℕ) (p :
     (was : placeAt t i .owner ≡ ownerOf row → ⊥) (new : p .owner ≡ ownerOf row → ⊥) where
   pub put-same : Same t (withPlace t i p) store (paste store (i * 1492) payload (length payload)) row
   put-same = record {
-    stays = λ j own. getD-set-other (t .places) i j p freePlace (elsewhere j own);
+    stays = λ j own. put-elsewhere t i p j (elsewhere j own);
     bytes = λ j own. bytes-apart store payload i j (placeAt t j .size) (elsewhere j own) (s .small j) small h long;
     none = λ j own. by-index j own (eqb j i) refl;
   }
@@ -114,8 +114,8 @@ module _ (t : Table) (s : Sound t) (store payload : List ℕ) (row i : ℕ) (p :
       by-index : (j : ℕ) → placeAt (withPlace t i p) j .owner ≡ ownerOf row → (b : Bool) → eqb j i ≡ b → placeAt t j .owner ≡ ownerOf row
       by-index j own true e =
           let same : j ≡ i = eqb-true _ _ e in
-          absurd (new (ap (λ (q : Place). q .owner) (sym (getD-set-same (t .places) i p freePlace (omega (arith, s .places-long)))) ∙ ap (λ (k : ℕ). placeAt (withPlace t i p) k .owner) (sym same) ∙ own))
-      by-index j own false e = ap (λ (q : Place). q .owner) (sym (getD-set-other (t .places) i j p freePlace (eqb-false _ _ e))) ∙ own
+          absurd (new (ap (λ (q : Place). q .owner) (sym (put-here t i p (s .places-long) h)) ∙ ap (λ (k : ℕ). placeAt (withPlace t i p) k .owner) (sym same) ∙ own))
+      by-index j own false e = ap (λ (q : Place). q .owner) (sym (put-elsewhere t i p j (eqb-false _ _ e))) ∙ own
 
 -- another row's key is dropped
 module _ (t : Table) (s : Sound t) (store : List ℕ) (row dropped : ℕ) (other : row ≡ dropped → ⊥) where

@@ -1,11 +1,13 @@
 pub mod Search
 pub mod Lengths
-pub mod Mapped
+pub mod Wiped
+pub mod Places
 pub mod Ways
 pub mod Sweeping
 pub mod Sound
 pub mod Pieces
 pub mod Ends
+pub mod Changes
 pub mod Firm
 pub mod Keys
 pub mod Apart

@@ -8,15 +8,15 @@ use lib.Dec.{eqb, ltb}
 use lib.ListN.{length, getD, take, drop}
 use lib.Seq.{paste, drop-at, take-at, take-length, length-take-le, getD-set-other, getD-set-same}
 use borrow.Author.Tests.{eqb-true, eqb-false, eq-eqb, ne-eqb, ltb-true, ltb-false, lt-ltb, le-ltb, not-true}
-use Rattle.table.specs.declared.Place.{Place}
 use Rattle.table.specs.declared.Table.{Table}
 use Rattle.table.specs.declared.Fragment.{Fragment}
 use Rattle.table.specs.declared.Arrival.{Arrival}
-use Rattle.table.specs.Rows.{ownerOf, freePlace, placeAt, isRowOf, rowOf, isSpare, isNumbered, placeOf, isFree, withKey, withPlace, without, bytesAt}
+use Rattle.table.specs.Rows.{Place, ownerOf, freePlace, placeAt, isRowOf, rowOf, isSpare, isNumbered, placeOf, isFree, withKey, withPlace, without, bytesAt}
 use Rattle.table.specs.Joining.{Fragments, Held, Kept, nothing, kept, heldOf, keptAt, heldIn, heldBy, andNew, Since, never, since, firstTime}
 use Rattle.table.specs.Push.{Way, refuse, replace, keepAt, openAt, end, way, tableBy, storeBy, placeFor}
 use Rattle.table.proofs.Search.{lowest-is, lowest-holds, lowest-before, lowest-same}
-use Rattle.table.proofs.Sound.{Sound, used-row, place-holds, not-held, numbered-both, open-sound, drop-sound}
+use Rattle.table.proofs.Places.{put-here, put-elsewhere}
+use Rattle.table.proofs.Sound.{Sound, used-row, place-holds, no-place, not-held, numbered-both, open-sound, drop-sound}
 use Rattle.table.proofs.Pieces.{kept-in, kept-out, fragment}
 use Rattle.table.proofs.Apart.{bytes-apart, drop-gone}
 use Rattle.table.proofs.Ways.{Went, went, went-refuse, went-replace, went-keep, went-open, went-end}
@@ -33,13 +33,7 @@ bytes-here d s at h =
 -- a key that the table does not hold
 module _ (t : Table) (s : Sound t) (key : ℕ) (out : 16 ≤ rowOf t key) where
   pub absent : (store : List ℕ) (number : ℕ) → heldBy t store key number ≡ nothing
-  absent store number = kept-out t store (placeOf t (rowOf t key) number) (by-found (ltb (placeOf t (rowOf t key) number) 32) refl)
-    where
-      by-found : (b : Bool) → ltb (placeOf t (rowOf t key) number) 32 ≡ b → 32 ≤ placeOf t (rowOf t key) number
-      by-found false e = ltb-false _ _ e
-      by-found true e =
-          let own = place-holds t (rowOf t key) number (ltb-true _ _ e) .0 in
-          absurd (omega (arith, used-row t s (rowOf t key) (s .owned (placeOf t (rowOf t key) number) (rowOf t key) own)))
+  absent store number = kept-out t store (placeOf t (rowOf t key) number) (no-place t s (rowOf t key) number out)
 
   pub absent-since : firstTime t key ≡ never
   unfolding firstTime
@@ -58,13 +52,13 @@ module _ (t : Table) (s : Sound t) (store payload : List ℕ) (row i : ℕ) (f :
   store′ = paste store (i * 1492) payload (length payload)
 
   here : placeAt t′ i ≡ p
-  here = getD-set-same (t .places) i p freePlace (omega (arith, s .places-long))
+  here = put-here t i p (s .places-long) h
 
   elsewhere : (j : ℕ) → (j ≡ i → ⊥) → placeAt t′ j ≡ placeAt t j
-  elsewhere j ne = getD-set-other (t .places) i j p freePlace ne
+  elsewhere j ne = put-elsewhere t i p j ne
 
   new-place : i ≡ placeOf t′ row (f .number)
-  new-place = lowest-is (λ j. isNumbered (ownerOf row) (f .number) (placeAt t′ j)) 32 i h (rw (here, eq-eqb (ownerOf row) (ownerOf row) refl, eq-eqb (f .number) (f .number) refl)) (λ j l. before j l (isNumbered (ownerOf row) (f .number) (placeAt t j)) refl)
+  new-place = lowest-is (λ j. isNumbered (ownerOf row) (f .number) (placeAt t′ j)) 32 i h (ap (isNumbered (ownerOf row) (f .number)) here ∙ rw (eq-eqb (ownerOf row) (ownerOf row) refl, eq-eqb (f .number) (f .number) refl)) (λ j l. before j l (isNumbered (ownerOf row) (f .number) (placeAt t j)) refl)
     where
       before : (j : ℕ) → j < i → (b : Bool) → isNumbered (ownerOf row) (f .number) (placeAt t j) ≡ b → isNumbered (ownerOf row) (f .number) (placeAt t′ j) ≡ false
       before j l b e = ap (isNumbered (ownerOf row) (f .number)) (elsewhere j (λ same. omega arith)) ∙ by-test b e
@@ -85,12 +79,12 @@ module _ (t : Table) (s : Sound t) (store payload : List ℕ) (row i : ℕ) (f :
       by-index j true e =
           let same : j ≡ i = eqb-true _ _ e in
           let not-k : eqb (f .number) k ≡ false = ne-eqb _ _ (λ q. ne (sym q)) in
-          ap (λ (m : ℕ). isNumbered (ownerOf row) k (placeAt t′ m)) same ∙ rw (here, eq-eqb (ownerOf row) (ownerOf row) refl, not-k) (sym (ap (λ (m : ℕ). isNumbered (ownerOf row) k (placeAt t m)) same ∙ by-test (isNumbered (ownerOf row) k (placeAt t i)) refl))
+          ap (λ (m : ℕ). isNumbered (ownerOf row) k (placeAt t′ m)) same ∙ ap (isNumbered (ownerOf row) k) here ∙ rw (eq-eqb (ownerOf row) (ownerOf row) refl, not-k) (sym (ap (λ (m : ℕ). isNumbered (ownerOf row) k (placeAt t m)) same ∙ by-test (isNumbered (ownerOf row) k (placeAt t i)) refl))
 
   new-held : (k : ℕ) → k ≡ f .number → heldIn t′ store′ row k ≡ kept (heldOf f payload)
   new-held k e =
       ap (heldIn t′ store′ row) e ∙ ap (keptAt t′ store′) (sym new-place) ∙ kept-in t′ store′ i h
-      ∙ ap (λ (q : Place). kept (record { version = q .version; message-type = q .«message_type»; last = q .last; payload = bytesAt store′ i (q .size) })) here
+      ∙ ap (λ (q : Place). kept (record { version = q .version; message-type = q .message-type; last = q .last; payload = bytesAt store′ i (q .size) })) here
       ∙ ap (λ (l : List ℕ). kept (record { version = f .version; message-type = f .«message_type»; last = f .last; payload = l })) (bytes-here store payload (i * 1492) (omega arith))
 
   other-held : (k : ℕ) → (k ≡ f .number → ⊥) → heldIn t′ store′ row k ≡ heldIn t store row k
@@ -104,8 +98,8 @@ module _ (t : Table) (s : Sound t) (store payload : List ℕ) (row i : ℕ) (f :
           let holds = place-holds t row k l in
           let j≢i : j ≡ i → ⊥ = λ same. ne (sym (holds .1) ∙ ap (λ (m : ℕ). placeAt t m .number) same ∙ old (ap (λ (m : ℕ). placeAt t m .owner) (sym same) ∙ holds .0)) in
           kept-in t′ store′ j l
-          ∙ ap (λ (q : Place). kept (record { version = q .version; message-type = q .«message_type»; last = q .last; payload = bytesAt store′ j (q .size) })) (elsewhere j j≢i)
-          ∙ ap (λ (b : List ℕ). kept (record { version = placeAt t j .version; message-type = placeAt t j .«message_type»; last = placeAt t j .last; payload = b })) (bytes-apart store payload i j (placeAt t j .size) j≢i (s .small j) small h long)
+          ∙ ap (λ (q : Place). kept (record { version = q .version; message-type = q .message-type; last = q .last; payload = bytesAt store′ j (q .size) })) (elsewhere j j≢i)
+          ∙ ap (λ (b : List ℕ). kept (record { version = placeAt t j .version; message-type = placeAt t j .message-type; last = placeAt t j .last; payload = b })) (bytes-apart store payload i j (placeAt t j .size) j≢i (s .small j) small h long)
           ∙ sym (kept-in t store j l)
 
   pub put-held : (k : ℕ) → heldIn t′ store′ row k ≡ andNew (heldIn t store row) (f .number) (heldOf f payload) k

@@ -1,28 +1,28 @@
 -- What holds of every table that the calls made: its lists have their lengths, each place's size and number fit, belong to a row that a key has, and are the only ones with their number there; and no key has two rows.
 use mathlib.Core.Path.{_≡_, refl, sym, ap, _∙_, subst}
-use mathlib.Core.List.{List, map}
+use mathlib.Core.List.{List}
 use mathlib.Core.Bool.{Bool, true, false, cond, _&&_, false≢true}
 use Prim.Native.Nat.{ℕ, zero, suc, _≤_, _<_}
 use native.Mathlib.Omega.{arith}
 use lib.Dec.{eqb, ltb}
-use lib.ListN.{length, getD, set, replicate, length-set, length-map, length-replicate, List·getD-eq-default, List·getD-map}
+use lib.ListN.{length, getD, set, length-set, length-replicate, List·getD-eq-default}
 use lib.Seq.{getD-set-same, getD-set-other}
 use borrow.Author.Tests.{eqb-true, eqb-false, eq-eqb, ltb-true, ltb-false, not-true}
-use Rattle.table.specs.declared.Place.{Place}
 use Rattle.table.specs.declared.Table.{Table}
 use Rattle.table.specs.declared.Arrival.{Arrival}
 use Rattle.table.specs.declared.Swept.{Swept}
-use Rattle.table.specs.Rows.{ownerOf, freePlace, freshTable, placeAt, isRowOf, rowOf, isSpare, isNumbered, placeOf, withKey, withPlace, freed, without}
+use Rattle.table.specs.Rows.{Place, ownerOf, freePlace, freshTable, placeAt, isRowOf, rowOf, isSpare, isNumbered, placeOf, withKey, withPlace, without}
 use Rattle.table.specs.Push.{Way, tableBy, placeFor, droppedKey}
 use Rattle.table.specs.Sweep.{lackOf, counted, tally, sweptRow, sweptRows, expired}
 use Rattle.table.specs.Made.{Made, byFresh, byPush, bySweep}
 use Rattle.table.proofs.Search.{lowest-holds, lowest-before}
+use Rattle.table.proofs.Places.{Long, fresh-long, put-long, drop-long, all-same, fresh-place, put-here, put-elsewhere, freed-at}
 use Rattle.table.proofs.Ways.{Went, went, went-refuse, went-replace, went-keep, went-open, went-end}
 
 pub record Sound (t : Table) : Type 0 where
   pub codes-long : length (t .codes) ≡ 16
   pub firsts-long : length (t .firsts) ≡ 16
-  pub places-long : length (t .places) ≡ 32
+  pub places-long : Long t
   pub used-long : length (t .used) ≡ 16
   pub small : (i : ℕ) → placeAt t i .size ≤ 1492
   pub byte : (i : ℕ) → placeAt t i .number < 256
@@ -33,12 +33,6 @@ pub record Sound (t : Table) : Type 0 where
   -- a key has one row
   pub keyed : (r s : ℕ) → getD (t .used) r false ≡ true → getD (t .used) s false ≡ true → getD (t .codes) r 0 ≡ getD (t .codes) s 0 → r ≡ s
 
--- lists
-all-same : {A : Type 0} (n i : ℕ) (a : A) → getD (replicate n a) i a ≡ a
-all-same zero i a = refl
-all-same (suc n) zero a = refl
-all-same (suc n) (suc i) a = all-same n i a
-
 -- an element after one was set, by whether it is that one
 at-set : {A : Type 0} (P : A → Type 0) (l : List A) (i j : ℕ) (a d : A) → i < length l → (i ≡ j → P a) → ((j ≡ i → ⊥) → P (getD l j d)) → P (getD (set l i a) j d)
 at-set P l i j a d h here other = by-index (eqb j i) refl
@@ -46,14 +40,6 @@ at-set P l i j a d h here other = by-index (eqb j i) refl
     by-index : (b : Bool) → eqb j i ≡ b → P (getD (set l i a) j d)
     by-index false e = subst P (sym (getD-set-other l i j a d (eqb-false j i e))) (other (eqb-false j i e))
     by-index true e = subst P (sym (ap (λ (k : ℕ). getD (set l i a) k d) (eqb-true j i e) ∙ getD-set-same l i a d h)) (here (sym (eqb-true j i e)))
-
-pub freed-at : (t : Table) (row i : ℕ) → placeAt (without t row) i ≡ freed row (placeAt t i)
-unfolding without
-freed-at t row i = ap (getD (map (freed row) (t .places)) i) (blank (eqb 0 (ownerOf row))) ∙ List·getD-map (freed row) (t .places) i freePlace
-  where
-    blank : (b : Bool) → freePlace ≡ cond b freePlace freePlace
-    blank true = refl
-    blank false = refl
 
 -- a row that a key has is one of the table's
 pub used-row : (t : Table) → Sound t → (row : ℕ) → getD (t .used) row false ≡ true → row < 16
@@ -72,8 +58,8 @@ owned-place t s i row e = by-end (ltb i 32) refl
     by-end : (b : Bool) → ltb i 32 ≡ b → i < 32
     by-end true q = ltb-true _ _ q
     by-end false q =
-        let long : length (t .places) ≤ i = omega (arith, s .places-long, ltb-false i 32 q) in
-        let none : placeAt t i .owner ≡ 0 = ap (λ (p : Place). p .owner) (List·getD-eq-default (t .places) freePlace long) in
+        let long : length (t .owners) ≤ i = omega (arith, s .places-long .owners, ltb-false i 32 q) in
+        let none : placeAt t i .owner ≡ 0 = List·getD-eq-default (t .owners) 0 long in
         absurd (omega arith)
 
 -- what a search for a number or a key says
@@ -106,6 +92,16 @@ held-at t s i row e = by-found (ltb (placeOf t row (placeAt t i .number)) 32) re
         s .once i (placeOf t row (placeAt t i .number)) row e (h .0) (sym (h .1))
     by-found false q = absurd (not-held t s row (placeAt t i .number) (ltb-false _ _ q) i e refl)
 
+-- a row beyond the table's holds nothing
+pub no-place : (t : Table) → Sound t → (row number : ℕ) → 16 ≤ row → 32 ≤ placeOf t row number
+no-place t s row number out = by-found (ltb (placeOf t row number) 32) refl
+  where
+    by-found : (b : Bool) → ltb (placeOf t row number) 32 ≡ b → 32 ≤ placeOf t row number
+    by-found false e = ltb-false _ _ e
+    by-found true e =
+        let own = place-holds t row number (ltb-true _ _ e) .0 in
+        absurd (omega (arith, used-row t s row (s .owned (placeOf t row number) row own)))
+
 pub row-both : (t : Table) (key row : ℕ) → isRowOf t key row ≡ true → (getD (t .used) row false ≡ true) × (getD (t .codes) row 0 ≡ key)
 row-both t key row e = by-tests (getD (t .used) row false) refl (eqb (getD (t .codes) row 0) key) refl e
   where
@@ -127,25 +123,26 @@ pub fresh-sound : Sound freshTable
 fresh-sound = record {
   codes-long = length-replicate {A = ℕ} 16 0;
   firsts-long = length-replicate {A = ℕ} 16 0;
-  places-long = length-replicate 32 freePlace;
+  places-long = fresh-long;
   used-long = length-replicate 16 false;
-  small = λ i. subst (λ (p : Place). p .size ≤ 1492) (sym (all-same 32 i freePlace)) (omega arith);
-  byte = λ i. subst (λ (p : Place). p .number < 256) (sym (all-same 32 i freePlace)) (omega arith);
+  small = λ i. subst (λ (p : Place). p .size ≤ 1492) (sym (fresh-place i)) (omega arith);
+  byte = λ i. subst (λ (p : Place). p .number < 256) (sym (fresh-place i)) (omega arith);
   owned = λ i row e. absurd (unowned i row e);
   once = λ i j row e f g. absurd (unowned i row e);
   keyed = λ r s e f g. absurd (false≢true (sym (all-same 16 r false) ∙ e));
 }
   where
     unowned : (i row : ℕ) → placeAt freshTable i .owner ≡ ownerOf row → ⊥
-    unowned i row e = let none : placeAt freshTable i .owner ≡ 0 = ap (λ (p : Place). p .owner) (all-same 32 i freePlace) in omega arith
+    unowned i row e = let none : placeAt freshTable i .owner ≡ 0 = ap (λ (p : Place). p .owner) (fresh-place i) in omega arith
 
 module _ (t : Table) (s : Sound t) (at row : ℕ) (in-32 : at < 32) (p : Place) (e : p .owner ≡ ownerOf row) (small : p .size ≤ 1492) (byte : p .number < 256) (used : getD (t .used) row false ≡ true)
     (new : (j : ℕ) → (j ≡ at → ⊥) → placeAt t j .owner ≡ ownerOf row → placeAt t j .number ≡ p .number → ⊥) where
-  in-places : at < length (t .places)
-  in-places = omega (arith, s .places-long)
-
   at-place : (P : Place → Type 0) (i : ℕ) → (at ≡ i → P p) → ((i ≡ at → ⊥) → P (placeAt t i)) → P (placeAt (withPlace t at p) i)
-  at-place P i here other = at-set P (t .places) at i p freePlace in-places here other
+  at-place P i here other = by-index (eqb i at) refl
+    where
+      by-index : (b : Bool) → eqb i at ≡ b → P (placeAt (withPlace t at p) i)
+      by-index false e = subst P (sym (put-elsewhere t at p i (eqb-false i at e))) (other (eqb-false i at e))
+      by-index true e = subst P (sym (ap (placeAt (withPlace t at p)) (eqb-true i at e) ∙ put-here t at p (s .places-long) in-32)) (here (sym (eqb-true i at e)))
 
   owner-at : (i r : ℕ) → placeAt (withPlace t at p) i .owner ≡ ownerOf r → getD (t .used) r false ≡ true
   owner-at i r = at-place (λ (q : Place). q .owner ≡ ownerOf r → getD (t .used) r false ≡ true) i
@@ -170,7 +167,7 @@ module _ (t : Table) (s : Sound t) (at row : ℕ) (in-32 : at < 32) (p : Place) 
   put-sound = record {
     codes-long = s .codes-long;
     firsts-long = s .firsts-long;
-    places-long = length-set (t .places) at p ∙ s .places-long;
+    places-long = put-long t (s .places-long) at p;
     used-long = s .used-long;
     small = λ i. at-place (λ (q : Place). q .size ≤ 1492) i (λ here. small) (λ other. s .small i);
     byte = λ i. at-place (λ (q : Place). q .number < 256) i (λ here. byte) (λ other. s .byte i);
@@ -193,11 +190,15 @@ module _ (t : Table) (s : Sound t) (row key time : ℕ) (in-16 : row < 16) (new 
       (λ other. at-set (λ (k : ℕ). getD (t .codes) r 0 ≡ k → r ≡ q) (t .codes) row q key 0 (omega (arith, s .codes-long))
       (λ here g. absurd (no-row t s key new r (was-used r other e) g)) (λ other₂ g. s .keyed r q (was-used r other e) (was-used q other₂ f) g))
 
+  -- the lists of places stay
+  opened-long : Long t → Long (withKey t row key time)
+  opened-long l = record { types = l .types; sizes = l .sizes; owners = l .owners; numbers = l .numbers; versions = l .versions; lasts = l .lasts }
+
   pub open-sound : Sound (withKey t row key time)
   open-sound = record {
     codes-long = length-set (t .codes) row key ∙ s .codes-long;
     firsts-long = length-set (t .firsts) row time ∙ s .firsts-long;
-    places-long = s .places-long;
+    places-long = opened-long (s .places-long);
     used-long = length-set (t .used) row true ∙ s .used-long;
     small = s .small;
     byte = s .byte;
@@ -235,7 +236,7 @@ module _ (t : Table) (s : Sound t) (row : ℕ) (in-16 : row < 16) where
   drop-sound = record {
     codes-long = length-set (t .codes) row 0 ∙ s .codes-long;
     firsts-long = length-set (t .firsts) row 0 ∙ s .firsts-long;
-    places-long = length-map (t .places) (freed row) ∙ s .places-long;
+    places-long = drop-long t (s .places-long) row;
     used-long = length-set (t .used) row false ∙ s .used-long;
     small = λ i. at-freed (λ (q : Place). q .size ≤ 1492) i (omega arith) (λ other. s .small i);
     byte = λ i. at-freed (λ (q : Place). q .number < 256) i (omega arith) (λ other. s .byte i);

@@ -1,19 +1,18 @@
 -- Laws of the sweep: what one place, one key and one row add.
 use mathlib.Core.Path.{_≡_, refl, sym, ap}
 use mathlib.Core.Bool.{Bool, true, false, cond, _||_}
-use Prim.Native.Nat.{ℕ, max, _+_, _≤_, _<_}
+use Prim.Native.Nat.{ℕ, zero, suc, max, _+_, _≤_, _<_}
 use native.Mathlib.Omega.{arith}
 use native.Mathlib.Numerals.{add-one}
 use lib.Dec.{eqb}
 use borrow.Author.Tests.{eq-eqb, ne-eqb, lt-ltb, le-ltb}
-use Rattle.table.specs.declared.Place.{Place}
 use Rattle.table.specs.declared.Table.{Table}
 use Rattle.table.specs.declared.Counts.{Counts}
 use Rattle.table.specs.declared.Swept.{Swept}
 use Rattle.table.specs.declared.ages.Tally.{Tally}
-use Rattle.table.specs.Rows.{ownerOf, placeAt, without}
+use Rattle.table.specs.Rows.{Place, ownerOf, placeAt, without}
 use Rattle.table.specs.Sweep.{tallied, tally, Lack, emptyFragments, noneMarkedLast, fewerKept, neitherOf, lackOf, counted, expired, sweptRow, sweptRows}
-use Rattle.table.specs.Leaves.{Within}
+use Rattle.table.specs.Leaves.{Within, tableWith}
 
 -- places
 pub tally-none : (t : Table) (row : ℕ) → record { many = 0; beyond = 0; marked = false } ≡ tally t row 0
@@ -23,6 +22,12 @@ tally-none t row = refl
 pub tally-next : (t : Table) (row n : ℕ) → tallied row (placeAt t n) (tally t row n) ≡ tally t row (n + 1)
 unfolding tally
 tally-next t row n = sym (ap (tally t row) (add-one n))
+
+-- a tally looks at three of the lists
+pub tally-lists : (t : Table) (row n : ℕ) → tally (tableWith (t .owners) (t .numbers) (t .lasts)) row n ≡ tally t row n
+unfolding tally
+tally-lists t row zero = refl
+tally-lists t row (suc n) = ap (tallied row (placeAt t n)) (tally-lists t row n)
 
 pub tallied-many : (row : ℕ) (p : Place) (s : Tally) → tallied row p s .many ≤ s .many + 1
 tallied-many row p s = by-owner (eqb (p .owner) (ownerOf row))

@@ -10,34 +10,34 @@ use Rattle.table.specs.declared.Table.{Table}
 use Rattle.table.specs.declared.Arrival.{Arrival}
 use Rattle.table.specs.Rows.{rowOf, spareRow, placeOf, lowestFree}
 use Rattle.table.specs.Joining.{Joining, inconsistentMetadata, missingFragments, missingLastFragment, message}
-use Rattle.table.specs.Push.{Way, refuse, replace, keepAt, openAt, end, Ending, inconsistentEnd, missingEnd, missingLastEnd, singleEnd, joinedEnd, keepWay, lastWay, joinedWith, way, outputBy, storeBy}
+use Rattle.table.specs.Push.{Way, refuse, replace, keepAt, openAt, end, Ending, inconsistentEnd, missingEnd, missingLastEnd, singleEnd, joinedEnd, keepWay, lastWay, joinedWith, wayBy, way, outputBy}
 
 -- step 3
-module _ (t : Table) (row place : ℕ) (e : place ≡ lowestFree t) where
-  pub keep-full : 32 ≤ place → keepWay t row ≡ refuse 10 []
+module _ (free spare row : ℕ) (place : ℕ) (e : place ≡ free) where
+  pub keep-full : 32 ≤ place → keepWay free spare row ≡ refuse 10 []
   unfolding keepWay
   keep-full h = rw (← e, le-leb _ _ h)
 
   module _ (h₁ : place < 32) where
-    pub keep-there : row < 16 → keepWay t row ≡ keepAt place
+    pub keep-there : row < 16 → keepWay free spare row ≡ keepAt place
     unfolding keepWay
     keep-there h = rw (← e, lt-leb _ _ h₁, lt-ltb _ _ h)
 
-    module _ (h₂ : 16 ≤ row) (spare : ℕ) (e₂ : spare ≡ spareRow t) where
-      pub keep-keys : 16 ≤ spare → keepWay t row ≡ refuse 10 []
+    module _ (h₂ : 16 ≤ row) (at : ℕ) (e₂ : at ≡ spare) where
+      pub keep-keys : 16 ≤ at → keepWay free spare row ≡ refuse 10 []
       unfolding keepWay
       keep-keys h = rw (← e, ← e₂, lt-leb _ _ h₁, le-ltb _ _ h₂, le-leb _ _ h)
 
-      pub keep-new : spare < 16 → keepWay t row ≡ openAt place spare
+      pub keep-new : at < 16 → keepWay free spare row ≡ openAt place at
       unfolding keepWay
       keep-new h = rw (← e, ← e₂, lt-leb _ _ h₁, le-ltb _ _ h₂, lt-leb _ _ h)
 
 -- a fragment that is kept or refused leaves the output alone
-pub keep-output : (t : Table) (row : ℕ) (out : List ℕ) → out ≡ outputBy (keepWay t row) out
+pub keep-output : (free spare row : ℕ) (out : List ℕ) → out ≡ outputBy (keepWay free spare row) out
 unfolding keepWay
-keep-output t row out = by-tests (leb 32 (lowestFree t)) (ltb row 16) (leb 16 (spareRow t))
+keep-output free spare row out = by-tests (leb 32 free) (ltb row 16) (leb 16 spare)
   where
-    by-tests : (a b c : Bool) → out ≡ outputBy (cond a (refuse 10 []) (cond b (keepAt (lowestFree t)) (cond c (refuse 10 []) (openAt (lowestFree t) (spareRow t))))) out
+    by-tests : (a b c : Bool) → out ≡ outputBy (cond a (refuse 10 []) (cond b (keepAt free) (cond c (refuse 10 []) (openAt free spare)))) out
     by-tests true b c = refl
     by-tests false true c = refl
     by-tests false false true = refl
@@ -91,46 +91,43 @@ never-other (message n bytes) room w e o = by-tests (leb n 1) (ltb room (length 
     by-tests false true q = q
     by-tests false false q = q
 
--- and it leaves the store alone
-pub last-store : (j : Joining) (room : ℕ) (store payload : List ℕ) → store ≡ storeBy (lastWay j room) store payload
-unfolding lastWay
-last-store inconsistentMetadata room store payload = refl
-last-store missingFragments room store payload = refl
-last-store missingLastFragment room store payload = refl
-last-store (message n bytes) room store payload = by-tests (leb n 1) (ltb room (length bytes))
-  where
-    by-tests : (x y : Bool) → store ≡ storeBy (cond x (end (singleEnd (length bytes))) (cond y (refuse 13 (length bytes ∷ [])) (end (joinedEnd bytes)))) store payload
-    by-tests true y = refl
-    by-tests false true = refl
-    by-tests false false = refl
-
 -- the tests of push, in their order
-module _ (t : Table) (store : List ℕ) (a : Arrival) (payload : List ℕ) (room : ℕ) where
-  pub way-11 : length store < 47744 → way t store a payload room ≡ refuse 11 []
-  unfolding way
-  way-11 h = rw (lt-ltb _ _ h)
+module _ (stored size place : ℕ) (last : Bool) (joins keeps : Way) where
+  pub by-11 : stored < 47744 → wayBy stored size place last joins keeps ≡ refuse 11 []
+  unfolding wayBy
+  by-11 h = rw (lt-ltb _ _ h)
 
-  module _ (h₁ : 47744 ≤ length store) where
-    pub way-12 : 1492 < length payload → way t store a payload room ≡ refuse 12 []
-    unfolding way
-    way-12 h = rw (le-ltb _ _ h₁, lt-ltb _ _ h)
+  module _ (h₁ : 47744 ≤ stored) where
+    pub by-12 : 1492 < size → wayBy stored size place last joins keeps ≡ refuse 12 []
+    unfolding wayBy
+    by-12 h = rw (le-ltb _ _ h₁, lt-ltb _ _ h)
 
-    module _ (h₂ : length payload ≤ 1492) (row place : ℕ) (e : row ≡ rowOf t (a .key)) (e₂ : place ≡ placeOf t row (a .fragment .number)) where
-      at-place : place ≡ placeOf t (rowOf t (a .key)) (a .fragment .number)
-      at-place = e₂ ∙ ap (λ (r : ℕ). placeOf t r (a .fragment .number)) e
-
-      pub way-replace : place < 32 → way t store a payload room ≡ replace place
-      unfolding way
-      way-replace h = rw (← at-place, le-ltb _ _ h₁, le-ltb _ _ h₂, lt-ltb _ _ h)
+    module _ (h₂ : size ≤ 1492) where
+      pub by-replace : place < 32 → wayBy stored size place last joins keeps ≡ replace place
+      unfolding wayBy
+      by-replace h = rw (le-ltb _ _ h₁, le-ltb _ _ h₂, lt-ltb _ _ h)
 
       module _ (h₃ : 32 ≤ place) where
-        pub way-last : a .fragment .last ≡ true → way t store a payload room ≡ lastWay (joinedWith t store row (a .fragment) payload) room
-        unfolding way
-        way-last h = rw (← at-place, le-ltb _ _ h₁, le-ltb _ _ h₂, le-ltb _ _ h₃, h, ← e)
+        pub by-last : last ≡ true → wayBy stored size place last joins keeps ≡ joins
+        unfolding wayBy
+        by-last h = rw (le-ltb _ _ h₁, le-ltb _ _ h₂, le-ltb _ _ h₃, h)
 
-        pub way-keep : a .fragment .last ≡ false → way t store a payload room ≡ keepWay t row
-        unfolding way
-        way-keep h = rw (← at-place, le-ltb _ _ h₁, le-ltb _ _ h₂, le-ltb _ _ h₃, h, ← e)
+        pub by-keep : last ≡ false → wayBy stored size place last joins keeps ≡ keeps
+        unfolding wayBy
+        by-keep h = rw (le-ltb _ _ h₁, le-ltb _ _ h₂, le-ltb _ _ h₃, h)
+
+-- what step 4 comes to matters only where it is reached
+pub same-joins : (stored size place : ℕ) (last : Bool) (x y keeps : Way) → (47744 ≤ stored → 32 ≤ place → x ≡ y) → wayBy stored size place last x keeps ≡ wayBy stored size place last y keeps
+unfolding wayBy
+same-joins stored size place last x y keeps e = by-tests (ltb stored 47744) refl (ltb 1492 size) (ltb place 32) refl last
+  where
+    by-tests : (a : Bool) → ltb stored 47744 ≡ a → (b c : Bool) → ltb place 32 ≡ c → (d : Bool)
+        → cond a (refuse 11 []) (cond b (refuse 12 []) (cond c (replace place) (cond d x keeps))) ≡ cond a (refuse 11 []) (cond b (refuse 12 []) (cond c (replace place) (cond d y keeps)))
+    by-tests true p b c q d = refl
+    by-tests false p true c q d = refl
+    by-tests false p false true q d = refl
+    by-tests false p false false q true = e (ltb-false _ _ p) (ltb-false _ _ q)
+    by-tests false p false false q false = refl
 
 -- which way a push went, and what held: what is true of each way is shown by these five cases
 pub data Went (t : Table) (store : List ℕ) (a : Arrival) (payload : List ℕ) (room : ℕ) : Way → Type 0 where
@@ -150,36 +147,49 @@ module _ (t : Table) (store : List ℕ) (a : Arrival) (payload : List ℕ) (room
   abbrev place : ℕ
   place = placeOf t row (a .fragment .number)
 
+  abbrev joins : Way
+  joins = lastWay (joinedWith t store row (a .fragment) payload) room
+
+  abbrev keeps : Way
+  keeps = keepWay (lowestFree t) (spareRow t) row
+
+  pub way-11 : length store < 47744 → way t store a payload room ≡ refuse 11 []
+  unfolding way
+  way-11 h = by-11 (length store) (length payload) place (a .fragment .last) joins keeps h
+
   module _ (h₁ : 47744 ≤ length store) (h₂ : length payload ≤ 1492) (h₃ : 32 ≤ place) where
-    by-keep : a .fragment .last ≡ false → (x : Bool) → leb 32 (lowestFree t) ≡ x → (y : Bool) → ltb row 16 ≡ y → (z : Bool) → leb 16 (spareRow t) ≡ z → Went t store a payload room (keepWay t row)
-    by-keep l true e y f z g = rw (keep-full t row (lowestFree t) refl (leb-true _ _ e)) (went-refuse 10 [])
-    by-keep l false e true f z g = rw (keep-there t row (lowestFree t) refl (leb-false _ _ e) (ltb-true _ _ f)) (went-keep (lowestFree t) h₁ h₂ h₃ l refl (leb-false _ _ e) (ltb-true _ _ f))
-    by-keep l false e false f true g = rw (keep-keys t row (lowestFree t) refl (leb-false _ _ e) (ltb-false _ _ f) (spareRow t) refl (leb-true _ _ g)) (went-refuse 10 [])
-    by-keep l false e false f false g = rw (keep-new t row (lowestFree t) refl (leb-false _ _ e) (ltb-false _ _ f) (spareRow t) refl (leb-false _ _ g)) (went-open (lowestFree t) (spareRow t) h₁ h₂ h₃ l refl (leb-false _ _ e) (ltb-false _ _ f) refl (leb-false _ _ g))
+    by-room : a .fragment .last ≡ false → (x : Bool) → leb 32 (lowestFree t) ≡ x → (y : Bool) → ltb row 16 ≡ y → (z : Bool) → leb 16 (spareRow t) ≡ z → Went t store a payload room keeps
+    by-room l true e y f z g = rw (keep-full (lowestFree t) (spareRow t) row (lowestFree t) refl (leb-true _ _ e)) (went-refuse 10 [])
+    by-room l false e true f z g = rw (keep-there (lowestFree t) (spareRow t) row (lowestFree t) refl (leb-false _ _ e) (ltb-true _ _ f)) (went-keep (lowestFree t) h₁ h₂ h₃ l refl (leb-false _ _ e) (ltb-true _ _ f))
+    by-room l false e false f true g = rw (keep-keys (lowestFree t) (spareRow t) row (lowestFree t) refl (leb-false _ _ e) (ltb-false _ _ f) (spareRow t) refl (leb-true _ _ g)) (went-refuse 10 [])
+    by-room l false e false f false g = rw (keep-new (lowestFree t) (spareRow t) row (lowestFree t) refl (leb-false _ _ e) (ltb-false _ _ f) (spareRow t) refl (leb-false _ _ g)) (went-open (lowestFree t) (spareRow t) h₁ h₂ h₃ l refl (leb-false _ _ e) (ltb-false _ _ f) refl (leb-false _ _ g))
 
     -- a last way is a refusal or an end
-    by-last : a .fragment .last ≡ true → (w : Way) → lastWay (joinedWith t store row (a .fragment) payload) room ≡ w → Went t store a payload room w
-    by-last l (refuse n values) e = went-refuse n values
-    by-last l (end ending) e = went-end ending h₁ h₂ h₃ l e
-    by-last l (replace i) e = absurd (never-other (joinedWith t store row (a .fragment) payload) room (replace i) e tt)
-    by-last l (keepAt i) e = absurd (never-other (joinedWith t store row (a .fragment) payload) room (keepAt i) e tt)
-    by-last l (openAt i r) e = absurd (never-other (joinedWith t store row (a .fragment) payload) room (openAt i r) e tt)
+    by-end : a .fragment .last ≡ true → (w : Way) → joins ≡ w → Went t store a payload room w
+    by-end l (refuse n values) e = went-refuse n values
+    by-end l (end ending) e = went-end ending h₁ h₂ h₃ l e
+    by-end l (replace i) e = absurd (never-other (joinedWith t store row (a .fragment) payload) room (replace i) e tt)
+    by-end l (keepAt i) e = absurd (never-other (joinedWith t store row (a .fragment) payload) room (keepAt i) e tt)
+    by-end l (openAt i r) e = absurd (never-other (joinedWith t store row (a .fragment) payload) room (openAt i r) e tt)
 
     by-mark : (l : Bool) → a .fragment .last ≡ l → Went t store a payload room (way t store a payload room)
-    by-mark true l = rw (way-last t store a payload room h₁ h₂ row place refl refl h₃ l) (by-last l (lastWay (joinedWith t store row (a .fragment) payload) room) refl)
-    by-mark false l = rw (way-keep t store a payload room h₁ h₂ row place refl refl h₃ l) (by-keep l (leb 32 (lowestFree t)) refl (ltb row 16) refl (leb 16 (spareRow t)) refl)
+    unfolding way
+    by-mark true l = rw (by-last (length store) (length payload) place (a .fragment .last) joins keeps h₁ h₂ h₃ l) (by-end l joins refl)
+    by-mark false l = rw (by-keep (length store) (length payload) place (a .fragment .last) joins keeps h₁ h₂ h₃ l) (by-room l (leb 32 (lowestFree t)) refl (ltb row 16) refl (leb 16 (spareRow t)) refl)
 
   by-place : 47744 ≤ length store → length payload ≤ 1492 → (b : Bool) → ltb place 32 ≡ b → Went t store a payload room (way t store a payload room)
-  by-place h₁ h₂ true e = rw (way-replace t store a payload room h₁ h₂ row place refl refl (ltb-true _ _ e)) (went-replace place h₁ h₂ refl (ltb-true _ _ e))
+  unfolding way
+  by-place h₁ h₂ true e = rw (by-replace (length store) (length payload) place (a .fragment .last) joins keeps h₁ h₂ (ltb-true _ _ e)) (went-replace place h₁ h₂ refl (ltb-true _ _ e))
   by-place h₁ h₂ false e = by-mark h₁ h₂ (ltb-false _ _ e) (a .fragment .last) refl
 
   by-size : 47744 ≤ length store → (b : Bool) → ltb 1492 (length payload) ≡ b → Went t store a payload room (way t store a payload room)
-  by-size h₁ true e = rw (way-12 t store a payload room h₁ (ltb-true _ _ e)) (went-refuse 12 [])
+  unfolding way
+  by-size h₁ true e = rw (by-12 (length store) (length payload) place (a .fragment .last) joins keeps h₁ (ltb-true _ _ e)) (went-refuse 12 [])
   by-size h₁ false e = by-place h₁ (ltb-false _ _ e) (ltb place 32) refl
 
-  by-room : (b : Bool) → ltb (length store) 47744 ≡ b → Went t store a payload room (way t store a payload room)
-  by-room true e = rw (way-11 t store a payload room (ltb-true _ _ e)) (went-refuse 11 [])
-  by-room false e = by-size (ltb-false _ _ e) (ltb 1492 (length payload)) refl
+  by-store : (b : Bool) → ltb (length store) 47744 ≡ b → Went t store a payload room (way t store a payload room)
+  by-store true e = rw (way-11 (ltb-true _ _ e)) (went-refuse 11 [])
+  by-store false e = by-size (ltb-false _ _ e) (ltb 1492 (length payload)) refl
 
   pub went : Went t store a payload room (way t store a payload room)
-  went = by-room (ltb (length store) 47744) refl
+  went = by-store (ltb (length store) 47744) refl

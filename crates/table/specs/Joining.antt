@@ -35,7 +35,7 @@ heldOf f payload = record { version = f .version; message-type = f .«message_ty
 unfoldable pub keptAt : Table → List ℕ → ℕ → Kept
 keptAt t store i =
     cond (ltb i 32)
-    (kept (record { version = placeAt t i .version; message-type = placeAt t i .«message_type»; last = placeAt t i .last; payload = bytesAt store i (placeAt t i .size) }))
+    (kept (record { version = placeAt t i .version; message-type = placeAt t i .message-type; last = placeAt t i .last; payload = bytesAt store i (placeAt t i .size) }))
     nothing
 
 -- what a row holds, and what a key holds

@@ -1,19 +1,18 @@
 -- Push (document 01, "The table", its numbered list): which way it goes, and what each way does.
 use mathlib.Core.Path.{_≡_}
 use mathlib.Core.List.{List, [], _∷_, _++_}
-use mathlib.Core.Bool.{cond}
+use mathlib.Core.Bool.{Bool, cond}
 use Prim.Native.Nat.{ℕ, _*_}
 use lib.Dec.{ltb, leb}
 use lib.ListN.{length, drop}
 use lib.Seq.{paste}
 use Rattle.numbers.specs.Numbers.{Answer, gives, refuses, told}
-use Rattle.table.specs.declared.Place.{Place}
 use Rattle.table.specs.declared.Table.{Table}
 use Rattle.table.specs.declared.Fragment.{Fragment}
 use Rattle.table.specs.declared.Arrival.{Arrival}
 use Rattle.table.specs.declared.Pushed.{Pushed}
 use Rattle.table.specs.declared.Pushed.the-variants.{WaitingForMoreFragments, DuplicatedFragment, InconsistentMetadata, MissingFragments, MissingLastFragment, Single, Joined, Refused}
-use Rattle.table.specs.Rows.{ownerOf, rowOf, spareRow, placeOf, lowestFree, withKey, withPlace, without}
+use Rattle.table.specs.Rows.{Place, ownerOf, rowOf, spareRow, placeOf, lowestFree, withKey, withPlace, without}
 use Rattle.table.specs.Joining.{Joining, inconsistentMetadata, missingFragments, missingLastFragment, message, heldOf, heldIn, andNew, joining}
 
 -- what push answers where it does not refuse
@@ -60,12 +59,13 @@ pub data Way : Type 0 where
   end : Ending → Way
 
 -- 3. "Not marked last: refusal 10, or kept". 10: "when 32 places are used, or when it needs a new key and 16 are used"
-unfoldable pub keepWay : Table → ℕ → Way
-keepWay t row =
-    cond (leb 32 (lowestFree t)) (refuse 10 [])
-    (cond (ltb row 16) (keepAt (lowestFree t))
-    (cond (leb 16 (spareRow t)) (refuse 10 [])
-    (openAt (lowestFree t) (spareRow t))))
+-- free is the lowest free place, spare the lowest row that no key has
+unfoldable pub keepWay : (free spare row : ℕ) → Way
+keepWay free spare row =
+    cond (leb 32 free) (refuse 10 [])
+    (cond (ltb row 16) (keepAt free)
+    (cond (leb 16 spare) (refuse 10 [])
+    (openAt free spare)))
 
 -- 4. "Marked last: it needs no place. Join it with those kept." 13: "two or more fragments join, but into more bytes than the output has"
 unfoldable pub lastWay : Joining → ℕ → Way
@@ -81,18 +81,25 @@ lastWay (message n bytes) room =
 abbrev pub joinedWith : Table → List ℕ → ℕ → Fragment → List ℕ → Joining
 joinedWith t store row f payload = joining (heldOf f payload) (andNew (heldIn t store row) (f .number) (heldOf f payload))
 
--- "Push, in this order"; room is the output's length
+-- "Push, in this order": by the lengths of the store and the payload, the place that holds the fragment's number, the last mark, and the ways of steps 4 and 3
+unfoldable pub wayBy : (stored size place : ℕ) → Bool → (joins keeps : Way) → Way
+wayBy stored size place last joins keeps =
+    cond (ltb stored 47744) (refuse 11 [])
+    (cond (ltb 1492 size) (refuse 12 [])
+    (cond (ltb place 32) (replace place)
+    (cond last joins
+    keeps)))
+
+-- room is the output's length
 unfoldable pub way : Table → List ℕ → Arrival → List ℕ → ℕ → Way
 way t store a payload room =
-    cond (ltb (length store) 47744) (refuse 11 [])
-    (cond (ltb 1492 (length payload)) (refuse 12 [])
-    (cond (ltb (placeOf t (rowOf t (a .key)) (a .fragment .number)) 32) (replace (placeOf t (rowOf t (a .key)) (a .fragment .number)))
-    (cond (a .fragment .last) (lastWay (joinedWith t store (rowOf t (a .key)) (a .fragment) payload) room)
-    (keepWay t (rowOf t (a .key))))))
+    wayBy (length store) (length payload) (placeOf t (rowOf t (a .key)) (a .fragment .number)) (a .fragment .last)
+    (lastWay (joinedWith t store (rowOf t (a .key)) (a .fragment) payload) room)
+    (keepWay (lowestFree t) (spareRow t) (rowOf t (a .key)))
 
 -- a fragment as its place keeps it
 abbrev pub placeFor : ℕ → Fragment → ℕ → Place
-placeFor row f size = record { «message_type» = f .«message_type»; size = size; owner = ownerOf row; version = f .version; number = f .number; last = f .last }
+placeFor row f size = record { message-type = f .«message_type»; size = size; owner = ownerOf row; number = f .number; version = f .version; last = f .last }
 
 -- "the key is dropped", if it is there
 abbrev pub droppedKey : Table → ℕ → Table

@@ -1,22 +1,40 @@
 -- The table's rows and places (document 01, "The table"): "Room: 16 keys; 32 places of 1,492 bytes in a lent store of at least 47,744."
-use mathlib.Core.List.{List, map}
+use mathlib.Core.List.{List, [], _∷_}
 use mathlib.Core.Bool.{Bool, true, false, cond, not, _&&_}
 use Prim.Native.Nat.{ℕ, _+_, _*_}
 use lib.Dec.{eqb}
 use lib.ListN.{take, drop, getD, set, replicate}
-use Rattle.table.specs.declared.Place.{Place}
 use Rattle.table.specs.declared.Table.{Table}
 use Rattle.table.specs.Search.{lowest}
 
--- a place's owner is 1 more than the row that it belongs to, and 0 where the place holds nothing
+-- what a place holds: a fragment, but for its payload's bytes; its owner is 1 more than the row that it belongs to, and 0 where the place holds nothing
+pub record Place : Type 0 where
+  pub message-type : ℕ
+  pub size : ℕ
+  pub owner : ℕ
+  pub number : ℕ
+  pub version : ℕ
+  pub last : Bool
+
 abbrev pub ownerOf : ℕ → ℕ
 ownerOf row = row + 1
 
 abbrev pub freePlace : Place
-freePlace = record { «message_type» = 0; size = 0; owner = 0; version = 0; number = 0; last = false }
+freePlace = record { message-type = 0; size = 0; owner = 0; number = 0; version = 0; last = false }
 
 abbrev pub freshTable : Table
-freshTable = record { codes = replicate 16 0; firsts = replicate 16 0; places = replicate 32 freePlace; used = replicate 16 false }
+freshTable =
+    record {
+      codes = replicate 16 0;
+      firsts = replicate 16 0;
+      «message_types» = replicate 32 0;
+      sizes = replicate 32 0;
+      owners = replicate 32 0;
+      numbers = replicate 32 0;
+      versions = replicate 32 0;
+      lasts = replicate 32 false;
+      used = replicate 16 false;
+    }
 
 -- the row of a key, 16 where the table holds nothing under it
 abbrev pub isRowOf : Table → ℕ → ℕ → Bool
@@ -32,8 +50,17 @@ isSpare t row = not (getD (t .used) row false)
 abbrev pub spareRow : Table → ℕ
 spareRow t = lowest (isSpare t) 16
 
+-- place i, put together from its six lists
 abbrev pub placeAt : Table → ℕ → Place
-placeAt t i = getD (t .places) i freePlace
+placeAt t i =
+    record {
+      message-type = getD (t .«message_types») i 0;
+      size = getD (t .sizes) i 0;
+      owner = getD (t .owners) i 0;
+      number = getD (t .numbers) i 0;
+      version = getD (t .versions) i 0;
+      last = getD (t .lasts) i false;
+    }
 
 -- the place in which a row holds the fragment with a number, 32 where it holds none; no place belongs to row 16
 abbrev pub isNumbered : (owner number : ℕ) → Place → Bool
@@ -51,17 +78,53 @@ lowestFree t = lowest (λ i. isFree (placeAt t i)) 32
 
 -- the table with a key at a row that was spare, and with a fragment at a place
 abbrev pub withKey : Table → (row key time : ℕ) → Table
-withKey t row key time = record { codes = set (t .codes) row key; firsts = set (t .firsts) row time; places = t .places; used = set (t .used) row true }
+withKey t row key time =
+    record {
+      codes = set (t .codes) row key;
+      firsts = set (t .firsts) row time;
+      «message_types» = t .«message_types»;
+      sizes = t .sizes;
+      owners = t .owners;
+      numbers = t .numbers;
+      versions = t .versions;
+      lasts = t .lasts;
+      used = set (t .used) row true;
+    }
 
 abbrev pub withPlace : Table → ℕ → Place → Table
-withPlace t i p = record { codes = t .codes; firsts = t .firsts; places = set (t .places) i p; used = t .used }
+withPlace t i p =
+    record {
+      codes = t .codes;
+      firsts = t .firsts;
+      «message_types» = set (t .«message_types») i (p .message-type);
+      sizes = set (t .sizes) i (p .size);
+      owners = set (t .owners) i (p .owner);
+      numbers = set (t .numbers) i (p .number);
+      versions = set (t .versions) i (p .version);
+      lasts = set (t .lasts) i (p .last);
+      used = t .used;
+    }
+
+-- a list of the places after an owner's are freed: a blank stands where the list of owners has this owner
+unfoldable pub wiped : {A : Type 0} → ℕ → A → List ℕ → List A → List A
+wiped owner blank [] xs = xs
+wiped owner blank (o ∷ os) [] = []
+wiped owner blank (o ∷ os) (x ∷ xs) = cond (eqb o owner) blank x ∷ wiped owner blank os xs
 
 -- the table after a row's key is dropped: the row and its places are as fresh ones
-abbrev pub freed : ℕ → Place → Place
-freed row p = cond (eqb (p .owner) (ownerOf row)) freePlace p
-
 unfoldable pub without : Table → ℕ → Table
-without t row = record { codes = set (t .codes) row 0; firsts = set (t .firsts) row 0; places = map (freed row) (t .places); used = set (t .used) row false }
+without t row =
+    record {
+      codes = set (t .codes) row 0;
+      firsts = set (t .firsts) row 0;
+      «message_types» = wiped (ownerOf row) 0 (t .owners) (t .«message_types»);
+      sizes = wiped (ownerOf row) 0 (t .owners) (t .sizes);
+      owners = wiped (ownerOf row) 0 (t .owners) (t .owners);
+      numbers = wiped (ownerOf row) 0 (t .owners) (t .numbers);
+      versions = wiped (ownerOf row) 0 (t .owners) (t .versions);
+      lasts = wiped (ownerOf row) false (t .owners) (t .lasts);
+      used = set (t .used) row false;
+    }
 
 -- the bytes that place i of the store holds
 abbrev pub bytesAt : List ℕ → ℕ → ℕ → List ℕ

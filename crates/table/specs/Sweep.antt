@@ -3,12 +3,11 @@ use mathlib.Core.Bool.{Bool, false, cond, not, _&&_, _||_}
 use Prim.Native.Nat.{ℕ, zero, suc, max, _+_, _-_}
 use lib.Dec.{eqb, leb, ltb}
 use lib.ListN.{getD}
-use Rattle.table.specs.declared.Place.{Place}
 use Rattle.table.specs.declared.Table.{Table}
 use Rattle.table.specs.declared.ages.Tally.{Tally}
 use Rattle.table.specs.declared.Counts.{Counts}
 use Rattle.table.specs.declared.Swept.{Swept}
-use Rattle.table.specs.Rows.{ownerOf, placeAt, without}
+use Rattle.table.specs.Rows.{Place, ownerOf, placeAt, without}
 
 -- "Elapsed time is now less the first time, 0 if the clock went back": the difference of whole numbers, which stops at 0
 abbrev pub elapsed : ℕ → ℕ → ℕ

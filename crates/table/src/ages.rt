@@ -1,15 +1,11 @@
-// Sweep, row by row: a key is dropped when 3,000 milliseconds have passed since its first fragment, and counted by what it lacked.
+// What a sweep asks of a row: a key is dropped when 3,000 milliseconds have passed since its first fragment, and counted by what it lacked.
 use crate::Counts;
-use crate::Place;
-use crate::Swept;
-use crate::Table;
-use crate::rows::without_key;
 ghost use mathlib.Core.Path.{_≡_};
 ghost use mathlib.Core.Bool.{_&&_, _||_};
 ghost use Prim.Native.Nat.{max, _+_, _-_, _≤_, _<_};
 ghost use lib.Dec.{leb};
-ghost use Rattle.table.specs.Sweep.{tallied, tally, lackOf, counted, sweptRow};
-ghost use Rattle.table.specs.Leaves.{Within};
+ghost use Rattle.table.specs.Sweep.{tallied, tally, lackOf, counted};
+ghost use Rattle.table.specs.Leaves.{Within, placeWith, tableWith};
 
 // What a row holds: how many fragments, 1 more than their highest number (0 where there are none), and if one is marked last.
 pub struct Tally {
@@ -30,26 +26,31 @@ pub fn either(a: bool, b: bool) -> bool
     if a { true } else { b }
 }
 
-// One place more.
-pub fn with_place(s: Tally, p: Place, row: usize) -> Tally
+// One place more: its owner, number and mark.
+pub fn with_place(s: Tally, of: u8, number: u8, last: bool, row: usize) -> Tally
     requires { ⌜ (row < 16) × (s .many < 32) ⌝ }
-    ensures { λ r. ⌜ r ≡ tallied row p s ⌝ }
+    ensures { λ r. ⌜ r ≡ tallied row (placeWith of number last) s ⌝ }
 {
     let owner = row as u8 + 1;
-    if p.owner == owner {
-        let own = p.number as usize;
+    if of == owner {
+        let own = number as usize;
         return Tally {
             many: s.many + 1,
             beyond: larger(s.beyond, own + 1),
-            marked: either(s.marked, p.last),
+            marked: either(s.marked, last),
         };
     }
     s
 }
 
-pub fn tally_of(t: Table, row: usize) -> Tally
+pub fn tally_of<'a>(
+    owners: &'a [u8; 32],
+    numbers: &'a [u8; 32],
+    lasts: &'a [bool; 32],
+    row: usize,
+) -> Tally
     requires { ⌜ row < 16 ⌝ }
-    ensures { λ r. ⌜ r ≡ tally t row 32 ⌝ }
+    ensures { λ r. ⌜ r ≡ tally (tableWith (now (owners .entry)) (now (numbers .entry)) (now (lasts .entry))) row 32 ⌝ }
 {
     let mut s = Tally {
         many: 0,
@@ -58,8 +59,7 @@ pub fn tally_of(t: Table, row: usize) -> Tally
     };
     let mut i: usize = 0;
     while i < 32 {
-        let p = t.places[i];
-        s = with_place(s, p, row);
+        s = with_place(s, owners[i], numbers[i], lasts[i], row);
         i += 1;
     }
     s
@@ -99,19 +99,4 @@ pub fn is_expired(used: bool, first: u64, time: u64) -> bool
         return 3000 <= elapsed;
     }
     false
-}
-
-pub fn sweep_row(s: Swept, row: usize, time: u64) -> Swept
-    requires { ⌜ (row < 16) × Within row (s .counts) ⌝ }
-    ensures { λ r. ⌜ (r ≡ sweptRow time row s) × Within (row + 1) (r .counts) ⌝ }
-{
-    let t = s.table;
-    if is_expired(t.used[row], t.firsts[row], time) {
-        let c = s.counts;
-        let held = tally_of(t, row);
-        let counts = with_key_dropped(c, held);
-        let table = without_key(t, row);
-        return Swept { table, counts };
-    }
-    s
 }

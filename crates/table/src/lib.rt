@@ -1,21 +1,21 @@
 // The fragment table: messages that come in fragments, kept until they are whole or too old.
 
 mod ages;
+mod choose;
 mod join;
-mod keep;
-mod last;
 mod look;
 mod rows;
 
-use ages::sweep_row;
-use keep::accept;
-use last::finish;
-use look::Sought;
-use look::Wanted;
-use look::find_place;
-use look::find_row;
+use ages::is_expired;
+use ages::tally_of;
+use ages::with_key_dropped;
+use choose::Change;
+use choose::choose;
+use look::find_key;
 use numbers::Refusal;
-use rows::put;
+use rows::copy;
+use rows::with_fragment;
+use rows::without_key;
 ghost use mathlib.Core.Path.{_≡_};
 ghost use mathlib.Core.List.{[], _∷_};
 ghost use lib.ListN.{length};
@@ -26,26 +26,21 @@ ghost use Rattle.table.specs.Show.{shown};
 ghost use Rattle.table.specs.Keys.{keyOf};
 ghost use Rattle.table.specs.Made.{Made};
 
-// One kept fragment, but for its payload, which lies in the lent store at 1,492 bytes a place.
-#[repr(C)]
-pub struct Place {
-    pub message_type: u16,
-    // how many bytes its payload has
-    pub size: u16,
-    // 1 more than the row of its key, 0 where the place is free
-    pub owner: u8,
-    pub number: u8,
-    pub version: u8,
-    pub last: bool,
-}
-
-// 16 keys, each in a row of three fields, and 32 places.
+// 16 keys, each in a row of three lists, and 32 places, each in a row of six: a kept fragment, but for its payload, which lies in the lent store at 1,492
+// bytes a place. Each list is an array of its own, which a look-up can be lent.
 #[repr(C)]
 pub struct Table {
     pub codes: [u64; 16],
     // when the key's first fragment came
     pub firsts: [u64; 16],
-    pub places: [Place; 32],
+    pub message_types: [u16; 32],
+    // how many bytes the payload has
+    pub sizes: [u16; 32],
+    // 1 more than the row of its key, 0 where the place is free
+    pub owners: [u8; 32],
+    pub numbers: [u8; 32],
+    pub versions: [u8; 32],
+    pub lasts: [bool; 32],
     pub used: [bool; 16],
 }
 
@@ -103,18 +98,15 @@ pub struct Swept {
 pub fn fresh() -> Table
     ensures { λ r. ⌜ r ≡ freshTable ⌝ }
 {
-    let place = Place {
-        message_type: 0,
-        size: 0,
-        owner: 0,
-        version: 0,
-        number: 0,
-        last: false,
-    };
     Table {
         codes: [0u64; 16],
         firsts: [0u64; 16],
-        places: [place; 32],
+        message_types: [0u16; 32],
+        sizes: [0u16; 32],
+        owners: [0u8; 32],
+        numbers: [0u8; 32],
+        versions: [0u8; 32],
+        lasts: [false; 32],
         used: [false; 16],
     }
 }
@@ -123,21 +115,23 @@ pub fn fresh() -> Table
 pub fn sweep_step(t: Table, time: u64) -> Swept
     ensures { λ r. ⌜ r ≡ swept t time ⌝ }
 {
-    let mut s = Swept {
-        table: t,
-        counts: Counts {
-            empty: 0,
-            unmarked: 0,
-            incomplete: 0,
-            neither: 0,
-        },
+    let mut n = t;
+    let mut counts = Counts {
+        empty: 0,
+        unmarked: 0,
+        incomplete: 0,
+        neither: 0,
     };
     let mut row: usize = 0;
     while row < 16 {
-        s = sweep_row(s, row, time);
+        if is_expired(n.used[row], n.firsts[row], time) {
+            let held = tally_of(&n.owners, &n.numbers, &n.lasts, row);
+            counts = with_key_dropped(counts, held);
+            n = without_key(n, row);
+        }
         row += 1;
     }
-    s
+    Swept { table: n, counts }
 }
 
 // A fragment comes in: the table after it, and what there is to say. The store keeps the payloads, the output gets a message that was joined.
@@ -145,39 +139,46 @@ pub fn push_step(t: Table, store: &mut [u8], out: &mut [u8], a: Arrival, payload
     requires { ⌜ Made t ⌝ }
     ensures { λ r. ⌜ Goes (way t (now (store .entry)) a (now (payload .entry)) (length (now (out .entry)))) t (now (store .entry)) (now (out .entry)) a (now (payload .entry)) (r .answer) (r .table) (now (store .exit)) (now (out .exit)) ⌝ }
 {
-    if store.len() < 47744 {
-        return Stepped {
-            table: t,
-            answer: Pushed::Refused(Refusal::StoreTooSmall),
-        };
-    }
-    if 1492 < payload.len() {
-        return Stepped {
-            table: t,
-            answer: Pushed::Refused(Refusal::PayloadTooLong),
-        };
-    }
     let f = a.fragment;
-    let row = find_row(t, Wanted::Key(a.key));
-    let owner = row as u8 + 1;
-    let place = find_place(
-        t,
-        Sought::Numbered {
-            owner,
-            number: f.number,
-        },
+    let row = find_key(&t.used, &t.codes, a.key);
+    let chosen = choose(
+        &t.used,
+        &t.message_types,
+        &t.sizes,
+        &t.owners,
+        &t.numbers,
+        &t.versions,
+        &t.lasts,
+        store,
+        out,
+        row,
+        f,
+        payload,
     );
-    if place < 32 {
-        let replaced = put(t, store, place, row, f, payload);
-        return Stepped {
-            table: replaced,
-            answer: Pushed::DuplicatedFragment,
-        };
+    let change = chosen.change;
+    let answer = chosen.answer;
+    match change {
+        Change::Stay => Stepped { table: t, answer },
+        Change::PutAt {
+            place,
+            row: under,
+            opens,
+        } => {
+            copy(payload, 0, payload.len(), store, place * 1492);
+            let kept = with_fragment(t, place, under, opens, a, payload.len());
+            Stepped {
+                table: kept,
+                answer,
+            }
+        }
+        Change::DropKey => {
+            let ended = without_key(t, row);
+            Stepped {
+                table: ended,
+                answer,
+            }
+        }
     }
-    if f.last {
-        return finish(t, store, out, row, a, payload);
-    }
-    accept(t, store, row, a, payload)
 }
 
 // The message of an answer: of a single fragment it is the payload, of others the output's first bytes. The slices are those that push was given.

@@ -1,78 +1,23 @@
-// Looking up in the table: one pass over the rows, one over the places, whatever is sought.
-use crate::Place;
-use crate::Table;
+// Looking up in the table: one pass for each question, over the lists that it asks, which are lent.
 ghost use mathlib.Core.Path.{_≡_};
+ghost use mathlib.Core.Bool.{not, _&&_};
 ghost use Prim.Native.Nat.{_≤_};
-ghost use Rattle.table.specs.Search.{lowest};
-ghost use Rattle.table.specs.Leaves.{isSought, soughtAt, isWanted, wantedAt};
+ghost use lib.Dec.{eqb, ltb};
+ghost use Rattle.table.specs.Leaves.{keyIn, spareIn, freeIn, numberedIn, unlikeIn, beyondIn};
 
-// What is sought among the places, by the owner that the places of a row have.
-pub enum Sought {
-    Free,
-    // the owner's fragment with this number
-    Numbered {
-        owner: u8,
-        number: u8,
-    },
-    // a fragment of the owner with another version or type
-    Unlike {
-        owner: u8,
-        version: u8,
-        message_type: u16,
-    },
-    // a fragment of the owner with a number above this one
-    Beyond {
-        owner: u8,
-        number: usize,
-    },
-}
-
-pub fn is_sought(p: Place, sought: Sought) -> bool
-    ensures { λ r. ⌜ r ≡ isSought sought p ⌝ }
+pub fn is_key(used: bool, code: u64, key: u64) -> bool
+    ensures { λ r. ⌜ r ≡ (used && eqb code key) ⌝ }
 {
-    match sought {
-        Sought::Free => p.owner == 0,
-        Sought::Numbered { owner, number } => {
-            if p.owner == owner {
-                p.number == number
-            } else {
-                false
-            }
-        }
-        Sought::Unlike {
-            owner,
-            version,
-            message_type,
-        } => {
-            if p.owner == owner {
-                if p.version == version {
-                    p.message_type != message_type
-                } else {
-                    true
-                }
-            } else {
-                false
-            }
-        }
-        Sought::Beyond { owner, number } => {
-            if p.owner == owner {
-                let own = p.number as usize;
-                number < own
-            } else {
-                false
-            }
-        }
-    }
+    if used { code == key } else { false }
 }
 
-// The lowest place that is sought, 32 where there is none.
-pub fn find_place(t: Table, sought: Sought) -> usize
-    ensures { λ r. ⌜ (r ≡ soughtAt t sought) × (r ≤ 32) ⌝ }
+// The row of a key, 16 where there is none.
+pub fn find_key<'a>(used: &'a [bool; 16], codes: &'a [u64; 16], key: u64) -> usize
+    ensures { λ r. ⌜ (r ≡ keyIn (now (used .entry)) (now (codes .entry)) key) × (r ≤ 16) ⌝ }
 {
     let mut i: usize = 0;
-    while i < 32 {
-        let p = t.places[i];
-        if is_sought(p, sought) {
+    while i < 16 {
+        if is_key(used[i], codes[i], key) {
             return i;
         }
         i += 1;
@@ -80,28 +25,129 @@ pub fn find_place(t: Table, sought: Sought) -> usize
     i
 }
 
-// What is sought among the rows.
-pub enum Wanted {
-    Key(u64),
-    Spare,
-}
-
-pub fn is_wanted(used: bool, code: u64, wanted: Wanted) -> bool
-    ensures { λ r. ⌜ r ≡ isWanted wanted used code ⌝ }
-{
-    match wanted {
-        Wanted::Key(key) => { if used { code == key } else { false } }
-        Wanted::Spare => !used,
-    }
-}
-
-// The lowest row that is wanted, 16 where there is none.
-pub fn find_row(t: Table, wanted: Wanted) -> usize
-    ensures { λ r. ⌜ (r ≡ wantedAt t wanted) × (r ≤ 16) ⌝ }
+// The lowest row that no key has, 16 where all have one.
+pub fn find_spare(used: &[bool; 16]) -> usize
+    ensures { λ r. ⌜ (r ≡ spareIn (now (used .entry))) × (r ≤ 16) ⌝ }
 {
     let mut i: usize = 0;
     while i < 16 {
-        if is_wanted(t.used[i], t.codes[i], wanted) {
+        if !used[i] {
+            return i;
+        }
+        i += 1;
+    }
+    i
+}
+
+// The lowest free place, 32 where all are used.
+pub fn find_free(owners: &[u8; 32]) -> usize
+    ensures { λ r. ⌜ (r ≡ freeIn (now (owners .entry))) × (r ≤ 32) ⌝ }
+{
+    let mut i: usize = 0;
+    while i < 32 {
+        if owners[i] == 0 {
+            return i;
+        }
+        i += 1;
+    }
+    i
+}
+
+pub fn is_numbered(of: u8, own: u8, owner: u8, number: u8) -> bool
+    ensures { λ r. ⌜ r ≡ (eqb of owner && eqb own number) ⌝ }
+{
+    if of == owner { own == number } else { false }
+}
+
+// The place of an owner's fragment with this number, 32 where there is none.
+pub fn find_numbered<'a>(
+    owners: &'a [u8; 32],
+    numbers: &'a [u8; 32],
+    owner: u8,
+    number: u8,
+) -> usize
+    ensures { λ r. ⌜ (r ≡ numberedIn (now (owners .entry)) (now (numbers .entry)) owner number) × (r ≤ 32) ⌝ }
+{
+    let mut i: usize = 0;
+    while i < 32 {
+        if is_numbered(owners[i], numbers[i], owner, number) {
+            return i;
+        }
+        i += 1;
+    }
+    i
+}
+
+// Of the owner, and of another version or type.
+pub fn is_unlike(
+    of: u8,
+    own_version: u8,
+    own_type: u16,
+    owner: u8,
+    version: u8,
+    message_type: u16,
+) -> bool
+    ensures { λ r. ⌜ r ≡ (eqb of owner && not (eqb «own_version» version && eqb «own_type» «message_type»)) ⌝ }
+{
+    if of == owner {
+        if own_version == version {
+            return own_type != message_type;
+        }
+        return true;
+    }
+    false
+}
+
+// The lowest place of an owner's fragment with another version or type, 32 where there is none.
+pub fn find_unlike<'a>(
+    owners: &'a [u8; 32],
+    versions: &'a [u8; 32],
+    types: &'a [u16; 32],
+    owner: u8,
+    version: u8,
+    message_type: u16,
+) -> usize
+    ensures { λ r. ⌜ (r ≡ unlikeIn (now (owners .entry)) (now (versions .entry)) (now (types .entry)) owner version «message_type») × (r ≤ 32) ⌝ }
+{
+    let mut i: usize = 0;
+    while i < 32 {
+        if is_unlike(
+            owners[i],
+            versions[i],
+            types[i],
+            owner,
+            version,
+            message_type,
+        ) {
+            return i;
+        }
+        i += 1;
+    }
+    i
+}
+
+pub fn is_beyond(of: u8, own: u8, owner: u8, number: usize) -> bool
+    ensures { λ r. ⌜ r ≡ (eqb of owner && ltb number own) ⌝ }
+{
+    if of == owner {
+        let wide = own as usize;
+        return number < wide;
+    }
+    false
+}
+
+// The lowest place of an owner's fragment with a number above this one, 32 where there is none.
+pub fn find_beyond<'a>(
+    owners: &'a [u8; 32],
+    numbers: &'a [u8; 32],
+    owner: u8,
+    number: usize,
+) -> usize
+    ensures { λ r. ⌜ (r ≡ beyondIn (now (owners .entry)) (now (numbers .entry)) owner number) × (r ≤ 32) ⌝ }
+{
+    let mut i: usize = 0;
+    while i < 32 {
+        if is_beyond(owners[i], numbers[i], owner, number) {
             return i;
         }
         i += 1;

@@ -1,118 +1,162 @@
--- Each way out is that of `way`: by the tests, or by what `accept` and `finish` ensure.
-use mathlib.Core.Path.{refl, ap, _∙_}
-use Prim.Native.Nat.{ℕ}
+-- The change that `choose` names is made; it is that of the push's way (`done`).
+use mathlib.Core.Path.{_≡_, refl, sym, ap, _∙_}
+use mathlib.Core.List.{List}
 use lib.ListN.{length}
+use native.Mathlib.Omega.{arith}
 use denote.Ref.{now}
-use Rattle.table.specs.Rows.{withPlace}
-use Rattle.table.specs.Push.{placeFor}
-use Rattle.table.proofs.Ways.{way-11, way-12, way-replace, way-last, way-keep, keep-output}
+use Rattle.table.proofs.Lengths.{number-byte}
+use Rattle.table.proofs.Sound.{sound, no-place}
+use Rattle.table.proofs.Changes.{way-is, done, goes-so}
 use borrow.Author.Needs.{needs}
 use Rattle.table.proofs.push_step.Statement.{statement}
 use Rattle.table.proofs.push_step.Tie as tie
 
-returns : tie.Need-returns
-returns c =
-    let b = c .before .before .before .before in
-    let a = b .args in
+find-key-requires : tie.Need-find-key-requires
+find-key-requires c κs = search needs
+
+choose-requires : tie.Need-choose-requires
+choose-requires c κs =
+    let a = (c .before .before .before .before .before .before .before .before .before .before .before .before .before .before .before .before .before .before) .args in
+    let s = sound ((c .before .before .before .before .before .before .before .before .before .before .before .before .before .before .before .before .before .before) .pre) in
+    (c .before .before .before .before .before .before .before .before .before .before .find-key .ensures .1, s .small, λ h. no-place (a .t1) s (c .before .before .before .before .before .before .before .before .before .before .find-key .result) (a .a .fragment .number) h)
+
+enum-told : tie.Need-enum-told
+enum-told c = search needs
+
+enum-known-change : tie.Need-enum-known-change
+enum-known-change c = search needs
+
+mul-copy : tie.Need-mul-copy
+mul-copy c =
+    let a = (c .before .before .before .before .before .before .before .before .before .before .before .before .before .before .before .before .before .before .before .before .before .before .before .before .before) .args in
     let store = now (a .store) in
     let out = now (a .out) in
     let payload = now (a .payload) in
-    rw (way-11 (a .t) store (a .a) payload (length out) (c .if1 .taken)) (record { all-but-output = record { answers = refl; keeps = refl; stores = refl }; puts = refl })
+    let s = sound ((c .before .before .before .before .before .before .before .before .before .before .before .before .before .before .before .before .before .before .before .before .before .before .before .before .before) .pre) in
+    let byte = number-byte (a .a) _ ((c .before .before .before .before .before .before .before .before .before .before .before .before .before .before .before .before .before .before .before .before .before .before .before .before .before) .good .1 .1 .1 .0) in
+    let row = c .before .before .before .before .before .before .before .before .before .before .before .before .before .before .before .before .before .find-key .result in
+    let chosen = c .before .before .before .before .before .before .choose .ensures in
+    let does = done (a .t1) s store (a .a) payload (length out) row (c .before .before .before .before .before .before .before .before .before .before .before .before .before .before .before .before .before .find-key .ensures .0) byte (c .before .before .before .before .before .before .choose .result .change) _ (chosen .changes) (c .before .before .change .given .1) in
+    omega (arith, does .0)
 
-returns-2 : tie.Need-returns-2
-returns-2 c =
-    let b = c .before .before .before .before .before in
-    let a = b .args in
+copy-requires : tie.Need-copy-requires
+copy-requires c κs =
+    let a = (c .before .before .before .before .before .before .before .before .before .before .before .before .before .before .before .before .before .before .before .before .before .before .before .before .before) .args in
     let store = now (a .store) in
     let out = now (a .out) in
     let payload = now (a .payload) in
-    rw (way-12 (a .t) store (a .a) payload (length out) (c .before .if1 .left) (c .if2 .taken)) (record { all-but-output = record { answers = refl; keeps = refl; stores = refl }; puts = refl })
+    let s = sound ((c .before .before .before .before .before .before .before .before .before .before .before .before .before .before .before .before .before .before .before .before .before .before .before .before .before) .pre) in
+    let byte = number-byte (a .a) _ ((c .before .before .before .before .before .before .before .before .before .before .before .before .before .before .before .before .before .before .before .before .before .before .before .before .before) .good .1 .1 .1 .0) in
+    let row = c .before .before .before .before .before .before .before .before .before .before .before .before .before .before .before .before .before .find-key .result in
+    let chosen = c .before .before .before .before .before .before .choose .ensures in
+    let does = done (a .t1) s store (a .a) payload (length out) row (c .before .before .before .before .before .before .before .before .before .before .before .before .before .before .before .before .before .find-key .ensures .0) byte (c .before .before .before .before .before .before .choose .result .change) _ (chosen .changes) (c .before .before .change .given .1) in
+    (omega arith, omega (arith, does .0, does .2, does .3))
 
-find-row-requires : tie.Need-find-row-requires
-find-row-requires c κs = search needs
+with-fragment-requires : tie.Need-with-fragment-requires
+with-fragment-requires c κs =
+    let a = (c .before .before .before .before .before .before .before .before .before .before .before .before .before .before .before .before .before .before .before .before .before .before .before .before .before .before .before .before) .args in
+    let store = now (a .store) in
+    let out = now (a .out) in
+    let payload = now (a .payload) in
+    let s = sound ((c .before .before .before .before .before .before .before .before .before .before .before .before .before .before .before .before .before .before .before .before .before .before .before .before .before .before .before .before) .pre) in
+    let byte = number-byte (a .a) _ ((c .before .before .before .before .before .before .before .before .before .before .before .before .before .before .before .before .before .before .before .before .before .before .before .before .before .before .before .before) .good .1 .1 .1 .0) in
+    let row = c .before .before .before .before .before .before .before .before .before .before .before .before .before .before .before .before .before .before .before .before .find-key .result in
+    let chosen = c .before .before .before .before .before .before .before .before .before .choose .ensures in
+    let does = done (a .t1) s store (a .a) payload (length out) row (c .before .before .before .before .before .before .before .before .before .before .before .before .before .before .before .before .before .before .before .before .find-key .ensures .0) byte (c .before .before .before .before .before .before .before .before .before .choose .result .change) _ (chosen .changes) (c .before .before .before .before .before .change .given .1) in
+    (does .0, does .1, does .3)
 
-cast-owner : tie.Need-cast-owner
-cast-owner c = search needs
+enum-told-2 : tie.Need-enum-told-2
+enum-told-2 c = search needs
 
-add-owner : tie.Need-add-owner
-add-owner c = search needs
-
-find-place-requires : tie.Need-find-place-requires
-find-place-requires c κs = search needs
-
-put-requires : tie.Need-put-requires
-put-requires c κs = search needs
+without-key-requires : tie.Need-without-key-requires
+without-key-requires c κs =
+    let a = (c .before .before .before .before .before .before .before .before .before .before .before .before .before .before .before .before .before .before .before .before .before .before .before) .args in
+    let store = now (a .store) in
+    let out = now (a .out) in
+    let payload = now (a .payload) in
+    let s = sound ((c .before .before .before .before .before .before .before .before .before .before .before .before .before .before .before .before .before .before .before .before .before .before .before) .pre) in
+    let byte = number-byte (a .a) _ ((c .before .before .before .before .before .before .before .before .before .before .before .before .before .before .before .before .before .before .before .before .before .before .before) .good .1 .1 .1 .0) in
+    let row = c .before .before .before .before .before .before .before .before .before .before .before .before .before .before .before .find-key .result in
+    let chosen = c .before .before .before .before .choose .ensures in
+    let does = done (a .t1) s store (a .a) payload (length out) row (c .before .before .before .before .before .before .before .before .before .before .before .before .before .before .before .find-key .ensures .0) byte (c .before .before .before .before .choose .result .change) _ (chosen .changes) (c .enum-told2 .given .1) in
+    does .0
 
 same-length : tie.Need-same-length
 same-length c = search needs
 
-returns-3 : tie.Need-returns-3
-returns-3 c =
-    let b = c .before .before .before .before .before .before .before .before .before .before .before .before .before in
-    let a = b .args in
+same-length-2 : tie.Need-same-length-2
+same-length-2 c = search needs
+
+returns : tie.Need-returns
+returns c =
+    let a = (c .before .before .before .before .before .before .before .before .before .before .before .before .before .before .before .before .before .before .before .before .before .before .before) .args in
     let store = now (a .store) in
     let out = now (a .out) in
     let payload = now (a .payload) in
-    rw (way-replace (a .t) store (a .a) payload (length out) (c .before .before .before .before .before .before .before .before .before .if1 .left) (c .before .before .before .before .before .before .before .before .if2 .left) (c .before .before .before .before .before .before .find-row .result) (c .before .before .before .before .before .find-place .result) (c .before .before .before .before .before .before .find-row .ensures .0) (c .before .before .before .before .before .find-place .ensures .0) (c .before .before .before .before .if3 .taken))
-    (record {
-      all-but-output = record {
-        answers = refl;
-        keeps = c .before .before .put .ensures .0 ∙ ap (λ (row : ℕ). withPlace (a .t) (c .before .before .before .before .before .find-place .result) (placeFor row (a .a .fragment) (length payload))) (c .before .before .before .before .before .before .find-row .ensures .0);
-        stores = c .before .before .put .ensures .1;
-      };
-      puts = refl;
-    })
-
-finish-requires : tie.Need-finish-requires
-finish-requires c κs = search needs
-
-same-length-2 : tie.Need-same-length-2
-same-length-2 c = search needs
+    let s = sound ((c .before .before .before .before .before .before .before .before .before .before .before .before .before .before .before .before .before .before .before .before .before .before .before) .pre) in
+    let byte = number-byte (a .a) _ ((c .before .before .before .before .before .before .before .before .before .before .before .before .before .before .before .before .before .before .before .before .before .before .before) .good .1 .1 .1 .0) in
+    let row = c .before .before .before .before .before .before .before .before .before .before .before .before .before .before .before .find-key .result in
+    let chosen = c .before .before .before .before .choose .ensures in
+    let does = done (a .t1) s store (a .a) payload (length out) row (c .before .before .before .before .before .before .before .before .before .before .before .before .before .before .before .find-key .ensures .0) byte (c .before .before .before .before .choose .result .change) _ (chosen .changes) (c .enum-told .given .1) in
+    goes-so _ _ (way-is (a .t1) s store (a .a) payload (length out) row (c .before .before .before .before .before .before .before .before .before .before .before .before .before .before .before .find-key .ensures .0) byte) (a .t1) store out (a .a) payload row (c .before .before .before .before .choose .result) _ chosen (a .t1) store (does .0) (does .1)
 
 same-length-3 : tie.Need-same-length-3
 same-length-3 c = search needs
 
-returns-4 : tie.Need-returns-4
-returns-4 c =
-    let b = c .before .before .before .before .before .before .before .before .before .before .before .before .before .before .before in
-    let a = b .args in
-    let store = now (a .store) in
-    let out = now (a .out) in
-    let payload = now (a .payload) in
-    rw (way-last (a .t) store (a .a) payload (length out) (c .before .before .before .before .before .before .before .before .before .before .before .if1 .left) (c .before .before .before .before .before .before .before .before .before .before .if2 .left) (c .before .before .before .before .before .before .before .before .find-row .result) (c .before .before .before .before .before .before .before .find-place .result) (c .before .before .before .before .before .before .before .before .find-row .ensures .0) (c .before .before .before .before .before .before .before .find-place .ensures .0) (c .before .before .before .before .before .before .if3 .left) (c .before .before .before .before .before .if4 .taken)) (c .before .before .finish .ensures)
-
-accept-requires : tie.Need-accept-requires
-accept-requires c κs = search needs
-
 same-length-4 : tie.Need-same-length-4
 same-length-4 c = search needs
 
-returns-5 : tie.Need-returns-5
-returns-5 c =
-    let b = c .before .before .before .before .before .before .before .before .before .before .before .before .before .before in
-    let a = b .args in
+returns-2 : tie.Need-returns-2
+returns-2 c =
+    let a = (c .before .before .before .before .before .before .before .before .before .before .before .before .before .before .before .before .before .before .before .before .before .before .before .before .before .before .before .before .before) .args in
     let store = now (a .store) in
     let out = now (a .out) in
     let payload = now (a .payload) in
-    rw (way-keep (a .t) store (a .a) payload (length out) (c .before .before .before .before .before .before .before .before .before .before .if1 .left) (c .before .before .before .before .before .before .before .before .before .if2 .left) (c .before .before .before .before .before .before .before .find-row .result) (c .before .before .before .before .before .before .find-place .result) (c .before .before .before .before .before .before .before .find-row .ensures .0) (c .before .before .before .before .before .before .find-place .ensures .0) (c .before .before .before .before .before .if3 .left) (c .before .before .before .before .if4 .left)) (record { all-but-output = c .before .before .accept .ensures; puts = keep-output (a .t) (c .before .before .before .before .before .before .before .find-row .result) out })
+    let s = sound ((c .before .before .before .before .before .before .before .before .before .before .before .before .before .before .before .before .before .before .before .before .before .before .before .before .before .before .before .before .before) .pre) in
+    let byte = number-byte (a .a) _ ((c .before .before .before .before .before .before .before .before .before .before .before .before .before .before .before .before .before .before .before .before .before .before .before .before .before .before .before .before .before) .good .1 .1 .1 .0) in
+    let row = c .before .before .before .before .before .before .before .before .before .before .before .before .before .before .before .before .before .before .before .before .before .find-key .result in
+    let chosen = c .before .before .before .before .before .before .before .before .before .before .choose .ensures in
+    let does = done (a .t1) s store (a .a) payload (length out) row (c .before .before .before .before .before .before .before .before .before .before .before .before .before .before .before .before .before .before .before .before .before .find-key .ensures .0) byte (c .before .before .before .before .before .before .before .before .before .before .choose .result .change) _ (chosen .changes) (c .before .before .before .before .before .before .change .given .1) in
+    goes-so _ _ (way-is (a .t1) s store (a .a) payload (length out) row (c .before .before .before .before .before .before .before .before .before .before .before .before .before .before .before .before .before .before .before .before .before .find-key .ensures .0) byte) (a .t1) store out (a .a) payload row (c .before .before .before .before .before .before .before .before .before .before .choose .result) _ chosen (c .with-fragment .result) _ (c .with-fragment .ensures ∙ does .4) (c .before .before .before .copy .ensures ∙ does .5)
+
+same-length-5 : tie.Need-same-length-5
+same-length-5 c = search needs
+
+same-length-6 : tie.Need-same-length-6
+same-length-6 c = search needs
+
+returns-3 : tie.Need-returns-3
+returns-3 c =
+    let a = (c .before .before .before .before .before .before .before .before .before .before .before .before .before .before .before .before .before .before .before .before .before .before .before .before) .args in
+    let store = now (a .store) in
+    let out = now (a .out) in
+    let payload = now (a .payload) in
+    let s = sound ((c .before .before .before .before .before .before .before .before .before .before .before .before .before .before .before .before .before .before .before .before .before .before .before .before) .pre) in
+    let byte = number-byte (a .a) _ ((c .before .before .before .before .before .before .before .before .before .before .before .before .before .before .before .before .before .before .before .before .before .before .before .before) .good .1 .1 .1 .0) in
+    let row = c .before .before .before .before .before .before .before .before .before .before .before .before .before .before .before .before .find-key .result in
+    let chosen = c .before .before .before .before .before .choose .ensures in
+    let does = done (a .t1) s store (a .a) payload (length out) row (c .before .before .before .before .before .before .before .before .before .before .before .before .before .before .before .before .find-key .ensures .0) byte (c .before .before .before .before .before .choose .result .change) _ (chosen .changes) (c .before .enum-told2 .given .1) in
+    goes-so _ _ (way-is (a .t1) s store (a .a) payload (length out) row (c .before .before .before .before .before .before .before .before .before .before .before .before .before .before .before .before .find-key .ensures .0) byte) (a .t1) store out (a .a) payload row (c .before .before .before .before .before .choose .result) _ chosen (c .without-key .result) store (c .without-key .ensures ∙ does .1) (does .2)
 
 pub push-step-spec : {M : Type 1} → statement M
 push-step-spec =
     tie.close
     (tie.spec
-    returns
-    returns-2
-    find-row-requires
-    cast-owner
-    add-owner
-    find-place-requires
-    put-requires
+    find-key-requires
+    choose-requires
+    enum-told
+    enum-known-change
+    mul-copy
+    copy-requires
+    with-fragment-requires
+    enum-told-2
+    without-key-requires
     same-length
-    returns-3
-    finish-requires
     same-length-2
+    returns
     same-length-3
-    returns-4
-    accept-requires
     same-length-4
-    returns-5)
+    returns-2
+    same-length-5
+    same-length-6
+    returns-3)

@@ -2,28 +2,34 @@
 use mathlib.Core.Path.{_≡_, ap, _∙_}
 use Prim.Native.Nat.{_≤_, _-_}
 use native.Mathlib.Omega.{arith}
+use lib.ListN.{getD}
+use denote.Ref.{now}
 use borrow.Author.Needs.{needs}
 use Rattle.table.specs.declared.ages.Tally.{Tally}
 use Rattle.table.specs.Rows.{placeAt}
 use Rattle.table.specs.Sweep.{tallied, tally}
+use Rattle.table.specs.Leaves.{tableWith}
 use Rattle.table.proofs.Sweeping.{tally-none, tally-next, tallied-many}
 use Rattle.table.proofs.ages.tally_of.Statement.{statement}
 use Rattle.table.proofs.ages.tally_of.Tie as tie
 
 abbrev Inv-loop : tie.InvT-loop
-Inv-loop row t s₀ i₀ s i = (i ≤ 32) × (s ≡ tally t row i) × (s .many ≤ i)
+Inv-loop owners numbers lasts row s₀ i₀ s i = (i ≤ 32) × (s ≡ tally (tableWith owners numbers lasts) row i) × (s .many ≤ i)
 
 abbrev μ-loop : tie.MeasureT-loop
-μ-loop row t s₀ i₀ s i = 32 - i
+μ-loop owners numbers lasts row s₀ i₀ s i = 32 - i
 
 loop-holds : tie.Need-loop-holds Inv-loop μ-loop
-loop-holds c = (omega arith, tally-none (c .args .t1) (c .args .row), omega arith)
+loop-holds c = (omega arith, tally-none (tableWith (now (c .args .owners)) (now (c .args .numbers)) (now (c .args .lasts))) (c .args .row), omega arith)
 
-mul-p : tie.Need-mul-p Inv-loop μ-loop
-mul-p c = search needs
+element-copy-out-with-place : tie.Need-element-copy-out-with-place Inv-loop μ-loop
+element-copy-out-with-place c = search needs
 
-element-copy-out-p : tie.Need-element-copy-out-p Inv-loop μ-loop
-element-copy-out-p c = search needs
+element-copy-out-with-place-2 : tie.Need-element-copy-out-with-place-2 Inv-loop μ-loop
+element-copy-out-with-place-2 c = search needs
+
+element-copy-out-with-place-3 : tie.Need-element-copy-out-with-place-3 Inv-loop μ-loop
+element-copy-out-with-place-3 c = search needs
 
 with-place-requires : tie.Need-with-place-requires Inv-loop μ-loop
 with-place-requires c κs = search needs
@@ -36,9 +42,10 @@ loop-less c = search needs
 
 loop-again : tie.Need-loop-again Inv-loop μ-loop
 loop-again c =
-    let b = c .before .before .before in
-    let t = b .before .args .t1 in
-    let row = b .before .args .row in
+    let b = c .before .before .before .before .before in
+    let a = b .before .args in
+    let t = tableWith (now (a .owners)) (now (a .numbers)) (now (a .lasts)) in
+    let row = a .row in
     let i = b .loop .i in (
       search needs,
       c .with-place .ensures ∙ ap (tallied row (placeAt t i)) (b .loop .inv .1) ∙ tally-next t row i,
@@ -48,8 +55,9 @@ loop-again c =
 returns : tie.Need-returns Inv-loop μ-loop
 returns c =
     let b = c .before in
+    let a = b .before .args in
     let end : b .loop .i ≡ 32 = omega arith in
-    b .loop .inv .1 ∙ ap (tally (b .before .args .t1) (b .before .args .row)) end
+    b .loop .inv .1 ∙ ap (tally (tableWith (now (a .owners)) (now (a .numbers)) (now (a .lasts))) (a .row)) end
 
 pub tally-of-spec : {M : Type 1} → statement M
 tally-of-spec =
@@ -58,8 +66,9 @@ tally-of-spec =
     Inv-loop
     μ-loop
     loop-holds
-    mul-p
-    element-copy-out-p
+    element-copy-out-with-place
+    element-copy-out-with-place-2
+    element-copy-out-with-place-3
     with-place-requires
     add-i
     loop-less

@@ -11,11 +11,8 @@ cast-owner c = search needs
 add-owner : tie.Need-add-owner
 add-owner c = search needs
 
-cast-own : tie.Need-cast-own
-cast-own c = search needs
-
-add-t8 : tie.Need-add-t8
-add-t8 c = search needs
+add-t10 : tie.Need-add-t10
+add-t10 c = search needs
 
 add-larger : tie.Need-add-larger
 add-larger c = search needs
@@ -28,8 +25,8 @@ either-requires c κs = search needs
 
 returns : tie.Need-returns
 returns c =
-    rw (eq-eqb _ _ (c .before .before .before .before .if1 .taken))
-    (λ j. record { many = c .before .before .before .before .before .before .args .s .many + 1; beyond = c .before .larger .ensures j; marked = c .either .ensures j })
+    rw (eq-eqb _ _ (c .before .before .before .if1 .taken))
+    (λ j. record { many = c .before .before .before .before .args .s .many + 1; beyond = c .before .larger .ensures j; marked = c .either .ensures j })
 
 returns-2 : tie.Need-returns-2
 returns-2 c = rw (ne-eqb _ _ (c .if1 .left))
@@ -40,8 +37,7 @@ with-place-spec =
     (tie.spec
     cast-owner
     add-owner
-    cast-own
-    add-t8
+    add-t10
     add-larger
     larger-requires
     either-requires

@@ -4,11 +4,8 @@ use borrow.Author.Needs.{needs}
 use Rattle.table.proofs.join.marked_at.Statement.{statement}
 use Rattle.table.proofs.join.marked_at.Tie as tie
 
-mul-p : tie.Need-mul-p
-mul-p c = search needs
-
-element-copy-out-p : tie.Need-element-copy-out-p
-element-copy-out-p c = search needs
+element-copy-out-result : tie.Need-element-copy-out-result
+element-copy-out-result c = search needs
 
 returns : tie.Need-returns
 returns c = rw (lt-ltb _ _ (c .before .if1 .taken))
@@ -17,4 +14,4 @@ returns-2 : tie.Need-returns-2
 returns-2 c = rw (le-ltb _ _ (c .if1 .left))
 
 pub marked-at-spec : {M : Type 1} → statement M
-marked-at-spec = tie.close (tie.spec mul-p element-copy-out-p returns returns-2)
+marked-at-spec = tie.close (tie.spec element-copy-out-result returns returns-2)

@@ -9,18 +9,20 @@ returns : tie.Need-returns
 unfolding pieceAt
 returns c = rw (eq-eqb _ _ (c .if1 .taken))
 
-cast-owner : tie.Need-cast-owner
-cast-owner c = search needs
+cast-find-numbered : tie.Need-cast-find-numbered
+cast-find-numbered c = search needs
 
-add-owner : tie.Need-add-owner
-add-owner c = search needs
+add-find-numbered : tie.Need-add-find-numbered
+add-find-numbered c = search needs
 
-find-place-requires : tie.Need-find-place-requires
-find-place-requires c κs = search needs
+find-numbered-requires : tie.Need-find-numbered-requires
+find-numbered-requires c κs = search needs
 
 returns-2 : tie.Need-returns-2
 unfolding pieceAt
-returns-2 c = rw (ne-eqb _ _ (c .before .if1 .left)) (c .find-place .ensures .0)
+returns-2 c = rw (ne-eqb _ _ (c .before .if1 .left)) (c .find-numbered .ensures .0)
 
 pub piece-at-spec : {M : Type 1} → statement M
-piece-at-spec = tie.close (tie.spec returns cast-owner add-owner find-place-requires returns-2)
+piece-at-spec =
+    tie.close
+    (tie.spec returns cast-find-numbered add-find-numbered find-numbered-requires returns-2)

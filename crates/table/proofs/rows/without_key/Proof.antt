@@ -1,106 +1,86 @@
--- The loop has freed the first i places; the row was cleared before.
-use Prim.Native.Nat.{_≤_, _<_, _-_}
-use mathlib.Core.Path.{_≡_, refl, sym, _∙_, ap}
-use mathlib.Core.List.{List}
-use lib.ListN.{length, set, getD}
-use borrow.Author.Needs.{needs}
+-- Each list is freed; the row was cleared before.
+use mathlib.Core.Path.{_≡_}
 use native.Mathlib.Omega.{arith}
-use native.Mathlib.Numerals.{add-one}
-use Rattle.table.specs.declared.Place.{Place}
-use Rattle.table.specs.Rows.{freePlace, freed, without}
-use Rattle.table.proofs.Lengths.{places-long}
-use Rattle.table.proofs.Mapped.{mapped, mapped-step, mapped-end}
+use lib.ListN.{length, set}
+use mathlib.Core.Bool.{false}
+use Rattle.table.specs.Rows.{without}
+use borrow.Author.Needs.{needs}
 use Rattle.table.proofs.rows.without_key.Statement.{statement}
 use Rattle.table.proofs.rows.without_key.Tie as tie
 
-abbrev Inv-loop : tie.InvT-loop
-Inv-loop row n₀ i₀ n i = (i ≤ 32) × (n .codes ≡ n₀ .codes) × (n .firsts ≡ n₀ .firsts) × (n .places ≡ mapped (freed row) (n₀ .places) i) × (n .used ≡ n₀ .used)
+long : (c : tie.After-owners) → length (c .before .args .t .owners) ≡ 32
+long c = search needs
 
-abbrev μ-loop : tie.MeasureT-loop
-μ-loop row n₀ i₀ n i = 32 - i
+cast-owner : tie.Need-cast-owner
+cast-owner c = search needs
 
-long : (c : tie.At-loop Inv-loop μ-loop) → length (c .before .args .t .places) ≡ 32
-long c = places-long (c .before .args .t) _ (c .before .good .0)
+add-owner : tie.Need-add-owner
+add-owner c = search needs
 
-mul-n : tie.Need-mul-n Inv-loop μ-loop
+mul-n : tie.Need-mul-n
 mul-n c = search needs
 
-element-write-n : tie.Need-element-write-n Inv-loop μ-loop
+element-write-n : tie.Need-element-write-n
 element-write-n c = search needs
 
-mul-n-2 : tie.Need-mul-n-2 Inv-loop μ-loop
+mul-n-2 : tie.Need-mul-n-2
 mul-n-2 c = search needs
 
-element-write-n-2 : tie.Need-element-write-n-2 Inv-loop μ-loop
+element-write-n-2 : tie.Need-element-write-n-2
 element-write-n-2 c = search needs
 
-element-write-n-3 : tie.Need-element-write-n-3 Inv-loop μ-loop
+element-write-n-3 : tie.Need-element-write-n-3
 element-write-n-3 c = search needs
 
-loop-holds : tie.Need-loop-holds Inv-loop μ-loop
-loop-holds c = (omega arith, refl, refl, refl, refl)
+free-numbers-requires : tie.Need-free-numbers-requires
+free-numbers-requires c κs = search needs
 
-mul-p : tie.Need-mul-p Inv-loop μ-loop
-mul-p c = search needs
+free-numbers-requires-2 : tie.Need-free-numbers-requires-2
+free-numbers-requires-2 c κs = search needs
 
-element-copy-out-p : tie.Need-element-copy-out-p Inv-loop μ-loop
-element-copy-out-p c = search needs
+free-bytes-requires : tie.Need-free-bytes-requires
+free-bytes-requires c κs = search needs
 
-freed-place-requires : tie.Need-freed-place-requires Inv-loop μ-loop
-freed-place-requires c κs = search needs
+free-bytes-requires-2 : tie.Need-free-bytes-requires-2
+free-bytes-requires-2 c κs = search needs
 
-mul-q : tie.Need-mul-q Inv-loop μ-loop
-mul-q c = search needs
+free-bytes-requires-3 : tie.Need-free-bytes-requires-3
+free-bytes-requires-3 c κs = search needs
 
-element-set-from-q : tie.Need-element-set-from-q Inv-loop μ-loop
-element-set-from-q c = search needs
+free-marks-requires : tie.Need-free-marks-requires
+free-marks-requires c κs = (omega arith, long (c .before .before .before .before .before .before .before .before .before .before .before .before .before .before .before .before .before))
 
-add-i : tie.Need-add-i Inv-loop μ-loop
-add-i c = search needs
-
-loop-less : tie.Need-loop-less Inv-loop μ-loop
-loop-less c = search needs
-
-loop-again : tie.Need-loop-again Inv-loop μ-loop
-loop-again c =
-    let b = c .before .before .before in
-    let f = freed (b .before .args .row) in
-    let ps = b .before .args .t .places in
-    let h : b .loop .i < length ps = omega (arith, long b) in (
-      search needs,
-      b .loop .inv .1,
-      b .loop .inv .2,
-      ap (set (b .loop .n .places) (b .loop .i)) (c .freed-place .ensures)
-          ∙ ap (λ (l : List Place). set l (b .loop .i) (f (getD l (b .loop .i) _))) (b .loop .inv .3)
-          ∙ mapped-step f ps _ (b .loop .i) h ∙ ap (mapped f ps) (sym (add-one (b .loop .i))),
-      b .loop .inv .4,
-    )
-
-returns : tie.Need-returns Inv-loop μ-loop
+returns : tie.Need-returns
 unfolding without
 returns c =
-    let b = c .before in
-    let e = b .loop .inv .3 ∙ mapped-end (freed (b .before .args .row)) (b .before .args .t .places) freePlace (b .loop .i) (omega (arith, long b)) in
-    λ j. record { codes = b .loop .inv .1 j; firsts = b .loop .inv .2 j; places = e j; used = b .loop .inv .4 j }
+    let a = (c .before .before .before .before .before .before .before .before .before .before .before .before .before .before .before .before .before .before .before) .args in
+    λ j. record {
+      codes = set (a .t .codes) (a .row) 0;
+      firsts = set (a .t .firsts) (a .row) 0;
+      «message_types» = c .before .before .before .before .before .before .before .before .before .before .before .before .before .before .before .free-numbers .ensures j;
+      sizes = c .before .before .before .before .before .before .before .before .before .before .before .before .free-numbers2 .ensures j;
+      owners = c .before .before .before .before .before .before .before .before .before .free-bytes .ensures j;
+      numbers = c .before .before .before .before .before .before .free-bytes2 .ensures j;
+      versions = c .before .before .before .free-bytes3 .ensures j;
+      lasts = c .free-marks .ensures j;
+      used = set (a .t .used) (a .row) false;
+    }
 
 pub without-key-spec : {M : Type 1} → statement M
 without-key-spec =
     tie.close
     (tie.spec
-    Inv-loop
-    μ-loop
+    cast-owner
+    add-owner
     mul-n
     element-write-n
     mul-n-2
     element-write-n-2
     element-write-n-3
-    loop-holds
-    mul-p
-    element-copy-out-p
-    freed-place-requires
-    mul-q
-    element-set-from-q
-    add-i
-    loop-less
-    loop-again
+    free-numbers-requires
+    free-numbers-requires-2
+    free-bytes-requires
+    free-bytes-requires-2
+    free-bytes-requires-3
+    free-marks-requires
     returns)

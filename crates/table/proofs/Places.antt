@@ -1,0 +1,122 @@
+-- Places, put together from their six lists, after each change: a fragment is put, a key is dropped.
+use mathlib.Core.Path.{_≡_, refl, sym, ap, _∙_}
+use mathlib.Core.Bool.{Bool, true, false, cond}
+use Prim.Native.Nat.{ℕ, zero, suc, _<_}
+use native.Mathlib.Omega.{arith}
+use lib.Dec.{eqb}
+use lib.ListN.{length, getD, replicate, length-set, length-replicate}
+use lib.Seq.{getD-set-same, getD-set-other}
+use Rattle.table.specs.declared.Table.{Table}
+use Rattle.table.specs.Rows.{Place, ownerOf, freePlace, freshTable, placeAt, withPlace, without}
+use Rattle.table.proofs.Wiped.{wiped-length, wiped-at}
+
+-- the six lists have their length
+pub record Long (t : Table) : Type 0 where
+  pub types : length (t .«message_types») ≡ 32
+  pub sizes : length (t .sizes) ≡ 32
+  pub owners : length (t .owners) ≡ 32
+  pub numbers : length (t .numbers) ≡ 32
+  pub versions : length (t .versions) ≡ 32
+  pub lasts : length (t .lasts) ≡ 32
+
+pub fresh-long : Long freshTable
+fresh-long = record {
+  types = length-replicate {A = ℕ} 32 0;
+  sizes = length-replicate {A = ℕ} 32 0;
+  owners = length-replicate {A = ℕ} 32 0;
+  numbers = length-replicate {A = ℕ} 32 0;
+  versions = length-replicate {A = ℕ} 32 0;
+  lasts = length-replicate 32 false;
+}
+
+pub put-long : (t : Table) → Long t → (i : ℕ) (p : Place) → Long (withPlace t i p)
+put-long t l i p = record {
+  types = length-set (t .«message_types») i (p .message-type) ∙ l .types;
+  sizes = length-set (t .sizes) i (p .size) ∙ l .sizes;
+  owners = length-set (t .owners) i (p .owner) ∙ l .owners;
+  numbers = length-set (t .numbers) i (p .number) ∙ l .numbers;
+  versions = length-set (t .versions) i (p .version) ∙ l .versions;
+  lasts = length-set (t .lasts) i (p .last) ∙ l .lasts;
+}
+
+pub drop-long : (t : Table) → Long t → (row : ℕ) → Long (without t row)
+unfolding without
+drop-long t l row = record {
+  types = wiped-length (ownerOf row) 0 (t .owners) (t .«message_types») ∙ l .types;
+  sizes = wiped-length (ownerOf row) 0 (t .owners) (t .sizes) ∙ l .sizes;
+  owners = wiped-length (ownerOf row) 0 (t .owners) (t .owners) ∙ l .owners;
+  numbers = wiped-length (ownerOf row) 0 (t .owners) (t .numbers) ∙ l .numbers;
+  versions = wiped-length (ownerOf row) 0 (t .owners) (t .versions) ∙ l .versions;
+  lasts = wiped-length (ownerOf row) false (t .owners) (t .lasts) ∙ l .lasts;
+}
+
+-- a list of one element
+pub all-same : {A : Type 0} (n i : ℕ) (a : A) → getD (replicate n a) i a ≡ a
+all-same zero i a = refl
+all-same (suc n) zero a = refl
+all-same (suc n) (suc i) a = all-same n i a
+
+pub fresh-place : (i : ℕ) → placeAt freshTable i ≡ freePlace
+fresh-place i = λ j. record {
+  message-type = all-same {A = ℕ} 32 i 0 j;
+  size = all-same {A = ℕ} 32 i 0 j;
+  owner = all-same {A = ℕ} 32 i 0 j;
+  number = all-same {A = ℕ} 32 i 0 j;
+  version = all-same {A = ℕ} 32 i 0 j;
+  last = all-same 32 i false j;
+}
+
+-- a place after a fragment was put
+module _ (t : Table) (i : ℕ) (p : Place) where
+  pub put-here : Long t → i < 32 → placeAt (withPlace t i p) i ≡ p
+  put-here l h = λ j. record {
+    message-type = getD-set-same (t .«message_types») i (p .message-type) 0 (omega (arith, l .types)) j;
+    size = getD-set-same (t .sizes) i (p .size) 0 (omega (arith, l .sizes)) j;
+    owner = getD-set-same (t .owners) i (p .owner) 0 (omega (arith, l .owners)) j;
+    number = getD-set-same (t .numbers) i (p .number) 0 (omega (arith, l .numbers)) j;
+    version = getD-set-same (t .versions) i (p .version) 0 (omega (arith, l .versions)) j;
+    last = getD-set-same (t .lasts) i (p .last) false (omega (arith, l .lasts)) j;
+  }
+
+  pub put-elsewhere : (k : ℕ) → (k ≡ i → ⊥) → placeAt (withPlace t i p) k ≡ placeAt t k
+  put-elsewhere k ne = λ j. record {
+    message-type = getD-set-other (t .«message_types») i k (p .message-type) 0 ne j;
+    size = getD-set-other (t .sizes) i k (p .size) 0 ne j;
+    owner = getD-set-other (t .owners) i k (p .owner) 0 ne j;
+    number = getD-set-other (t .numbers) i k (p .number) 0 ne j;
+    version = getD-set-other (t .versions) i k (p .version) 0 ne j;
+    last = getD-set-other (t .lasts) i k (p .last) false ne j;
+  }
+
+-- and after a row's key was dropped
+abbrev pub freed : ℕ → Place → Place
+freed row p = cond (eqb (p .owner) (ownerOf row)) freePlace p
+
+-- which is so, list by list
+abbrev freedIn : Place → Bool → Place
+freedIn p b = record {
+  message-type = cond b 0 (p .message-type);
+  size = cond b 0 (p .size);
+  owner = cond b 0 (p .owner);
+  number = cond b 0 (p .number);
+  version = cond b 0 (p .version);
+  last = cond b false (p .last);
+}
+
+pub freed-at : (t : Table) (row i : ℕ) → placeAt (without t row) i ≡ freed row (placeAt t i)
+unfolding without
+freed-at t row i = listwise ∙ together (eqb (placeAt t i .owner) (ownerOf row))
+  where
+    listwise : placeAt (without t row) i ≡ freedIn (placeAt t i) (eqb (placeAt t i .owner) (ownerOf row))
+    listwise = λ j. record {
+      message-type = wiped-at (ownerOf row) 0 (omega arith) (t .owners) (t .«message_types») i j;
+      size = wiped-at (ownerOf row) 0 (omega arith) (t .owners) (t .sizes) i j;
+      owner = wiped-at (ownerOf row) 0 (omega arith) (t .owners) (t .owners) i j;
+      number = wiped-at (ownerOf row) 0 (omega arith) (t .owners) (t .numbers) i j;
+      version = wiped-at (ownerOf row) 0 (omega arith) (t .owners) (t .versions) i j;
+      last = wiped-at (ownerOf row) false (omega arith) (t .owners) (t .lasts) i j;
+    }
+
+    together : (b : Bool) → freedIn (placeAt t i) b ≡ cond b freePlace (placeAt t i)
+    together true = refl
+    together false = refl
