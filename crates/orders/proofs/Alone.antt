@@ -18,7 +18,8 @@ use Rattle.table.proofs.Sweeping.{tally-none}
 use Rattle.table.proofs.Sound.{Sound, sound}
 use Rattle.orders.specs.Runs.{State, Push, Call, push, sweep, finishedBy, part, wayOf, after, tells, isAccepted, isOwn, isSweep, concerns, start, Holding, holding, holdsNothing}
 use Rattle.orders.specs.Shares.{due, tallyOf}
-use Rattle.orders.proofs.Rows.{all-same, isUsed, codeAt, firstAt}
+use Rattle.table.proofs.Places.{all-same}
+use Rattle.orders.proofs.Rows.{isUsed, codeAt, firstAt}
 use Rattle.orders.proofs.Lookups.{row-none, row-is}
 use Rattle.orders.proofs.Holdings.{absent, present}
 use Rattle.orders.proofs.Telling.{shape, refusedWay, refused-is, ownWay, tell, answer}

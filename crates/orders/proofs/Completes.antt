@@ -8,11 +8,10 @@ use lib.Dec.{eqb, ltb}
 use lib.ListN.{length}
 use borrow.Author.Tests.{eqb-true, eqb-false, eq-eqb, ne-eqb, ltb-true, not-true}
 use Rattle.numbers.specs.Numbers.{gives}
-use Rattle.table.specs.declared.Place.{Place}
 use Rattle.table.specs.declared.Table.{Table}
 use Rattle.table.specs.declared.ages.Tally.{Tally}
 use Rattle.table.specs.Search.{lowest}
-use Rattle.table.specs.Rows.{freshTable, placeAt, rowOf, spareRow, lowestFree, withKey, withPlace}
+use Rattle.table.specs.Rows.{Place, freshTable, placeAt, rowOf, spareRow, lowestFree, withKey, withPlace}
 use Rattle.table.specs.Joining.{Held, Kept, nothing, kept, Fragments, andNew, Since, never, since}
 use Rattle.table.specs.Push.{Way, keepAt, waiting, placeFor, tableBy, answerBy}
 use Rattle.table.specs.Made.{Made, byFresh}
@@ -23,7 +22,7 @@ use Rattle.orders.specs.Runs.{State, Push, Call, push, Told, pushed, fin
 use Rattle.orders.specs.Shares.{andKept, tallyOf, isIn, distinct}
 use Rattle.orders.specs.Messages.{Message, whole, Brings, Ordering, calls, freeIn, Room, completing}
 use Rattle.orders.specs.Claims.{Completes}
-use Rattle.orders.proofs.Rows.{after-put}
+use Rattle.table.proofs.Places.{put-elsewhere}
 use Rattle.orders.proofs.Lists.{left-true, right-true, every-remains, every-heard}
 use Rattle.orders.proofs.Holdings.{absent}
 use Rattle.orders.proofs.Telling.{shape, ownWay, sinceOr, byOwn, withNew, tell, answer}
@@ -80,10 +79,10 @@ kept-fewer t s store p (went-refuse n values) e = let no : _≡_ {A = ℕ} 0 1 =
 kept-fewer t s store p (went-replace i h₁ h₂ q h) e = let no : _≡_ {A = ℕ} 0 1 = cc in absurd (omega arith)
 kept-fewer t s store p (went-keep i h₁ h₂ h₃ l q h k) e =
     let new = placeFor (rowOf t (p .arrival .key)) (p .arrival .fragment) (length (p .payload)) in
-    one-fewer t (withPlace t i new) i (λ j ne. after-put t s i new h (λ (x : Place). x ≡ placeAt t j) j (λ c. absurd (ne c)) (λ c. refl)) 32
+    one-fewer t (withPlace t i new) i (put-elsewhere t i new) 32
 kept-fewer t s store p (went-open i r h₁ h₂ h₃ l q h k q₂ h₄) e =
     let new = placeFor r (p .arrival .fragment) (length (p .payload)) in
-    one-fewer t (withPlace (withKey t r (p .arrival .key) (p .arrival .time)) i new) i (λ j ne. after-put t s i new h (λ (x : Place). x ≡ placeAt t j) j (λ c. absurd (ne c)) (λ c. refl)) 32
+    one-fewer t (withPlace (withKey t r (p .arrival .key) (p .arrival .time)) i new) i (put-elsewhere (withKey t r (p .arrival .key) (p .arrival .time)) i new) 32
 kept-fewer t s store p (went-end ending h₁ h₂ h₃ l q) e = let no : _≡_ {A = ℕ} 0 1 = cc in absurd (omega arith)
 
 module _ (m : Message) (long : ℕ) (store : 47744 ≤ long) (bring : ℕ → Push) (brings : (k : ℕ) → k ≤ m .final → Brings m k (bring k)) where

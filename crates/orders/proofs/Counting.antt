@@ -6,18 +6,18 @@ use Prim.Native.Nat.{ℕ, zero, suc, _≤_, _<_}
 use native.Mathlib.Omega.{arith}
 use lib.Dec.{eqb, ltb}
 use borrow.Author.Tests.{ltb-true, ltb-false, lt-ltb, le-ltb, eqb-true, eqb-false, eq-eqb, ne-eqb}
-use Rattle.table.specs.declared.Place.{Place}
 use Rattle.table.specs.declared.Table.{Table}
 use Rattle.table.specs.declared.Counts.{Counts}
 use Rattle.table.specs.declared.Swept.{Swept}
 use Rattle.table.specs.declared.ages.Tally.{Tally}
-use Rattle.table.specs.Rows.{ownerOf, placeAt, rowOf, without}
+use Rattle.table.specs.Rows.{Place, ownerOf, placeAt, rowOf, without}
 use Rattle.table.specs.Joining.{heldIn, never, since}
 use Rattle.table.specs.Sweep.{expired, tallied, tally, lackOf, counted, sweptRow, sweptRows, swept}
 use Rattle.table.proofs.Sound.{Sound, row-holds, sweep-sound}
 use Rattle.orders.specs.Runs.{State, Holding, holding, holdsNothing}
 use Rattle.orders.specs.Shares.{tallyOf, noneDropped, share, plus, total, isIn, distinct}
-use Rattle.orders.proofs.Rows.{isUsed, codeAt, firstAt, after-drop, dropped-used, dropped-first}
+use Rattle.table.proofs.Places.{after-drop}
+use Rattle.orders.proofs.Rows.{isUsed, codeAt, firstAt, dropped-used, dropped-first}
 use Rattle.orders.proofs.Lookups.{row-is}
 use Rattle.orders.proofs.Holdings.{absent, present}
 use Rattle.orders.proofs.Sweeps.{due-is, due-never}

@@ -1,5 +1,5 @@
 -- Free places: one fewer at most when one place is taken, and where one is free the lowest is found.
-use mathlib.Core.Path.{_≡_, refl}
+use mathlib.Core.Path.{_≡_, refl, ap}
 use mathlib.Core.Bool.{Bool, true, false, cond}
 use Prim.Native.Nat.{ℕ, zero, suc, _+_, _≤_, _<_}
 use native.Mathlib.Omega.{arith}
@@ -15,7 +15,7 @@ module _ (t t′ : Table) (i : ℕ) (same : (j : ℕ) → (j ≡ i → ⊥) → 
   free-below : (n : ℕ) → n ≤ i → freeIn t′ n ≡ freeIn t n
   unfolding freeIn
   free-below zero h = refl
-  free-below (suc n) h = rw (same n (λ e. omega arith), free-below n (omega arith))
+  free-below (suc n) h = rw (ap isFree (same n (λ e. omega arith)), free-below n (omega arith))
 
   pub one-fewer : (n : ℕ) → freeIn t n ≤ freeIn t′ n + 1
   unfolding freeIn
@@ -34,7 +34,7 @@ module _ (t t′ : Table) (i : ℕ) (same : (j : ℕ) → (j ≡ i → ⊥) → 
 
       by-place : (b : Bool) → eqb n i ≡ b → freeIn t n ≤ freeIn t′ n + 1 → cond (isFree (placeAt t n)) (freeIn t n + 1) (freeIn t n) ≤ cond (isFree (placeAt t′ n)) (freeIn t′ n + 1) (freeIn t′ n) + 1
       by-place true e ih = by-test (isFree (placeAt t n)) (isFree (placeAt t′ n)) (free-below n (omega (arith, eqb-true n i e)))
-      by-place false e ih = rw (same n (eqb-false n i e)) (both (isFree (placeAt t n)) ih)
+      by-place false e ih = rw (ap isFree (same n (eqb-false n i e))) (both (isFree (placeAt t n)) ih)
 
 -- none is free before the lowest
 none-free : (t : Table) (n : ℕ) → n ≤ lowestFree t → freeIn t n ≡ 0

@@ -8,9 +8,8 @@ use lib.Dec.{ltb}
 use lib.ListN.{length, take, drop, length-drop}
 use lib.Seq.{take-append-le, drop-append-le}
 use borrow.Author.Tests.{ltb-true, ltb-false, lt-ltb}
-use Rattle.table.specs.declared.Place.{Place}
 use Rattle.table.specs.declared.Table.{Table}
-use Rattle.table.specs.Rows.{placeAt, rowOf, placeOf, bytesAt}
+use Rattle.table.specs.Rows.{Place, placeAt, rowOf, placeOf, bytesAt}
 use Rattle.table.specs.Joining.{Held, kept, keptAt, heldIn, since, firstTime}
 use Rattle.orders.specs.Runs.{State, holding, holdsNothing}
 use Rattle.table.proofs.Pieces.{kept-in, kept-out}
@@ -22,7 +21,7 @@ use Rattle.orders.proofs.Lookups.{row-is}
 
 -- a fragment as it lies in a place
 abbrev pub heldAs : Place → List ℕ → Held
-heldAs p payload = record { version = p .version; message-type = p .«message_type»; last = p .last; payload = payload }
+heldAs p payload = record { version = p .version; message-type = p .message-type; last = p .last; payload = payload }
 
 -- the place as it was, and its bytes
 pub kept-same : (t t′ : Table) (store store′ : List ℕ) (i : ℕ) → placeAt t′ i ≡ placeAt t i → bytesAt store′ i (placeAt t i .size) ≡ bytesAt store i (placeAt t i .size) → i < 32 → keptAt t′ store′ i ≡ keptAt t store i

@@ -34,7 +34,7 @@ module _ (t : Table) (c : ℕ) where
 module _ (t : Table) (store : List ℕ) (row n : ℕ) where
   pub kept-there : (i : ℕ) → isKept (keptAt t store i) ≡ ltb i 32
   unfolding keptAt
-  kept-there i = by-order (ltb i 32) (record { version = placeAt t i .version; message-type = placeAt t i .«message_type»; last = placeAt t i .last; payload = bytesAt store i (placeAt t i .size) })
+  kept-there i = by-order (ltb i 32) (record { version = placeAt t i .version; message-type = placeAt t i .message-type; last = placeAt t i .last; payload = bytesAt store i (placeAt t i .size) })
     where
       by-order : (b : Bool) (h : Held) → isKept (cond b (kept h) nothing) ≡ b
       by-order true h = refl

@@ -100,24 +100,24 @@ module _ (long : ℕ) (z : State) (p : Push) (g : Good long z) where
     joined-same : joinedWith t (part z p) row (a .fragment) (p .payload) ≡ ownJoining v p
     joined-same = ap (λ (fs : Fragments). joining (heldOf (a .fragment) (p .payload)) (andNew fs (a .fragment .number) (heldOf (a .fragment) (p .payload)))) (held-lent z s (p .lent) h₁ row)
 
-    by-keep : wayOf z p ≡ keepWay t row → ownWay long v p ≡ keepAt 0 → a .fragment .last ≡ false → (x : Bool) → leb 32 (lowestFree t) ≡ x → (y : Bool) → ltb row 16 ≡ y → (w : Bool) → leb 16 (spareRow t) ≡ w → Outcome long z p
-    by-keep is own l true e y f w q = full (is ∙ keep-full t row (lowestFree t) refl (leb-true _ _ e)) own l (no-place (leb-true _ _ e))
-    by-keep is own l false e true f w q = as-told (ap shape (is ∙ keep-there t row (lowestFree t) refl (leb-false _ _ e) (ltb-true _ _ f)) ∙ sym own)
-    by-keep is own l false e false f true q = full (is ∙ keep-keys t row (lowestFree t) refl (leb-false _ _ e) (ltb-false _ _ f) (spareRow t) refl (leb-true _ _ q)) own l (no-row (ltb-false _ _ f) (leb-true _ _ q))
-    by-keep is own l false e false f false q = as-told (ap shape (is ∙ keep-new t row (lowestFree t) refl (leb-false _ _ e) (ltb-false _ _ f) (spareRow t) refl (leb-false _ _ q)) ∙ sym own)
+    by-keep : wayOf z p ≡ keepWay (lowestFree t) (spareRow t) row → ownWay long v p ≡ keepAt 0 → a .fragment .last ≡ false → (x : Bool) → leb 32 (lowestFree t) ≡ x → (y : Bool) → ltb row 16 ≡ y → (w : Bool) → leb 16 (spareRow t) ≡ w → Outcome long z p
+    by-keep is own l true e y f w q = full (is ∙ keep-full (lowestFree t) (spareRow t) row (lowestFree t) refl (leb-true _ _ e)) own l (no-place (leb-true _ _ e))
+    by-keep is own l false e true f w q = as-told (ap shape (is ∙ keep-there (lowestFree t) (spareRow t) row (lowestFree t) refl (leb-false _ _ e) (ltb-true _ _ f)) ∙ sym own)
+    by-keep is own l false e false f true q = full (is ∙ keep-keys (lowestFree t) (spareRow t) row (lowestFree t) refl (leb-false _ _ e) (ltb-false _ _ f) (spareRow t) refl (leb-true _ _ q)) own l (no-row (ltb-false _ _ f) (leb-true _ _ q))
+    by-keep is own l false e false f false q = as-told (ap shape (is ∙ keep-new (lowestFree t) (spareRow t) row (lowestFree t) refl (leb-false _ _ e) (ltb-false _ _ f) (spareRow t) refl (leb-false _ _ q)) ∙ sym own)
 
     by-mark : 32 ≤ place → (b : Bool) → a .fragment .last ≡ b → Outcome long z p
     by-mark h₃ true e = as-told (
-        ap shape (way-last t (part z p) a (p .payload) (p .room) h₁ h₂ row place refl refl h₃ e)
+        ap shape (way-last t (part z p) a (p .payload) (p .room) h₁ h₂ h₃ e)
         ∙ last-shape (joinedWith t (part z p) row (a .fragment) (p .payload)) (p .room)
         ∙ ap (λ (j : Joining). lastWay j (p .room)) joined-same
         ∙ sym (own-last long v p min-long h₂ (kept-is ∙ le-ltb _ _ h₃) e))
     by-mark h₃ false e =
-        by-keep (way-keep t (part z p) a (p .payload) (p .room) h₁ h₂ row place refl refl h₃ e) (own-keep long v p min-long h₂ (kept-is ∙ le-ltb _ _ h₃) e) e
+        by-keep (way-keep t (part z p) a (p .payload) (p .room) h₁ h₂ h₃ e) (own-keep long v p min-long h₂ (kept-is ∙ le-ltb _ _ h₃) e) e
         (leb 32 (lowestFree t)) refl (ltb row 16) refl (leb 16 (spareRow t)) refl
 
     by-place : (b : Bool) → ltb place 32 ≡ b → Outcome long z p
-    by-place true e = as-told (ap shape (way-replace t (part z p) a (p .payload) (p .room) h₁ h₂ row place refl refl (ltb-true _ _ e)) ∙ sym (own-replace long v p min-long h₂ (kept-is ∙ e)))
+    by-place true e = as-told (ap shape (way-replace t (part z p) a (p .payload) (p .room) h₁ h₂ (ltb-true _ _ e)) ∙ sym (own-replace long v p min-long h₂ (kept-is ∙ e)))
     by-place false e = by-mark (ltb-false _ _ e) (a .fragment .last) refl
 
   by-size : 47744 ≤ length (part z p) → (b : Bool) → ltb 1492 (length (p .payload)) ≡ b → Outcome long z p

@@ -7,16 +7,16 @@ use native.Mathlib.Omega.{arith}
 use lib.Dec.{ltb}
 use lib.ListN.{length}
 use borrow.Author.Tests.{ltb-true}
-use Rattle.table.specs.declared.Place.{Place}
 use Rattle.table.specs.declared.Table.{Table}
 use Rattle.table.specs.declared.Arrival.{Arrival}
-use Rattle.table.specs.Rows.{ownerOf, freePlace, freshTable, placeAt, rowOf, withKey, withPlace, without}
+use Rattle.table.specs.Rows.{Place, ownerOf, freePlace, freshTable, placeAt, rowOf, withKey, withPlace, without}
 use Rattle.table.specs.Push.{Way, placeFor, tableBy}
 use Rattle.table.specs.Sweep.{expired, tally, lackOf, counted, sweptRow, sweptRows}
 use Rattle.table.specs.Made.{Made, byFresh, byPush, bySweep}
 use Rattle.table.proofs.Ways.{Went, went, went-refuse, went-replace, went-keep, went-open, went-end}
 use Rattle.table.proofs.Sound.{Sound, sound, open-sound, sweep-sound}
-use Rattle.orders.proofs.Rows.{all-same, isUsed, codeAt, firstAt, after-put, opened-used, opened-code, opened-first, after-drop, dropped-used, dropped-code, dropped-first}
+use Rattle.table.proofs.Places.{all-same, fresh-place, after-put, after-drop}
+use Rattle.orders.proofs.Rows.{isUsed, codeAt, firstAt, opened-used, opened-code, opened-first, dropped-used, dropped-code, dropped-first}
 
 pub record Tidy (t : Table) : Type 0 where
   pub code : (row : ℕ) → isUsed t row ≡ false → codeAt t row ≡ 0
@@ -24,13 +24,13 @@ pub record Tidy (t : Table) : Type 0 where
   pub place : (i : ℕ) → placeAt t i .owner ≡ 0 → placeAt t i ≡ freePlace
 
 fresh-tidy : Tidy freshTable
-fresh-tidy = record { code = λ row u. all-same 16 row 0; first = λ row u. all-same 16 row 0; place = λ i o. all-same 32 i freePlace }
+fresh-tidy = record { code = λ row u. all-same 16 row 0; first = λ row u. all-same 16 row 0; place = λ i o. fresh-place i }
 
 put-tidy : (t : Table) → Sound t → Tidy t → (i row : ℕ) (p : Place) → i < 32 → p .owner ≡ ownerOf row → Tidy (withPlace t i p)
 put-tidy t s y i row p h o = record {
   code = y .code;
   first = y .first;
-  place = λ j. after-put t s i p h (λ (q : Place). q .owner ≡ 0 → q ≡ freePlace) j (λ e z. absurd (omega (arith, o, z))) (λ e. y .place j);
+  place = λ j. after-put t i p (s .places-long) h (λ (q : Place). q .owner ≡ 0 → q ≡ freePlace) j (λ e z. absurd (omega (arith, o, z))) (λ e. y .place j);
 }
 
 open-tidy : (t : Table) → Sound t → Tidy t → (row key time : ℕ) → row < 16 → Tidy (withKey t row key time)

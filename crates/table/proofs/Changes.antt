@@ -16,7 +16,7 @@ use Rattle.table.specs.declared.choose.Chosen.{Chosen}
 use Rattle.table.specs.Rows.{ownerOf, rowOf, withPlace, without}
 use Rattle.table.specs.Joining.{Joining}
 use Rattle.table.specs.Push.{Way, end, Ending, keepWay, lastWay, joinedWith, wayBy, way, placeFor, droppedKey, tableBy, storeBy, outputBy, answerBy, Goes}
-use Rattle.table.specs.Leaves.{freeIn, spareIn, numberedIn, joiningIn, changeBy, Chooses, opened}
+use Rattle.table.specs.Leaves.{lowestFreeIn, spareRowIn, numberedIn, joiningIn, changeBy, Chooses, opened}
 use Rattle.table.proofs.Ways.{same-joins, Went, went, went-refuse, went-replace, went-keep, went-open, went-end}
 use Rattle.table.proofs.Sound.{Sound, used-row, place-holds}
 use Rattle.table.proofs.Pieces.{placesOf, judged}
@@ -26,7 +26,7 @@ module _ (t : Table) (s : Sound t) (store : List ℕ) (a : Arrival) (payload : L
   abbrev pub wayFrom : ℕ → Way
   wayFrom r =
       wayBy (length store) (length payload) (numberedIn (t .owners) (t .numbers) (ownerOf r) (a .fragment .number)) (a .fragment .last)
-      (lastWay (joiningIn (placesOf t) store r (a .fragment) payload) room) (keepWay (freeIn (t .owners)) (spareIn (t .used)) r)
+      (lastWay (joiningIn (placesOf t) store r (a .fragment) payload) room) (keepWay (lowestFreeIn (t .owners)) (spareRowIn (t .used)) r)
 
   abbrev its : ℕ
   its = rowOf t (a .key)
@@ -36,7 +36,7 @@ module _ (t : Table) (s : Sound t) (store : List ℕ) (a : Arrival) (payload : L
   way-is byte =
       ap wayFrom is-row
       ∙ same-joins (length store) (length payload) (numberedIn (t .owners) (t .numbers) (ownerOf its) (a .fragment .number)) (a .fragment .last)
-      (lastWay (joiningIn (placesOf t) store its (a .fragment) payload) room) (lastWay (joinedWith t store its (a .fragment) payload) room) (keepWay (freeIn (t .owners)) (spareIn (t .used)) its)
+      (lastWay (joiningIn (placesOf t) store its (a .fragment) payload) room) (lastWay (joinedWith t store its (a .fragment) payload) room) (keepWay (lowestFreeIn (t .owners)) (spareRowIn (t .used)) its)
       (λ h once. ap (λ (j : Joining). lastWay j room) (sym (judged t store its (a .fragment) payload s byte once)))
 
   -- what a way does, by the change

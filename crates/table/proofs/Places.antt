@@ -1,11 +1,13 @@
--- Places, put together from their six lists, after each change: a fragment is put, a key is dropped.
-use mathlib.Core.Path.{_≡_, refl, sym, ap, _∙_}
+-- Places, put together from their six lists, after each change: a fragment is put, a key is dropped. The laws that only go through a place's own words stand on these.
+use mathlib.Core.Path.{_≡_, refl, sym, ap, _∙_, subst}
+use mathlib.Core.List.{List}
 use mathlib.Core.Bool.{Bool, true, false, cond}
 use Prim.Native.Nat.{ℕ, zero, suc, _<_}
 use native.Mathlib.Omega.{arith}
 use lib.Dec.{eqb}
-use lib.ListN.{length, getD, replicate, length-set, length-replicate}
+use lib.ListN.{length, getD, set, replicate, length-set, length-replicate}
 use lib.Seq.{getD-set-same, getD-set-other}
+use borrow.Author.Tests.{eqb-true, eqb-false}
 use Rattle.table.specs.declared.Table.{Table}
 use Rattle.table.specs.Rows.{Place, ownerOf, freePlace, freshTable, placeAt, withPlace, without}
 use Rattle.table.proofs.Wiped.{wiped-length, wiped-at}
@@ -50,11 +52,18 @@ drop-long t l row = record {
   lasts = wiped-length (ownerOf row) false (t .owners) (t .lasts) ∙ l .lasts;
 }
 
--- a list of one element
+-- a list of one element, and an element after one was set
 pub all-same : {A : Type 0} (n i : ℕ) (a : A) → getD (replicate n a) i a ≡ a
 all-same zero i a = refl
 all-same (suc n) zero a = refl
 all-same (suc n) (suc i) a = all-same n i a
+
+pub after-set : {A : Type 0} (P : A → Type 0) (l : List A) (i j : ℕ) (a d : A) → i < length l → (j ≡ i → P a) → ((j ≡ i → ⊥) → P (getD l j d)) → P (getD (set l i a) j d)
+after-set P l i j a d h here other = by-index (eqb j i) refl
+  where
+    by-index : (b : Bool) → eqb j i ≡ b → P (getD (set l i a) j d)
+    by-index false e = subst P (sym (getD-set-other l i j a d (eqb-false j i e))) (other (eqb-false j i e))
+    by-index true e = subst P (sym (ap (λ (k : ℕ). getD (set l i a) k d) (eqb-true j i e) ∙ getD-set-same l i a d h)) (here (eqb-true j i e))
 
 pub fresh-place : (i : ℕ) → placeAt freshTable i ≡ freePlace
 fresh-place i = λ j. record {
@@ -88,6 +97,13 @@ module _ (t : Table) (i : ℕ) (p : Place) where
     last = getD-set-other (t .lasts) i k (p .last) false ne j;
   }
 
+  pub after-put : Long t → i < 32 → (P : Place → Type 0) (k : ℕ) → (k ≡ i → P p) → ((k ≡ i → ⊥) → P (placeAt t k)) → P (placeAt (withPlace t i p) k)
+  after-put l h P k here other = by-index (eqb k i) refl
+    where
+      by-index : (b : Bool) → eqb k i ≡ b → P (placeAt (withPlace t i p) k)
+      by-index false e = subst P (sym (put-elsewhere k (eqb-false k i e))) (other (eqb-false k i e))
+      by-index true e = subst P (sym (ap (placeAt (withPlace t i p)) (eqb-true k i e) ∙ put-here l h)) (here (eqb-true k i e))
+
 -- and after a row's key was dropped
 abbrev pub freed : ℕ → Place → Place
 freed row p = cond (eqb (p .owner) (ownerOf row)) freePlace p
@@ -120,3 +136,10 @@ freed-at t row i = listwise ∙ together (eqb (placeAt t i .owner) (ownerOf row)
     together : (b : Bool) → freedIn (placeAt t i) b ≡ cond b freePlace (placeAt t i)
     together true = refl
     together false = refl
+
+pub after-drop : (t : Table) (row : ℕ) (P : Place → Type 0) (i : ℕ) → (placeAt t i .owner ≡ ownerOf row → P freePlace) → ((placeAt t i .owner ≡ ownerOf row → ⊥) → P (placeAt t i)) → P (placeAt (without t row) i)
+after-drop t row P i free other = subst P (sym (freed-at t row i)) (by-owner (eqb (placeAt t i .owner) (ownerOf row)) refl)
+  where
+    by-owner : (b : Bool) → eqb (placeAt t i .owner) (ownerOf row) ≡ b → P (cond b freePlace (placeAt t i))
+    by-owner true e = free (eqb-true _ _ e)
+    by-owner false e = other (eqb-false _ _ e)

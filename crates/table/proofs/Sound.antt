@@ -16,7 +16,7 @@ use Rattle.table.specs.Push.{Way, tableBy, placeFor, droppedKey}
 use Rattle.table.specs.Sweep.{lackOf, counted, tally, sweptRow, sweptRows, expired}
 use Rattle.table.specs.Made.{Made, byFresh, byPush, bySweep}
 use Rattle.table.proofs.Search.{lowest-holds, lowest-before}
-use Rattle.table.proofs.Places.{Long, fresh-long, put-long, drop-long, all-same, fresh-place, put-here, put-elsewhere, freed-at}
+use Rattle.table.proofs.Places.{Long, fresh-long, put-long, drop-long, all-same, after-set, fresh-place, after-put, after-drop}
 use Rattle.table.proofs.Ways.{Went, went, went-refuse, went-replace, went-keep, went-open, went-end}
 
 pub record Sound (t : Table) : Type 0 where
@@ -32,14 +32,6 @@ pub record Sound (t : Table) : Type 0 where
   pub once : (i j row : ℕ) → placeAt t i .owner ≡ ownerOf row → placeAt t j .owner ≡ ownerOf row → placeAt t i .number ≡ placeAt t j .number → i ≡ j
   -- a key has one row
   pub keyed : (r s : ℕ) → getD (t .used) r false ≡ true → getD (t .used) s false ≡ true → getD (t .codes) r 0 ≡ getD (t .codes) s 0 → r ≡ s
-
--- an element after one was set, by whether it is that one
-at-set : {A : Type 0} (P : A → Type 0) (l : List A) (i j : ℕ) (a d : A) → i < length l → (i ≡ j → P a) → ((j ≡ i → ⊥) → P (getD l j d)) → P (getD (set l i a) j d)
-at-set P l i j a d h here other = by-index (eqb j i) refl
-  where
-    by-index : (b : Bool) → eqb j i ≡ b → P (getD (set l i a) j d)
-    by-index false e = subst P (sym (getD-set-other l i j a d (eqb-false j i e))) (other (eqb-false j i e))
-    by-index true e = subst P (sym (ap (λ (k : ℕ). getD (set l i a) k d) (eqb-true j i e) ∙ getD-set-same l i a d h)) (here (sym (eqb-true j i e)))
 
 -- a row that a key has is one of the table's
 pub used-row : (t : Table) → Sound t → (row : ℕ) → getD (t .used) row false ≡ true → row < 16
@@ -137,12 +129,8 @@ fresh-sound = record {
 
 module _ (t : Table) (s : Sound t) (at row : ℕ) (in-32 : at < 32) (p : Place) (e : p .owner ≡ ownerOf row) (small : p .size ≤ 1492) (byte : p .number < 256) (used : getD (t .used) row false ≡ true)
     (new : (j : ℕ) → (j ≡ at → ⊥) → placeAt t j .owner ≡ ownerOf row → placeAt t j .number ≡ p .number → ⊥) where
-  at-place : (P : Place → Type 0) (i : ℕ) → (at ≡ i → P p) → ((i ≡ at → ⊥) → P (placeAt t i)) → P (placeAt (withPlace t at p) i)
-  at-place P i here other = by-index (eqb i at) refl
-    where
-      by-index : (b : Bool) → eqb i at ≡ b → P (placeAt (withPlace t at p) i)
-      by-index false e = subst P (sym (put-elsewhere t at p i (eqb-false i at e))) (other (eqb-false i at e))
-      by-index true e = subst P (sym (ap (placeAt (withPlace t at p)) (eqb-true i at e) ∙ put-here t at p (s .places-long) in-32)) (here (sym (eqb-true i at e)))
+  at-place : (P : Place → Type 0) (i : ℕ) → (i ≡ at → P p) → ((i ≡ at → ⊥) → P (placeAt t i)) → P (placeAt (withPlace t at p) i)
+  at-place = after-put t at p (s .places-long) in-32
 
   owner-at : (i r : ℕ) → placeAt (withPlace t at p) i .owner ≡ ownerOf r → getD (t .used) r false ≡ true
   owner-at i r = at-place (λ (q : Place). q .owner ≡ ownerOf r → getD (t .used) r false ≡ true) i
@@ -160,7 +148,7 @@ module _ (t : Table) (s : Sound t) (at row : ℕ) (in-32 : at < 32) (p : Place) 
   once-at : (i j r : ℕ) → placeAt (withPlace t at p) i .owner ≡ ownerOf r → placeAt (withPlace t at p) j .owner ≡ ownerOf r → placeAt (withPlace t at p) i .number ≡ placeAt (withPlace t at p) j .number → i ≡ j
   once-at i j r =
       at-place (λ (q : Place). q .owner ≡ ownerOf r → placeAt (withPlace t at p) j .owner ≡ ownerOf r → q .number ≡ placeAt (withPlace t at p) j .number → i ≡ j) i
-      (λ here own. at-place (λ (z : Place). z .owner ≡ ownerOf r → p .number ≡ z .number → i ≡ j) j (λ here₂ f g. sym here ∙ here₂) (λ other f g. absurd (apart j r other f own g)))
+      (λ here own. at-place (λ (z : Place). z .owner ≡ ownerOf r → p .number ≡ z .number → i ≡ j) j (λ here₂ f g. here ∙ sym here₂) (λ other f g. absurd (apart j r other f own g)))
       (λ other own. at-place (λ (z : Place). z .owner ≡ ownerOf r → placeAt t i .number ≡ z .number → i ≡ j) j (λ here f g. absurd (apart i r other own f (sym g))) (λ other₂ f g. s .once i j r own f g))
 
   pub put-sound : Sound (withPlace t at p)
@@ -178,16 +166,16 @@ module _ (t : Table) (s : Sound t) (at row : ℕ) (in-32 : at < 32) (p : Place) 
 
 module _ (t : Table) (s : Sound t) (row key time : ℕ) (in-16 : row < 16) (new : 16 ≤ rowOf t key) where
   still-used : (r : ℕ) → getD (t .used) r false ≡ true → getD (withKey t row key time .used) r false ≡ true
-  still-used r e = at-set (λ (b : Bool). b ≡ true) (t .used) row r true false (omega (arith, s .used-long)) (λ here. refl) (λ other. e)
+  still-used r e = after-set (λ (b : Bool). b ≡ true) (t .used) row r true false (omega (arith, s .used-long)) (λ here. refl) (λ other. e)
 
   was-used : (r : ℕ) → (r ≡ row → ⊥) → getD (withKey t row key time .used) r false ≡ true → getD (t .used) r false ≡ true
   was-used r other e = sym (getD-set-other (t .used) row r true false other) ∙ e
 
   keyed-at : (r q : ℕ) → getD (withKey t row key time .used) r false ≡ true → getD (withKey t row key time .used) q false ≡ true → getD (withKey t row key time .codes) r 0 ≡ getD (withKey t row key time .codes) q 0 → r ≡ q
   keyed-at r q e f =
-      at-set (λ (k : ℕ). k ≡ getD (withKey t row key time .codes) q 0 → r ≡ q) (t .codes) row r key 0 (omega (arith, s .codes-long))
-      (λ here. at-set (λ (k : ℕ). key ≡ k → r ≡ q) (t .codes) row q key 0 (omega (arith, s .codes-long)) (λ here₂ g. sym here ∙ here₂) (λ other g. absurd (no-row t s key new q (was-used q other f) (sym g))))
-      (λ other. at-set (λ (k : ℕ). getD (t .codes) r 0 ≡ k → r ≡ q) (t .codes) row q key 0 (omega (arith, s .codes-long))
+      after-set (λ (k : ℕ). k ≡ getD (withKey t row key time .codes) q 0 → r ≡ q) (t .codes) row r key 0 (omega (arith, s .codes-long))
+      (λ here. after-set (λ (k : ℕ). key ≡ k → r ≡ q) (t .codes) row q key 0 (omega (arith, s .codes-long)) (λ here₂ g. here ∙ sym here₂) (λ other g. absurd (no-row t s key new q (was-used q other f) (sym g))))
+      (λ other. after-set (λ (k : ℕ). getD (t .codes) r 0 ≡ k → r ≡ q) (t .codes) row q key 0 (omega (arith, s .codes-long))
       (λ here g. absurd (no-row t s key new r (was-used r other e) g)) (λ other₂ g. s .keyed r q (was-used r other e) (was-used q other₂ f) g))
 
   -- the lists of places stay
@@ -210,11 +198,7 @@ module _ (t : Table) (s : Sound t) (row key time : ℕ) (in-16 : row < 16) (new 
 module _ (t : Table) (s : Sound t) (row : ℕ) (in-16 : row < 16) where
   -- a place after the drop is free, or as it was and another row's
   at-freed : (P : Place → Type 0) (i : ℕ) → P freePlace → ((placeAt t i .owner ≡ ownerOf row → ⊥) → P (placeAt t i)) → P (placeAt (without t row) i)
-  at-freed P i free kept = subst P (sym (freed-at t row i)) (by-owner (eqb (placeAt t i .owner) (ownerOf row)) refl)
-    where
-      by-owner : (b : Bool) → eqb (placeAt t i .owner) (ownerOf row) ≡ b → P (cond b freePlace (placeAt t i))
-      by-owner true e = free
-      by-owner false e = kept (eqb-false _ _ e)
+  at-freed P i free other = after-drop t row P i (λ own. free) other
 
   pub dropped-unused : getD (without t row .used) row false ≡ false
   unfolding without

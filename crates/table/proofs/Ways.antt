@@ -153,39 +153,55 @@ module _ (t : Table) (store : List ℕ) (a : Arrival) (payload : List ℕ) (room
   abbrev keeps : Way
   keeps = keepWay (lowestFree t) (spareRow t) row
 
+  -- the tests of a push to a table
   pub way-11 : length store < 47744 → way t store a payload room ≡ refuse 11 []
   unfolding way
   way-11 h = by-11 (length store) (length payload) place (a .fragment .last) joins keeps h
 
-  module _ (h₁ : 47744 ≤ length store) (h₂ : length payload ≤ 1492) (h₃ : 32 ≤ place) where
-    by-room : a .fragment .last ≡ false → (x : Bool) → leb 32 (lowestFree t) ≡ x → (y : Bool) → ltb row 16 ≡ y → (z : Bool) → leb 16 (spareRow t) ≡ z → Went t store a payload room keeps
-    by-room l true e y f z g = rw (keep-full (lowestFree t) (spareRow t) row (lowestFree t) refl (leb-true _ _ e)) (went-refuse 10 [])
-    by-room l false e true f z g = rw (keep-there (lowestFree t) (spareRow t) row (lowestFree t) refl (leb-false _ _ e) (ltb-true _ _ f)) (went-keep (lowestFree t) h₁ h₂ h₃ l refl (leb-false _ _ e) (ltb-true _ _ f))
-    by-room l false e false f true g = rw (keep-keys (lowestFree t) (spareRow t) row (lowestFree t) refl (leb-false _ _ e) (ltb-false _ _ f) (spareRow t) refl (leb-true _ _ g)) (went-refuse 10 [])
-    by-room l false e false f false g = rw (keep-new (lowestFree t) (spareRow t) row (lowestFree t) refl (leb-false _ _ e) (ltb-false _ _ f) (spareRow t) refl (leb-false _ _ g)) (went-open (lowestFree t) (spareRow t) h₁ h₂ h₃ l refl (leb-false _ _ e) (ltb-false _ _ f) refl (leb-false _ _ g))
-
-    -- a last way is a refusal or an end
-    by-end : a .fragment .last ≡ true → (w : Way) → joins ≡ w → Went t store a payload room w
-    by-end l (refuse n values) e = went-refuse n values
-    by-end l (end ending) e = went-end ending h₁ h₂ h₃ l e
-    by-end l (replace i) e = absurd (never-other (joinedWith t store row (a .fragment) payload) room (replace i) e tt)
-    by-end l (keepAt i) e = absurd (never-other (joinedWith t store row (a .fragment) payload) room (keepAt i) e tt)
-    by-end l (openAt i r) e = absurd (never-other (joinedWith t store row (a .fragment) payload) room (openAt i r) e tt)
-
-    by-mark : (l : Bool) → a .fragment .last ≡ l → Went t store a payload room (way t store a payload room)
+  module _ (h₁ : 47744 ≤ length store) where
+    pub way-12 : 1492 < length payload → way t store a payload room ≡ refuse 12 []
     unfolding way
-    by-mark true l = rw (by-last (length store) (length payload) place (a .fragment .last) joins keeps h₁ h₂ h₃ l) (by-end l joins refl)
-    by-mark false l = rw (by-keep (length store) (length payload) place (a .fragment .last) joins keeps h₁ h₂ h₃ l) (by-room l (leb 32 (lowestFree t)) refl (ltb row 16) refl (leb 16 (spareRow t)) refl)
+    way-12 h = by-12 (length store) (length payload) place (a .fragment .last) joins keeps h₁ h
 
-  by-place : 47744 ≤ length store → length payload ≤ 1492 → (b : Bool) → ltb place 32 ≡ b → Went t store a payload room (way t store a payload room)
-  unfolding way
-  by-place h₁ h₂ true e = rw (by-replace (length store) (length payload) place (a .fragment .last) joins keeps h₁ h₂ (ltb-true _ _ e)) (went-replace place h₁ h₂ refl (ltb-true _ _ e))
-  by-place h₁ h₂ false e = by-mark h₁ h₂ (ltb-false _ _ e) (a .fragment .last) refl
+    module _ (h₂ : length payload ≤ 1492) where
+      pub way-replace : place < 32 → way t store a payload room ≡ replace place
+      unfolding way
+      way-replace h = by-replace (length store) (length payload) place (a .fragment .last) joins keeps h₁ h₂ h
 
-  by-size : 47744 ≤ length store → (b : Bool) → ltb 1492 (length payload) ≡ b → Went t store a payload room (way t store a payload room)
-  unfolding way
-  by-size h₁ true e = rw (by-12 (length store) (length payload) place (a .fragment .last) joins keeps h₁ (ltb-true _ _ e)) (went-refuse 12 [])
-  by-size h₁ false e = by-place h₁ (ltb-false _ _ e) (ltb place 32) refl
+      module _ (h₃ : 32 ≤ place) where
+        pub way-last : a .fragment .last ≡ true → way t store a payload room ≡ joins
+        unfolding way
+        way-last l = by-last (length store) (length payload) place (a .fragment .last) joins keeps h₁ h₂ h₃ l
+
+        pub way-keep : a .fragment .last ≡ false → way t store a payload room ≡ keeps
+        unfolding way
+        way-keep l = by-keep (length store) (length payload) place (a .fragment .last) joins keeps h₁ h₂ h₃ l
+
+        by-room : a .fragment .last ≡ false → (x : Bool) → leb 32 (lowestFree t) ≡ x → (y : Bool) → ltb row 16 ≡ y → (z : Bool) → leb 16 (spareRow t) ≡ z → Went t store a payload room keeps
+        by-room l true e y f z g = rw (keep-full (lowestFree t) (spareRow t) row (lowestFree t) refl (leb-true _ _ e)) (went-refuse 10 [])
+        by-room l false e true f z g = rw (keep-there (lowestFree t) (spareRow t) row (lowestFree t) refl (leb-false _ _ e) (ltb-true _ _ f)) (went-keep (lowestFree t) h₁ h₂ h₃ l refl (leb-false _ _ e) (ltb-true _ _ f))
+        by-room l false e false f true g = rw (keep-keys (lowestFree t) (spareRow t) row (lowestFree t) refl (leb-false _ _ e) (ltb-false _ _ f) (spareRow t) refl (leb-true _ _ g)) (went-refuse 10 [])
+        by-room l false e false f false g = rw (keep-new (lowestFree t) (spareRow t) row (lowestFree t) refl (leb-false _ _ e) (ltb-false _ _ f) (spareRow t) refl (leb-false _ _ g)) (went-open (lowestFree t) (spareRow t) h₁ h₂ h₃ l refl (leb-false _ _ e) (ltb-false _ _ f) refl (leb-false _ _ g))
+
+        -- a last way is a refusal or an end
+        by-end : a .fragment .last ≡ true → (w : Way) → joins ≡ w → Went t store a payload room w
+        by-end l (refuse n values) e = went-refuse n values
+        by-end l (end ending) e = went-end ending h₁ h₂ h₃ l e
+        by-end l (replace i) e = absurd (never-other (joinedWith t store row (a .fragment) payload) room (replace i) e tt)
+        by-end l (keepAt i) e = absurd (never-other (joinedWith t store row (a .fragment) payload) room (keepAt i) e tt)
+        by-end l (openAt i r) e = absurd (never-other (joinedWith t store row (a .fragment) payload) room (openAt i r) e tt)
+
+        by-mark : (l : Bool) → a .fragment .last ≡ l → Went t store a payload room (way t store a payload room)
+        by-mark true l = rw (way-last l) (by-end l joins refl)
+        by-mark false l = rw (way-keep l) (by-room l (leb 32 (lowestFree t)) refl (ltb row 16) refl (leb 16 (spareRow t)) refl)
+
+      by-place : (b : Bool) → ltb place 32 ≡ b → Went t store a payload room (way t store a payload room)
+      by-place true e = rw (way-replace (ltb-true _ _ e)) (went-replace place h₁ h₂ refl (ltb-true _ _ e))
+      by-place false e = by-mark (ltb-false _ _ e) (a .fragment .last) refl
+
+    by-size : (b : Bool) → ltb 1492 (length payload) ≡ b → Went t store a payload room (way t store a payload room)
+    by-size true e = rw (way-12 (ltb-true _ _ e)) (went-refuse 12 [])
+    by-size false e = by-place (ltb-false _ _ e) (ltb place 32) refl
 
   by-store : (b : Bool) → ltb (length store) 47744 ≡ b → Went t store a payload room (way t store a payload room)
   by-store true e = rw (way-11 (ltb-true _ _ e)) (went-refuse 11 [])

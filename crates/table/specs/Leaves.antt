@@ -21,14 +21,14 @@ use Rattle.table.specs.Joining.{Joining, inconsistentMetadata, missingFr
 use Rattle.table.specs.Push.{Way, refuse, replace, keepAt, openAt, end, pushedOf, answerBy, outputBy}
 
 -- the look-ups, in the lists that they are lent
-abbrev pub keyIn : List Bool → List ℕ → ℕ → ℕ
-keyIn used codes key = lowest (λ row. getD used row false && eqb (getD codes row 0) key) 16
+abbrev pub rowIn : List Bool → List ℕ → ℕ → ℕ
+rowIn used codes key = lowest (λ row. getD used row false && eqb (getD codes row 0) key) 16
 
-abbrev pub spareIn : List Bool → ℕ
-spareIn used = lowest (λ row. not (getD used row false)) 16
+abbrev pub spareRowIn : List Bool → ℕ
+spareRowIn used = lowest (λ row. not (getD used row false)) 16
 
-abbrev pub freeIn : List ℕ → ℕ
-freeIn owners = lowest (λ i. eqb (getD owners i 0) 0) 32
+abbrev pub lowestFreeIn : List ℕ → ℕ
+lowestFreeIn owners = lowest (λ i. eqb (getD owners i 0) 0) 32
 
 abbrev pub numberedIn : (owners numbers : List ℕ) → (owner number : ℕ) → ℕ
 numberedIn owners numbers owner number = lowest (λ i. eqb (getD owners i 0) owner && eqb (getD numbers i 0) number) 32

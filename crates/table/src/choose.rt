@@ -13,7 +13,7 @@ ghost use Prim.Native.Nat.{ℕ, _≤_};
 ghost use lib.ListN.{length, getD};
 ghost use Rattle.table.specs.Rows.{ownerOf};
 ghost use Rattle.table.specs.Push.{answerBy, pushedOf, keepWay, lastWay, wayBy};
-ghost use Rattle.table.specs.Leaves.{freeIn, spareIn, numberedIn, placesIn, joiningIn, changeBy, endChange, Chooses};
+ghost use Rattle.table.specs.Leaves.{lowestFreeIn, spareRowIn, numberedIn, placesIn, joiningIn, changeBy, endChange, Chooses};
 
 // What becomes of the table.
 pub enum Change {
@@ -46,7 +46,7 @@ fn held_at<'a>(owners: &'a [u8; 32], numbers: &'a [u8; 32], row: usize, number: 
 
 // Step 3 of push: a fragment that is not marked last is kept, if there is room.
 fn keep<'a>(used: &'a [bool; 16], owners: &'a [u8; 32], row: usize) -> Chosen
-    ensures { λ r. ⌜ (pushedOf (r .answer) ≡ answerBy (keepWay (freeIn (now (owners .entry))) (spareIn (now (used .entry))) row)) × (r .change ≡ changeBy (keepWay (freeIn (now (owners .entry))) (spareIn (now (used .entry))) row) row) ⌝ }
+    ensures { λ r. ⌜ (pushedOf (r .answer) ≡ answerBy (keepWay (lowestFreeIn (now (owners .entry))) (spareRowIn (now (used .entry))) row)) × (r .change ≡ changeBy (keepWay (lowestFreeIn (now (owners .entry))) (spareRowIn (now (used .entry))) row) row) ⌝ }
 {
     let place = find_free(owners);
     if 32 <= place {
@@ -173,7 +173,7 @@ pub fn choose<'a>(
     requires { ⌜ (row ≤ 16) × ((i : ℕ) → getD (now sizes) i 0 ≤ 1492) × (16 ≤ row → 32 ≤ numberedIn (now owners) (now numbers) (ownerOf row) (f .number)) ⌝ }
     ensures { λ r. ⌜ Chooses (wayBy (length (now (store .entry))) (length (now (payload .entry))) (numberedIn (now (owners .entry)) (now (numbers .entry)) (ownerOf row) (f .number)) (f .last)
         (lastWay (joiningIn (placesIn (now (types .entry)) (now (sizes .entry)) (now (owners .entry)) (now (numbers .entry)) (now (versions .entry)) (now (lasts .entry))) (now (store .entry)) row f (now (payload .entry))) (length (now (out .entry))))
-        (keepWay (freeIn (now (owners .entry))) (spareIn (now (used .entry))) row)) row r (now (out .entry)) (now (out .exit)) ⌝ }
+        (keepWay (lowestFreeIn (now (owners .entry))) (spareRowIn (now (used .entry))) row)) row r (now (out .entry)) (now (out .exit)) ⌝ }
 {
     if store.len() < 47744 {
         return Chosen {

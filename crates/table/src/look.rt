@@ -3,7 +3,7 @@ ghost use mathlib.Core.Path.{_≡_};
 ghost use mathlib.Core.Bool.{not, _&&_};
 ghost use Prim.Native.Nat.{_≤_};
 ghost use lib.Dec.{eqb, ltb};
-ghost use Rattle.table.specs.Leaves.{keyIn, spareIn, freeIn, numberedIn, unlikeIn, beyondIn};
+ghost use Rattle.table.specs.Leaves.{rowIn, spareRowIn, lowestFreeIn, numberedIn, unlikeIn, beyondIn};
 
 pub fn is_key(used: bool, code: u64, key: u64) -> bool
     ensures { λ r. ⌜ r ≡ (used && eqb code key) ⌝ }
@@ -13,7 +13,7 @@ pub fn is_key(used: bool, code: u64, key: u64) -> bool
 
 // The row of a key, 16 where there is none.
 pub fn find_key<'a>(used: &'a [bool; 16], codes: &'a [u64; 16], key: u64) -> usize
-    ensures { λ r. ⌜ (r ≡ keyIn (now (used .entry)) (now (codes .entry)) key) × (r ≤ 16) ⌝ }
+    ensures { λ r. ⌜ (r ≡ rowIn (now (used .entry)) (now (codes .entry)) key) × (r ≤ 16) ⌝ }
 {
     let mut i: usize = 0;
     while i < 16 {
@@ -27,7 +27,7 @@ pub fn find_key<'a>(used: &'a [bool; 16], codes: &'a [u64; 16], key: u64) -> usi
 
 // The lowest row that no key has, 16 where all have one.
 pub fn find_spare(used: &[bool; 16]) -> usize
-    ensures { λ r. ⌜ (r ≡ spareIn (now (used .entry))) × (r ≤ 16) ⌝ }
+    ensures { λ r. ⌜ (r ≡ spareRowIn (now (used .entry))) × (r ≤ 16) ⌝ }
 {
     let mut i: usize = 0;
     while i < 16 {
@@ -41,7 +41,7 @@ pub fn find_spare(used: &[bool; 16]) -> usize
 
 // The lowest free place, 32 where all are used.
 pub fn find_free(owners: &[u8; 32]) -> usize
-    ensures { λ r. ⌜ (r ≡ freeIn (now (owners .entry))) × (r ≤ 32) ⌝ }
+    ensures { λ r. ⌜ (r ≡ lowestFreeIn (now (owners .entry))) × (r ≤ 32) ⌝ }
 {
     let mut i: usize = 0;
     while i < 32 {

@@ -1,7 +1,7 @@
 -- Each way out is that of `keepWay`, by the tests and the finds that led there.
 use mathlib.Core.Path.{refl}
 use denote.Ref.{now}
-use Rattle.table.specs.Leaves.{freeIn, spareIn}
+use Rattle.table.specs.Leaves.{lowestFreeIn, spareRowIn}
 use Rattle.table.proofs.Ways.{keep-full, keep-there, keep-keys, keep-new}
 use borrow.Author.Needs.{needs}
 use Rattle.table.proofs.choose.keep.Statement.{statement}
@@ -13,12 +13,12 @@ find-free-requires c κs = search needs
 returns : tie.Need-returns
 returns c =
     let a = (c .before .before) .args in
-    rw (keep-full (freeIn (now (a .owners))) (spareIn (now (a .used))) (a .row) (c .before .find-free .result) (c .before .find-free .ensures .0) (c .if1 .taken)) (refl, refl)
+    rw (keep-full (lowestFreeIn (now (a .owners))) (spareRowIn (now (a .used))) (a .row) (c .before .find-free .result) (c .before .find-free .ensures .0) (c .if1 .taken)) (refl, refl)
 
 returns-2 : tie.Need-returns-2
 returns-2 c =
     let a = (c .before .before .before) .args in
-    rw (keep-there (freeIn (now (a .owners))) (spareIn (now (a .used))) (a .row) (c .before .before .find-free .result) (c .before .before .find-free .ensures .0) (c .before .if1 .left) (c .if2 .taken)) (refl, refl)
+    rw (keep-there (lowestFreeIn (now (a .owners))) (spareRowIn (now (a .used))) (a .row) (c .before .before .find-free .result) (c .before .before .find-free .ensures .0) (c .before .if1 .left) (c .if2 .taken)) (refl, refl)
 
 find-spare-requires : tie.Need-find-spare-requires
 find-spare-requires c κs = search needs
@@ -26,12 +26,12 @@ find-spare-requires c κs = search needs
 returns-3 : tie.Need-returns-3
 returns-3 c =
     let a = (c .before .before .before .before .before) .args in
-    rw (keep-keys (freeIn (now (a .owners))) (spareIn (now (a .used))) (a .row) (c .before .before .before .before .find-free .result) (c .before .before .before .before .find-free .ensures .0) (c .before .before .before .if1 .left) (c .before .before .if2 .left) (c .before .find-spare .result) (c .before .find-spare .ensures .0) (c .if3 .taken)) (refl, refl)
+    rw (keep-keys (lowestFreeIn (now (a .owners))) (spareRowIn (now (a .used))) (a .row) (c .before .before .before .before .find-free .result) (c .before .before .before .before .find-free .ensures .0) (c .before .before .before .if1 .left) (c .before .before .if2 .left) (c .before .find-spare .result) (c .before .find-spare .ensures .0) (c .if3 .taken)) (refl, refl)
 
 returns-4 : tie.Need-returns-4
 returns-4 c =
     let a = (c .before .before .before .before .before) .args in
-    rw (keep-new (freeIn (now (a .owners))) (spareIn (now (a .used))) (a .row) (c .before .before .before .before .find-free .result) (c .before .before .before .before .find-free .ensures .0) (c .before .before .before .if1 .left) (c .before .before .if2 .left) (c .before .find-spare .result) (c .before .find-spare .ensures .0) (c .if3 .left)) (refl, refl)
+    rw (keep-new (lowestFreeIn (now (a .owners))) (spareRowIn (now (a .used))) (a .row) (c .before .before .before .before .find-free .result) (c .before .before .before .before .find-free .ensures .0) (c .before .before .before .if1 .left) (c .before .before .if2 .left) (c .before .find-spare .result) (c .before .find-spare .ensures .0) (c .if3 .left)) (refl, refl)
 
 pub keep-spec : {M : Type 1} → statement M
 keep-spec =

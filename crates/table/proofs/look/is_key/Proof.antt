@@ -1,4 +1,4 @@
--- The test is that of `keyIn`.
+-- The test is that of `rowIn`.
 use borrow.Author.Needs.{needs}
 use Rattle.table.proofs.look.is_key.Statement.{statement}
 use Rattle.table.proofs.look.is_key.Tie as tie
