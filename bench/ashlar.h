@@ -46,19 +46,16 @@ typedef struct {
     uint8_t refusal;
 } AshlarFound;
 
-typedef struct {
-    uint16_t message_type;
-    uint16_t size;
-    uint8_t owner;
-    uint8_t number;
-    uint8_t version;
-    bool last;
-} AshlarPlace;
-
+/* 16 keys and 32 places, list by list; a place's owner is 1 more than its key's row, 0 where it is free */
 typedef struct {
     uint64_t codes[16];
     uint64_t firsts[16];
-    AshlarPlace places[32];
+    uint16_t message_types[32];
+    uint16_t sizes[32];
+    uint8_t owners[32];
+    uint8_t numbers[32];
+    uint8_t versions[32];
+    bool lasts[32];
     bool used[16];
 } AshlarTable;
 

@@ -133,19 +133,28 @@ AshlarTable plain_fresh(void) { return (AshlarTable){0}; }
 
 static int place_of(const AshlarTable *t, int owner, int number) {
     for (int i = 0; i < 32; i++)
-        if (t->places[i].owner == owner && t->places[i].number == number) return i;
+        if (t->owners[i] == owner && t->numbers[i] == number) return i;
     return -1;
 }
 
 static void drop(AshlarTable *t, int row) {
     t->used[row] = false;
     t->codes[row] = t->firsts[row] = 0;
-    for (int i = 0; i < 32; i++)
-        if (t->places[i].owner == row + 1) t->places[i] = (AshlarPlace){0};
+    for (int i = 0; i < 32; i++) {
+        if (t->owners[i] != row + 1) continue;
+        t->message_types[i] = t->sizes[i] = 0;
+        t->owners[i] = t->numbers[i] = t->versions[i] = 0;
+        t->lasts[i] = false;
+    }
 }
 
 static void put(AshlarTable *t, uint8_t *store, int place, int row, const AshlarFragment *f, const uint8_t *payload, size_t n) {
-    t->places[place] = (AshlarPlace){f->message_type, (uint16_t)n, (uint8_t)(row + 1), f->number, f->version, f->last};
+    t->message_types[place] = f->message_type;
+    t->sizes[place] = (uint16_t)n;
+    t->owners[place] = (uint8_t)(row + 1);
+    t->numbers[place] = f->number;
+    t->versions[place] = f->version;
+    t->lasts[place] = f->last;
     memcpy(store + (size_t)place * ASHLAR_PAYLOAD, payload, n);
 }
 
@@ -161,12 +170,11 @@ static AshlarPushed finish(AshlarTable *t, const uint8_t *store, uint8_t *out, s
     bool unlike = false, last = f->last;
     if (row >= 0)
         for (int i = 0; i < 32; i++) {
-            const AshlarPlace *p = &t->places[i];
-            if (p->owner != row + 1) continue;
-            unlike |= p->version != f->version || p->message_type != f->message_type;
-            if (p->number > highest) highest = p->number, last = p->last;
-            if (p->number < 33) place[p->number] = i;
-            total += p->size;
+            if (t->owners[i] != row + 1) continue;
+            unlike |= t->versions[i] != f->version || t->message_types[i] != f->message_type;
+            if (t->numbers[i] > highest) highest = t->numbers[i], last = t->lasts[i];
+            if (t->numbers[i] < 33) place[t->numbers[i]] = i;
+            total += t->sizes[i];
             kept++;
         }
     if (unlike) return end(t, row, ASHLAR_INCONSISTENT, 0);
@@ -179,8 +187,8 @@ static AshlarPushed finish(AshlarTable *t, const uint8_t *store, uint8_t *out, s
             memcpy(out, payload, n);
             out += n;
         } else {
-            memcpy(out, store + (size_t)place[k] * ASHLAR_PAYLOAD, t->places[place[k]].size);
-            out += t->places[place[k]].size;
+            memcpy(out, store + (size_t)place[k] * ASHLAR_PAYLOAD, t->sizes[place[k]]);
+            out += t->sizes[place[k]];
         }
     }
     return end(t, row, ASHLAR_JOINED, total);
@@ -203,7 +211,7 @@ AshlarPushed plain_push(AshlarTable *t, uint8_t *store, size_t store_length, uin
     }
     if (a.fragment.last) return finish(t, store, out, room, row, &a.fragment, payload, n);
     int free = 0;
-    while (free < 32 && t->places[free].owner) free++;
+    while (free < 32 && t->owners[free]) free++;
     if (free == 32 || (row < 0 && spare < 0)) return (AshlarPushed){0, ASHLAR_REFUSED, 10};
     if (row < 0) {
         row = spare;
@@ -230,10 +238,10 @@ AshlarCounts plain_sweep(AshlarTable *t, uint64_t time) {
         int kept = 0, beyond = 0;
         bool marked = false;
         for (int i = 0; i < 32; i++)
-            if (t->places[i].owner == row + 1) {
+            if (t->owners[i] == row + 1) {
                 kept++;
-                if (t->places[i].number >= beyond) beyond = t->places[i].number + 1;
-                marked |= t->places[i].last;
+                if (t->numbers[i] >= beyond) beyond = t->numbers[i] + 1;
+                marked |= t->lasts[i];
             }
         if (!kept) c.empty++;
         else if (!marked) c.unmarked++;

@@ -156,26 +156,26 @@ module _ (t : Table) (store : List ℕ) (a : Arrival) (payload : List ℕ) (room
   -- the tests of a push to a table
   pub way-11 : length store < 47744 → way t store a payload room ≡ refuse 11 []
   unfolding way
-  way-11 h = by-11 (length store) (length payload) place (a .fragment .last) joins keeps h
+  way-11 h = by-11 _ _ _ _ _ _ h
 
   module _ (h₁ : 47744 ≤ length store) where
     pub way-12 : 1492 < length payload → way t store a payload room ≡ refuse 12 []
     unfolding way
-    way-12 h = by-12 (length store) (length payload) place (a .fragment .last) joins keeps h₁ h
+    way-12 h = by-12 _ _ _ _ _ _ h₁ h
 
     module _ (h₂ : length payload ≤ 1492) where
       pub way-replace : place < 32 → way t store a payload room ≡ replace place
       unfolding way
-      way-replace h = by-replace (length store) (length payload) place (a .fragment .last) joins keeps h₁ h₂ h
+      way-replace h = by-replace _ _ _ _ _ _ h₁ h₂ h
 
       module _ (h₃ : 32 ≤ place) where
         pub way-last : a .fragment .last ≡ true → way t store a payload room ≡ joins
         unfolding way
-        way-last l = by-last (length store) (length payload) place (a .fragment .last) joins keeps h₁ h₂ h₃ l
+        way-last l = by-last _ _ _ _ _ _ h₁ h₂ h₃ l
 
         pub way-keep : a .fragment .last ≡ false → way t store a payload room ≡ keeps
         unfolding way
-        way-keep l = by-keep (length store) (length payload) place (a .fragment .last) joins keeps h₁ h₂ h₃ l
+        way-keep l = by-keep _ _ _ _ _ _ h₁ h₂ h₃ l
 
         by-room : a .fragment .last ≡ false → (x : Bool) → leb 32 (lowestFree t) ≡ x → (y : Bool) → ltb row 16 ≡ y → (z : Bool) → leb 16 (spareRow t) ≡ z → Went t store a payload room keeps
         by-room l true e y f z g = rw (keep-full (lowestFree t) (spareRow t) row (lowestFree t) refl (leb-true _ _ e)) (went-refuse 10 [])

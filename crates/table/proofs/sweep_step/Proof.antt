@@ -51,8 +51,8 @@ loop-less c = search needs
 
 loop-again : tie.Need-loop-again Inv-loop μ-loop
 loop-again c =
-    let b = (c .before .before .before .before .before) in
-    let a = (c .before .before .before .before .before .before) .args in
+    let b = c .before .before .before .before .before in
+    let a = c .before .before .before .before .before .before .args in
     let row = b .loop .row in
     let n = b .loop .n in
     let counts = b .loop .counts in
@@ -75,8 +75,8 @@ loop-again c =
 
 returns : tie.Need-returns Inv-loop μ-loop
 returns c =
-    let b = (c .before) in
-    let a = (c .before .before) .args in
+    let b = c .before in
+    let a = c .before .before .args in
     let end : b .loop .row ≡ 16 = omega arith in
     b .loop .inv .1 ∙ ap (sweptRows (a .t) (a .time)) end
 

@@ -20,7 +20,7 @@ returns : tie.Need-returns
 returns c = c .find-numbered .ensures .0
 
 returns-2 : tie.Need-returns-2
-returns-2 c = let a = (c .before) .args in omega (arith, (c .before) .pre (c .if1 .left), numbered-le (now (a .owners)) (now (a .numbers)) (ownerOf (a .row)) (a .number))
+returns-2 c = let a = c .before .args in omega (arith, c .before .pre (c .if1 .left), numbered-le (now (a .owners)) (now (a .numbers)) (ownerOf (a .row)) (a .number))
 
 pub held-at-spec : {M : Type 1} → statement M
 held-at-spec =

@@ -12,12 +12,12 @@ find-free-requires c κs = search needs
 
 returns : tie.Need-returns
 returns c =
-    let a = (c .before .before) .args in
+    let a = c .before .before .args in
     rw (keep-full (lowestFreeIn (now (a .owners))) (spareRowIn (now (a .used))) (a .row) (c .before .find-free .result) (c .before .find-free .ensures .0) (c .if1 .taken)) (refl, refl)
 
 returns-2 : tie.Need-returns-2
 returns-2 c =
-    let a = (c .before .before .before) .args in
+    let a = c .before .before .before .args in
     rw (keep-there (lowestFreeIn (now (a .owners))) (spareRowIn (now (a .used))) (a .row) (c .before .before .find-free .result) (c .before .before .find-free .ensures .0) (c .before .if1 .left) (c .if2 .taken)) (refl, refl)
 
 find-spare-requires : tie.Need-find-spare-requires
@@ -25,12 +25,12 @@ find-spare-requires c κs = search needs
 
 returns-3 : tie.Need-returns-3
 returns-3 c =
-    let a = (c .before .before .before .before .before) .args in
+    let a = c .before .before .before .before .before .args in
     rw (keep-keys (lowestFreeIn (now (a .owners))) (spareRowIn (now (a .used))) (a .row) (c .before .before .before .before .find-free .result) (c .before .before .before .before .find-free .ensures .0) (c .before .before .before .if1 .left) (c .before .before .if2 .left) (c .before .find-spare .result) (c .before .find-spare .ensures .0) (c .if3 .taken)) (refl, refl)
 
 returns-4 : tie.Need-returns-4
 returns-4 c =
-    let a = (c .before .before .before .before .before) .args in
+    let a = c .before .before .before .before .before .args in
     rw (keep-new (lowestFreeIn (now (a .owners))) (spareRowIn (now (a .used))) (a .row) (c .before .before .before .before .find-free .result) (c .before .before .before .before .find-free .ensures .0) (c .before .before .before .if1 .left) (c .before .before .if2 .left) (c .before .find-spare .result) (c .before .find-spare .ensures .0) (c .if3 .left)) (refl, refl)
 
 pub keep-spec : {M : Type 1} → statement M

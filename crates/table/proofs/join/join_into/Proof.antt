@@ -21,22 +21,22 @@ abbrev μ-loop : tie.MeasureT-loop
 
 loop-holds : tie.Need-loop-holds Inv-loop μ-loop
 loop-holds c =
-    let a = (c .before .before .before) .args in
+    let a = c .before .before .before .args in
     let none = pieces-none (now (a .sizes)) (now (a .owners)) (now (a .numbers)) (now (a .store)) (a .row) (a .number) (now (a .payload)) in
     (omega arith, ap length none, ap (λ (l : List ℕ). over l (now (a .out))) none, refl)
 
 cast-piece-at : tie.Need-cast-piece-at Inv-loop μ-loop
-cast-piece-at c = omega (arith, c .loop-test .taken, (c .before .before .before .before .before) .pre .3)
+cast-piece-at c = omega (arith, c .loop-test .taken, c .before .before .before .before .before .pre .3)
 
 piece-at-requires : tie.Need-piece-at-requires Inv-loop μ-loop
-piece-at-requires c κs = (c .before .before .before .before .before) .pre .0
+piece-at-requires c κs = c .before .before .before .before .before .pre .0
 
 put-piece-requires : tie.Need-put-piece-requires Inv-loop μ-loop
 put-piece-requires c κs =
-    let a = (c .before .before .before .before .before .before .before) .args in
-    let b = (c .before .before .before) in
+    let a = c .before .before .before .before .before .before .before .args in
+    let b = c .before .before .before in
     let same = ap (λ (i : ℕ). length (pieceBytes (now (a .sizes)) (now (a .store)) (now (a .payload)) i)) (c .before .piece-at .ensures) in
-    ((c .before .before .before .before .before .before .before) .pre .1, (c .before .before .before .before .before .before .before) .pre .2, omega (arith, same, next-fits (now (a .sizes)) (now (a .owners)) (now (a .numbers)) (now (a .store)) (a .row) (a .number) (now (a .payload)) (b .loop .k) (a .n) (c .before .before .loop-test .taken), (c .before .before .before .before .before .before .before) .pre .4, b .loop .inv .1, b .loop .inv .3))
+    (c .before .before .before .before .before .before .before .pre .1, c .before .before .before .before .before .before .before .pre .2, omega (arith, same, next-fits (now (a .sizes)) (now (a .owners)) (now (a .numbers)) (now (a .store)) (a .row) (a .number) (now (a .payload)) (b .loop .k) (a .n) (c .before .before .loop-test .taken), c .before .before .before .before .before .before .before .pre .4, b .loop .inv .1, b .loop .inv .3))
 
 add-k : tie.Need-add-k Inv-loop μ-loop
 add-k c = search needs
@@ -46,8 +46,8 @@ loop-less c = search needs
 
 loop-again : tie.Need-loop-again Inv-loop μ-loop
 loop-again c =
-    let a = (c .before .before .before .before .before .before .before .before .before .before) .args in
-    let b = (c .before .before .before .before .before .before) in
+    let a = c .before .before .before .before .before .before .before .before .before .before .args in
+    let b = c .before .before .before .before .before .before in
     let k = b .loop .k in
     let upto = piecesTo (now (a .sizes)) (now (a .owners)) (now (a .numbers)) (now (a .store)) (a .row) (a .number) (now (a .payload)) in
     let bytes = pieceBytes (now (a .sizes)) (now (a .store)) (now (a .payload)) (pieceAt (now (a .owners)) (now (a .numbers)) (a .row) (a .number) k) in
@@ -65,8 +65,8 @@ same-length c = search needs
 
 returns : tie.Need-returns Inv-loop μ-loop
 returns c =
-    let a = (c .before .before .before .before .before) .args in
-    let b = (c .before) in
+    let a = c .before .before .before .before .before .args in
+    let b = c .before in
     let end : b .loop .k ≡ a .n = omega arith in
     b .loop .inv .2 ∙ ap (λ (m : ℕ). over (piecesTo (now (a .sizes)) (now (a .owners)) (now (a .numbers)) (now (a .store)) (a .row) (a .number) (now (a .payload)) m) (now (a .out))) end
 

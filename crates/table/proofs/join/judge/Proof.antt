@@ -23,18 +23,18 @@ find-unlike-requires c κs = search needs
 
 returns : tie.Need-returns
 returns c =
-    let a = (c .before .before) .args in
+    let a = c .before .before .args in
     sym (verdict-unlike (placesIn (now (a .types)) (now (a .sizes)) (now (a .owners)) (now (a .numbers)) (now (a .versions)) (now (a .lasts))) (a .row) (a .f) (a .size) (omega (arith, c .before .find-unlike .ensures .0, c .if1 .taken)))
 
 reach-of-requires : tie.Need-reach-of-requires
-reach-of-requires c κs = ((c .before .before) .pre .0, (c .before .before) .pre .1, (c .before .before) .pre .2)
+reach-of-requires c κs = (c .before .before .pre .0, c .before .before .pre .1, c .before .before .pre .2)
 
 cast-number : tie.Need-cast-number
 cast-number c = search needs
 
 returns-2 : tie.Need-returns-2
 returns-2 c =
-    let a = (c .before .before .before .before .before) .args in
+    let a = c .before .before .before .before .before .args in
     let count-is : c .before .before .reach-of .result .count ≡ countFor (now (a .owners)) (now (a .numbers)) (a .row) (a .f .number) = ap (λ (z : Reach). z .count) (c .before .before .reach-of .ensures .0) in
     sym (verdict-new (placesIn (now (a .types)) (now (a .sizes)) (now (a .owners)) (now (a .numbers)) (now (a .versions)) (now (a .lasts))) (a .row) (a .f) (a .size) (omega (arith, c .before .before .before .before .find-unlike .ensures .0, c .before .before .before .if1 .left)) (omega (arith, c .if2 .taken)))
 
@@ -43,14 +43,14 @@ find-beyond-requires c κs = search needs
 
 returns-3 : tie.Need-returns-3
 returns-3 c =
-    let a = (c .before .before .before .before .before .before .before) .args in
+    let a = c .before .before .before .before .before .before .before .args in
     let count-is : c .before .before .before .before .reach-of .result .count ≡ countFor (now (a .owners)) (now (a .numbers)) (a .row) (a .f .number) = ap (λ (z : Reach). z .count) (c .before .before .before .before .reach-of .ensures .0) in
     let beyond-is : c .before .find-beyond .result ≡ beyondIn (now (a .owners)) (now (a .numbers)) (ownerOf (a .row)) (countFor (now (a .owners)) (now (a .numbers)) (a .row) (a .f .number)) = c .before .find-beyond .ensures .0 ∙ ap (beyondIn (now (a .owners)) (now (a .numbers)) (ownerOf (a .row))) count-is in
     sym (verdict-beyond (placesIn (now (a .types)) (now (a .sizes)) (now (a .owners)) (now (a .numbers)) (now (a .versions)) (now (a .lasts))) (a .row) (a .f) (a .size) (omega (arith, c .before .before .before .before .before .before .find-unlike .ensures .0, c .before .before .before .before .before .if1 .left)) (omega (arith, c .before .before .if2 .left)) (omega (arith, c .if3 .taken)))
 
 sub-piece-at : tie.Need-sub-piece-at
 sub-piece-at c =
-    let a = (c .before .before .before .before .before .before .before) .args in
+    let a = c .before .before .before .before .before .before .before .args in
     let count-is : c .before .before .before .before .reach-of .result .count ≡ countFor (now (a .owners)) (now (a .numbers)) (a .row) (a .f .number) = ap (λ (z : Reach). z .count) (c .before .before .before .before .reach-of .ensures .0) in
     omega (arith, count-some (now (a .owners)) (now (a .numbers)) (a .row) (a .f .number) (omega (arith, c .before .before .if2 .left)))
 
@@ -65,7 +65,7 @@ marked-at-requires c κs = search needs
 
 returns-4 : tie.Need-returns-4
 returns-4 c =
-    let a = (c .before .before .before .before .before .before .before .before .before .before) .args in
+    let a = c .before .before .before .before .before .before .before .before .before .before .args in
     let count-is : c .before .before .before .before .before .before .before .reach-of .result .count ≡ countFor (now (a .owners)) (now (a .numbers)) (a .row) (a .f .number) = ap (λ (z : Reach). z .count) (c .before .before .before .before .before .before .before .reach-of .ensures .0) in
     let beyond-is : c .before .before .before .before .find-beyond .result ≡ beyondIn (now (a .owners)) (now (a .numbers)) (ownerOf (a .row)) (countFor (now (a .owners)) (now (a .numbers)) (a .row) (a .f .number)) = c .before .before .before .before .find-beyond .ensures .0 ∙ ap (beyondIn (now (a .owners)) (now (a .numbers)) (ownerOf (a .row))) count-is in
     let marked-is : c .before .marked-at .result ≡ markedAt (now (a .lasts)) (a .f .last) (pieceAt (now (a .owners)) (now (a .numbers)) (a .row) (a .f .number) (countFor (now (a .owners)) (now (a .numbers)) (a .row) (a .f .number) - 1)) =
@@ -75,7 +75,7 @@ returns-4 c =
 
 returns-5 : tie.Need-returns-5
 returns-5 c =
-    let a = (c .before .before .before .before .before .before .before .before .before .before) .args in
+    let a = c .before .before .before .before .before .before .before .before .before .before .args in
     let count-is : c .before .before .before .before .before .before .before .reach-of .result .count ≡ countFor (now (a .owners)) (now (a .numbers)) (a .row) (a .f .number) = ap (λ (z : Reach). z .count) (c .before .before .before .before .before .before .before .reach-of .ensures .0) in
     let beyond-is : c .before .before .before .before .find-beyond .result ≡ beyondIn (now (a .owners)) (now (a .numbers)) (ownerOf (a .row)) (countFor (now (a .owners)) (now (a .numbers)) (a .row) (a .f .number)) = c .before .before .before .before .find-beyond .ensures .0 ∙ ap (beyondIn (now (a .owners)) (now (a .numbers)) (ownerOf (a .row))) count-is in
     let marked-is : c .before .marked-at .result ≡ markedAt (now (a .lasts)) (a .f .last) (pieceAt (now (a .owners)) (now (a .numbers)) (a .row) (a .f .number) (countFor (now (a .owners)) (now (a .numbers)) (a .row) (a .f .number) - 1)) =

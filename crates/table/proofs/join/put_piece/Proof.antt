@@ -25,42 +25,42 @@ mul-copy c = search needs
 
 copy-requires : tie.Need-copy-requires
 copy-requires c κs =
-    let a = (c .before .before .before .before .before .before .before) .args in
-    let small = (c .before .before .before .before .before .before .before) .pre .0 in
-    (omega (arith, c .before .before .before .if1 .taken, c .before .wide .ensures, small (a .piece), (c .before .before .before .before .before .before .before) .pre .1), omega (arith, c .before .wide .ensures, size-in (now (a .sizes)) (now (a .store)) (now (a .payload)) small ((c .before .before .before .before .before .before .before) .pre .1) (a .piece) (c .before .before .before .if1 .taken), (c .before .before .before .before .before .before .before) .pre .2))
+    let a = c .before .before .before .before .before .before .before .args in
+    let small = c .before .before .before .before .before .before .before .pre .0 in
+    (omega (arith, c .before .before .before .if1 .taken, c .before .wide .ensures, small (a .piece), c .before .before .before .before .before .before .before .pre .1), omega (arith, c .before .wide .ensures, size-in (now (a .sizes)) (now (a .store)) (now (a .payload)) small (c .before .before .before .before .before .before .before .pre .1) (a .piece) (c .before .before .before .if1 .taken), c .before .before .before .before .before .before .before .pre .2))
 
 add-result : tie.Need-add-result
 add-result c =
-    let a = (c .before .before .before .before .before .before .before .before .before .before) .args in
-    omega (arith, c .before .before .before .before .wide .ensures, size-in (now (a .sizes)) (now (a .store)) (now (a .payload)) ((c .before .before .before .before .before .before .before .before .before .before) .pre .0) ((c .before .before .before .before .before .before .before .before .before .before) .pre .1) (a .piece) (c .before .before .before .before .before .before .if1 .taken), (c .before .before .before .before .before .before .before .before .before .before) .pre .2, (c .before .before .before .before .before .before .before .before .before .before) .good .1 .1 .1 .1 .0 .0)
+    let a = c .before .before .before .before .before .before .before .before .before .before .args in
+    omega (arith, c .before .before .before .before .wide .ensures, size-in (now (a .sizes)) (now (a .store)) (now (a .payload)) (c .before .before .before .before .before .before .before .before .before .before .pre .0) (c .before .before .before .before .before .before .before .before .before .before .pre .1) (a .piece) (c .before .before .before .before .before .before .if1 .taken), c .before .before .before .before .before .before .before .before .before .before .pre .2, c .before .before .before .before .before .before .before .before .before .before .good .1 .1 .1 .1 .0 .0)
 
 same-length : tie.Need-same-length
 same-length c = search needs
 
 returns : tie.Need-returns
 returns c =
-    let a = (c .before .before .before .before .before .before .before .before .before .before) .args in
-    let size-is = size-in (now (a .sizes)) (now (a .store)) (now (a .payload)) ((c .before .before .before .before .before .before .before .before .before .before) .pre .0) ((c .before .before .before .before .before .before .before .before .before .before) .pre .1) (a .piece) (c .before .before .before .before .before .before .if1 .taken) in (
+    let a = c .before .before .before .before .before .before .before .before .before .before .args in
+    let size-is = size-in (now (a .sizes)) (now (a .store)) (now (a .payload)) (c .before .before .before .before .before .before .before .before .before .before .pre .0) (c .before .before .before .before .before .before .before .before .before .before .pre .1) (a .piece) (c .before .before .before .before .before .before .if1 .taken) in (
       ap (λ (n : ℕ). a .at + n) (c .before .before .before .before .wide .ensures ∙ sym size-is),
-      c .before .before .copy .ensures ∙ ap (paste (now (a .out)) (a .at) (drop (a .piece * 1492) (now (a .store)))) (c .before .before .before .before .wide .ensures) ∙ pasted-in (now (a .sizes)) (now (a .store)) (now (a .payload)) ((c .before .before .before .before .before .before .before .before .before .before) .pre .0) ((c .before .before .before .before .before .before .before .before .before .before) .pre .1) (a .piece) (a .at) (now (a .out)) (c .before .before .before .before .before .before .if1 .taken),
+      c .before .before .copy .ensures ∙ ap (paste (now (a .out)) (a .at) (drop (a .piece * 1492) (now (a .store)))) (c .before .before .before .before .wide .ensures) ∙ pasted-in (now (a .sizes)) (now (a .store)) (now (a .payload)) (c .before .before .before .before .before .before .before .before .before .before .pre .0) (c .before .before .before .before .before .before .before .before .before .before .pre .1) (a .piece) (a .at) (now (a .out)) (c .before .before .before .before .before .before .if1 .taken),
     )
 
 copy-requires-2 : tie.Need-copy-requires-2
 copy-requires-2 c κs =
-    let a = (c .before .before .before .before .before) .args in
-    (omega arith, omega (arith, ap length (piece-out (now (a .sizes)) (now (a .store)) (now (a .payload)) (a .piece) (c .before .if1 .left)), (c .before .before .before .before .before) .pre .2))
+    let a = c .before .before .before .before .before .args in
+    (omega arith, omega (arith, ap length (piece-out (now (a .sizes)) (now (a .store)) (now (a .payload)) (a .piece) (c .before .if1 .left)), c .before .before .before .before .before .pre .2))
 
 add-result-2 : tie.Need-add-result-2
 add-result-2 c =
-    let a = (c .before .before .before .before .before .before .before .before) .args in
-    omega (arith, ap length (piece-out (now (a .sizes)) (now (a .store)) (now (a .payload)) (a .piece) (c .before .before .before .before .if1 .left)), (c .before .before .before .before .before .before .before .before) .pre .2, (c .before .before .before .before .before .before .before .before) .good .1 .1 .1 .1 .0 .0)
+    let a = c .before .before .before .before .before .before .before .before .args in
+    omega (arith, ap length (piece-out (now (a .sizes)) (now (a .store)) (now (a .payload)) (a .piece) (c .before .before .before .before .if1 .left)), c .before .before .before .before .before .before .before .before .pre .2, c .before .before .before .before .before .before .before .before .good .1 .1 .1 .1 .0 .0)
 
 same-length-2 : tie.Need-same-length-2
 same-length-2 c = search needs
 
 returns-2 : tie.Need-returns-2
 returns-2 c =
-    let a = (c .before .before .before .before .before .before .before .before) .args in (
+    let a = c .before .before .before .before .before .before .before .before .args in (
       ap (λ (n : ℕ). a .at + n) (sym (ap length (piece-out (now (a .sizes)) (now (a .store)) (now (a .payload)) (a .piece) (c .before .before .before .before .if1 .left)))),
       c .before .before .copy2 .ensures ∙ pasted-out (now (a .sizes)) (now (a .store)) (now (a .payload)) (a .piece) (a .at) (now (a .out)) (c .before .before .before .before .if1 .left),
     )

@@ -27,12 +27,12 @@ cast-piece-at : tie.Need-cast-piece-at Inv-loop μ-loop
 cast-piece-at c = search needs
 
 piece-at-requires : tie.Need-piece-at-requires Inv-loop μ-loop
-piece-at-requires c κs = (c .before .before) .pre .0
+piece-at-requires c κs = c .before .before .pre .0
 
 returns : tie.Need-returns Inv-loop μ-loop
 returns c =
-    let b = (c .before .before .before) in
-    let a = (c .before .before .before .before) .args in
+    let b = c .before .before .before in
+    let a = c .before .before .before .before .args in
     let gap = eq-eqb _ _ (sym (c .before .piece-at .ensures) ∙ c .if1 .taken) in
     let e = found (isGap (now (a .owners)) (now (a .numbers)) (a .row) (a .number)) 256 (b .loop .k) (b .loop .inv .1) (search needs) gap in
     (λ j. record { count = e j; total = (b .loop .inv .2 ∙ ap (sizeTo (now (a .sizes)) (now (a .owners)) (now (a .numbers)) (a .row) (a .number) (a .size)) e) j }, search needs)
@@ -42,8 +42,8 @@ size-at-requires c κs = search needs
 
 add-total : tie.Need-add-total Inv-loop μ-loop
 add-total c =
-    let a = (c .before .before .before .before .before) .args in
-    omega (arith, c .size-at .ensures, at-most (now (a .sizes)) (a .size) ((c .before .before .before .before .before) .pre .2) ((c .before .before .before .before .before) .pre .1) (c .before .before .piece-at .result))
+    let a = c .before .before .before .before .before .args in
+    omega (arith, c .size-at .ensures, at-most (now (a .sizes)) (a .size) (c .before .before .before .before .before .pre .2) (c .before .before .before .before .before .pre .1) (c .before .before .piece-at .result))
 
 add-k : tie.Need-add-k Inv-loop μ-loop
 add-k c = search needs
@@ -53,8 +53,8 @@ loop-less c = search needs
 
 loop-again : tie.Need-loop-again Inv-loop μ-loop
 loop-again c =
-    let b = (c .before .before .before .before) in
-    let a = (c .before .before .before .before .before) .args in
+    let b = c .before .before .before .before in
+    let a = c .before .before .before .before .before .args in
     let k = b .loop .k in
     let piece = pieceAt (now (a .owners)) (now (a .numbers)) (a .row) (a .number) k in
     let size-is : c .size-at .result ≡ sizeAt (now (a .sizes)) (a .size) piece = c .size-at .ensures ∙ ap (sizeAt (now (a .sizes)) (a .size)) (c .before .before .piece-at .ensures) in
@@ -62,13 +62,13 @@ loop-again c =
       search needs,
       passed (isGap (now (a .owners)) (now (a .numbers)) (a .row) (a .number)) k (b .loop .inv .1) full,
       ap (λ (m : ℕ). m + c .size-at .result) (b .loop .inv .2) ∙ ap (λ (m : ℕ). sizeTo (now (a .sizes)) (now (a .owners)) (now (a .numbers)) (a .row) (a .number) (a .size) k + m) size-is ∙ size-next (now (a .sizes)) (now (a .owners)) (now (a .numbers)) (a .row) (a .number) (a .size) k,
-      omega (arith, size-is, at-most (now (a .sizes)) (a .size) ((c .before .before .before .before .before) .pre .2) ((c .before .before .before .before .before) .pre .1) piece),
+      omega (arith, size-is, at-most (now (a .sizes)) (a .size) (c .before .before .before .before .before .pre .2) (c .before .before .before .before .before .pre .1) piece),
     )
 
 returns-2 : tie.Need-returns-2 Inv-loop μ-loop
 returns-2 c =
-    let b = (c .before) in
-    let a = (c .before .before) .args in
+    let b = c .before in
+    let a = c .before .before .args in
     let end : b .loop .k ≡ 256 = omega arith in
     let e = b .loop .inv .1 ∙ ap (lowest (isGap (now (a .owners)) (now (a .numbers)) (a .row) (a .number))) end in
     (λ j. record { count = e j; total = (b .loop .inv .2 ∙ ap (sizeTo (now (a .sizes)) (now (a .owners)) (now (a .numbers)) (a .row) (a .number) (a .size)) e) j }, search needs)

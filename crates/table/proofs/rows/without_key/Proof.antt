@@ -53,7 +53,7 @@ free-marks-requires c κs = (omega arith, long (c .before .before .before .befor
 returns : tie.Need-returns
 unfolding without
 returns c =
-    let a = (c .before .before .before .before .before .before .before .before .before .before .before .before .before .before .before .before .before .before .before) .args in
+    let a = c .before .before .before .before .before .before .before .before .before .before .before .before .before .before .before .before .before .before .before .args in
     λ j. record {
       codes = set (a .t .codes) (a .row) 0;
       firsts = set (a .t .firsts) (a .row) 0;
