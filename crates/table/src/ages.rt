@@ -14,20 +14,20 @@ pub struct Tally {
     pub marked: bool,
 }
 
-pub fn larger(a: usize, b: usize) -> usize
+pub(crate) fn larger(a: usize, b: usize) -> usize
     ensures { λ r. ⌜ r ≡ max a b ⌝ }
 {
     if a < b { b } else { a }
 }
 
-pub fn either(a: bool, b: bool) -> bool
+pub(crate) fn either(a: bool, b: bool) -> bool
     ensures { λ r. ⌜ r ≡ (a || b) ⌝ }
 {
     if a { true } else { b }
 }
 
 // One place more: its owner, number and mark.
-pub fn with_place(s: Tally, of: u8, number: u8, last: bool, row: usize) -> Tally
+pub(crate) fn with_place(s: Tally, of: u8, number: u8, last: bool, row: usize) -> Tally
     requires { ⌜ (row < 16) × (s .many < 32) ⌝ }
     ensures { λ r. ⌜ r ≡ tallied row (placeWith of number last) s ⌝ }
 {
@@ -43,7 +43,7 @@ pub fn with_place(s: Tally, of: u8, number: u8, last: bool, row: usize) -> Tally
     s
 }
 
-pub fn tally_of<'a>(
+pub(crate) fn tally_of<'a>(
     owners: &'a [u8; 32],
     numbers: &'a [u8; 32],
     lasts: &'a [bool; 32],
@@ -66,7 +66,7 @@ pub fn tally_of<'a>(
 }
 
 // One dropped key more.
-pub fn with_key_dropped(c: Counts, s: Tally) -> Counts
+pub(crate) fn with_key_dropped(c: Counts, s: Tally) -> Counts
     requires { ⌜ Within 16 c ⌝ }
     ensures { λ r. ⌜ r ≡ counted (lackOf s) c ⌝ }
 {
@@ -88,7 +88,7 @@ pub fn with_key_dropped(c: Counts, s: Tally) -> Counts
 }
 
 // Whether a key is too old. The clock may have gone back.
-pub fn is_expired(used: bool, first: u64, time: u64) -> bool
+pub(crate) fn is_expired(used: bool, first: u64, time: u64) -> bool
     ensures { λ r. ⌜ r ≡ (used && leb 3000 (time - first)) ⌝ }
 {
     if used {

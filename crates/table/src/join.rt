@@ -12,7 +12,7 @@ ghost use Rattle.table.specs.Push.{over};
 ghost use Rattle.table.specs.Leaves.{placesIn, pieceAt, sizeAt, markedAt, pieceBytes, piecesTo, countFor, reachFor, verdictFor};
 
 // Where the piece with number k lies: in a place below 32; 32 where there is none; 33 where it is the new fragment.
-pub fn piece_at<'a>(
+pub(crate) fn piece_at<'a>(
     owners: &'a [u8; 32],
     numbers: &'a [u8; 32],
     row: usize,
@@ -35,7 +35,7 @@ fn wide(size: u16) -> usize
 }
 
 // The bytes of a piece; size is the new fragment's.
-pub fn size_at(sizes: &[u16; 32], size: usize, piece: usize) -> usize
+pub(crate) fn size_at(sizes: &[u16; 32], size: usize, piece: usize) -> usize
     ensures { λ r. ⌜ r ≡ sizeAt (now (sizes .entry)) size piece ⌝ }
 {
     if piece < 32 {
@@ -44,7 +44,7 @@ pub fn size_at(sizes: &[u16; 32], size: usize, piece: usize) -> usize
     size
 }
 
-pub fn marked_at(lasts: &[bool; 32], last: bool, piece: usize) -> bool
+pub(crate) fn marked_at(lasts: &[bool; 32], last: bool, piece: usize) -> bool
     ensures { λ r. ⌜ r ≡ markedAt (now (lasts .entry)) last piece ⌝ }
 {
     if piece < 32 {
@@ -59,7 +59,7 @@ pub struct Reach {
     pub total: usize,
 }
 
-pub fn reach_of<'a>(
+pub(crate) fn reach_of<'a>(
     sizes: &'a [u16; 32],
     owners: &'a [u8; 32],
     numbers: &'a [u8; 32],
@@ -92,7 +92,7 @@ pub enum Verdict {
     Message { count: usize, total: usize },
 }
 
-pub fn judge<'a>(
+pub(crate) fn judge<'a>(
     types: &'a [u16; 32],
     sizes: &'a [u16; 32],
     owners: &'a [u8; 32],
@@ -132,7 +132,7 @@ pub fn judge<'a>(
 }
 
 // A piece's bytes go to the output; the answer is where they end.
-pub fn put_piece(
+pub(crate) fn put_piece(
     sizes: &[u16; 32],
     store: &[u8],
     payload: &[u8],
@@ -154,7 +154,7 @@ pub fn put_piece(
 }
 
 // The first n pieces, one behind the other.
-pub fn join_into<'a>(
+pub(crate) fn join_into<'a>(
     sizes: &'a [u16; 32],
     owners: &'a [u8; 32],
     numbers: &'a [u8; 32],

@@ -159,11 +159,7 @@ pub fn push_step(t: Table, store: &mut [u8], out: &mut [u8], a: Arrival, payload
     let answer = chosen.answer;
     match change {
         Change::Stay => Stepped { table: t, answer },
-        Change::PutAt {
-            place,
-            row: under,
-            opens,
-        } => {
+        Change::PutAt(place, under, opens) => {
             copy(payload, 0, payload.len(), store, place * 1492);
             let kept = with_fragment(t, place, under, opens, a, payload.len());
             Stepped {
@@ -172,11 +168,8 @@ pub fn push_step(t: Table, store: &mut [u8], out: &mut [u8], a: Arrival, payload
             }
         }
         Change::DropKey => {
-            let ended = without_key(t, row);
-            Stepped {
-                table: ended,
-                answer,
-            }
+            let table = without_key(t, row);
+            Stepped { table, answer }
         }
     }
 }

@@ -5,14 +5,14 @@ ghost use Prim.Native.Nat.{_≤_};
 ghost use lib.Dec.{eqb, ltb};
 ghost use Rattle.table.specs.Leaves.{rowIn, spareRowIn, lowestFreeIn, numberedIn, unlikeIn, beyondIn};
 
-pub fn is_key(used: bool, code: u64, key: u64) -> bool
+pub(crate) fn is_key(used: bool, code: u64, key: u64) -> bool
     ensures { λ r. ⌜ r ≡ (used && eqb code key) ⌝ }
 {
     if used { code == key } else { false }
 }
 
 // The row of a key, 16 where there is none.
-pub fn find_key<'a>(used: &'a [bool; 16], codes: &'a [u64; 16], key: u64) -> usize
+pub(crate) fn find_key<'a>(used: &'a [bool; 16], codes: &'a [u64; 16], key: u64) -> usize
     ensures { λ r. ⌜ (r ≡ rowIn (now (used .entry)) (now (codes .entry)) key) × (r ≤ 16) ⌝ }
 {
     let mut i: usize = 0;
@@ -26,7 +26,7 @@ pub fn find_key<'a>(used: &'a [bool; 16], codes: &'a [u64; 16], key: u64) -> usi
 }
 
 // The lowest row that no key has, 16 where all have one.
-pub fn find_spare(used: &[bool; 16]) -> usize
+pub(crate) fn find_spare(used: &[bool; 16]) -> usize
     ensures { λ r. ⌜ (r ≡ spareRowIn (now (used .entry))) × (r ≤ 16) ⌝ }
 {
     let mut i: usize = 0;
@@ -40,7 +40,7 @@ pub fn find_spare(used: &[bool; 16]) -> usize
 }
 
 // The lowest free place, 32 where all are used.
-pub fn find_free(owners: &[u8; 32]) -> usize
+pub(crate) fn find_free(owners: &[u8; 32]) -> usize
     ensures { λ r. ⌜ (r ≡ lowestFreeIn (now (owners .entry))) × (r ≤ 32) ⌝ }
 {
     let mut i: usize = 0;
@@ -53,14 +53,14 @@ pub fn find_free(owners: &[u8; 32]) -> usize
     i
 }
 
-pub fn is_numbered(of: u8, own: u8, owner: u8, number: u8) -> bool
+pub(crate) fn is_numbered(of: u8, own: u8, owner: u8, number: u8) -> bool
     ensures { λ r. ⌜ r ≡ (eqb of owner && eqb own number) ⌝ }
 {
     if of == owner { own == number } else { false }
 }
 
 // The place of an owner's fragment with this number, 32 where there is none.
-pub fn find_numbered<'a>(
+pub(crate) fn find_numbered<'a>(
     owners: &'a [u8; 32],
     numbers: &'a [u8; 32],
     owner: u8,
@@ -79,7 +79,7 @@ pub fn find_numbered<'a>(
 }
 
 // Of the owner, and of another version or type.
-pub fn is_unlike(
+pub(crate) fn is_unlike(
     of: u8,
     own_version: u8,
     own_type: u16,
@@ -99,7 +99,7 @@ pub fn is_unlike(
 }
 
 // The lowest place of an owner's fragment with another version or type, 32 where there is none.
-pub fn find_unlike<'a>(
+pub(crate) fn find_unlike<'a>(
     owners: &'a [u8; 32],
     versions: &'a [u8; 32],
     types: &'a [u16; 32],
@@ -126,7 +126,7 @@ pub fn find_unlike<'a>(
     i
 }
 
-pub fn is_beyond(of: u8, own: u8, owner: u8, number: usize) -> bool
+pub(crate) fn is_beyond(of: u8, own: u8, owner: u8, number: usize) -> bool
     ensures { λ r. ⌜ r ≡ (eqb of owner && ltb number own) ⌝ }
 {
     if of == owner {
@@ -137,7 +137,7 @@ pub fn is_beyond(of: u8, own: u8, owner: u8, number: usize) -> bool
 }
 
 // The lowest place of an owner's fragment with a number above this one, 32 where there is none.
-pub fn find_beyond<'a>(
+pub(crate) fn find_beyond<'a>(
     owners: &'a [u8; 32],
     numbers: &'a [u8; 32],
     owner: u8,

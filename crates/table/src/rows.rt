@@ -11,7 +11,7 @@ ghost use Rattle.table.specs.Push.{placeFor};
 ghost use Rattle.table.specs.Leaves.{opened};
 
 // n bytes of src, from the byte `from` on, go to dst, from the byte `at` on.
-pub fn copy(src: &[u8], from: usize, n: usize, dst: &mut [u8], at: usize)
+pub(crate) fn copy(src: &[u8], from: usize, n: usize, dst: &mut [u8], at: usize)
     requires { ⌜ (from + n ≤ length (now src)) × (at + n ≤ length (now dst)) ⌝ }
     ensures { λ _. ⌜ now (dst .exit) ≡ paste (now (dst .entry)) at (drop from (now (src .entry))) n ⌝ }
 {
@@ -42,7 +42,7 @@ fn mark_or_none(free: bool, x: bool) -> bool
 }
 
 // What the places of an owner hold is set to nothing, in a list of bytes, of numbers, of marks.
-pub fn free_bytes(owners: &[u8; 32], owner: u8, xs: &mut [u8; 32])
+pub(crate) fn free_bytes(owners: &[u8; 32], owner: u8, xs: &mut [u8; 32])
     requires { ⌜ (1 ≤ owner) × (length (now owners) ≡ 32) ⌝ }
     ensures { λ _. ⌜ now (xs .exit) ≡ wiped owner 0 (now (owners .entry)) (now (xs .entry)) ⌝ }
 {
@@ -54,7 +54,7 @@ pub fn free_bytes(owners: &[u8; 32], owner: u8, xs: &mut [u8; 32])
     }
 }
 
-pub fn free_numbers(owners: &[u8; 32], owner: u8, xs: &mut [u16; 32])
+pub(crate) fn free_numbers(owners: &[u8; 32], owner: u8, xs: &mut [u16; 32])
     requires { ⌜ (1 ≤ owner) × (length (now owners) ≡ 32) ⌝ }
     ensures { λ _. ⌜ now (xs .exit) ≡ wiped owner 0 (now (owners .entry)) (now (xs .entry)) ⌝ }
 {
@@ -66,7 +66,7 @@ pub fn free_numbers(owners: &[u8; 32], owner: u8, xs: &mut [u16; 32])
     }
 }
 
-pub fn free_marks(owners: &[u8; 32], owner: u8, xs: &mut [bool; 32])
+pub(crate) fn free_marks(owners: &[u8; 32], owner: u8, xs: &mut [bool; 32])
     requires { ⌜ (1 ≤ owner) × (length (now owners) ≡ 32) ⌝ }
     ensures { λ _. ⌜ now (xs .exit) ≡ wiped owner false (now (owners .entry)) (now (xs .entry)) ⌝ }
 {
@@ -79,7 +79,7 @@ pub fn free_marks(owners: &[u8; 32], owner: u8, xs: &mut [bool; 32])
 }
 
 // The table with a fragment in a place, under a row that has its key, or that gets it.
-pub fn with_fragment(
+pub(crate) fn with_fragment(
     t: Table,
     place: usize,
     row: usize,
@@ -107,7 +107,7 @@ pub fn with_fragment(
 }
 
 // The table without a row's key: the row and its places are as fresh ones.
-pub fn without_key(t: Table, row: usize) -> Table
+pub(crate) fn without_key(t: Table, row: usize) -> Table
     requires { ⌜ row < 16 ⌝ }
     ensures { λ r. ⌜ r ≡ without t row ⌝ }
 {

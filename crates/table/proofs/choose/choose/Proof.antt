@@ -6,7 +6,7 @@ use native.Mathlib.Omega.{arith}
 use denote.Ref.{now}
 use Rattle.table.specs.declared.choose.Change.the-variants.{PutAt}
 use Rattle.table.specs.Rows.{ownerOf}
-use Rattle.table.specs.Push.{Way, keepWay, lastWay}
+use Rattle.table.specs.Push.{Way, keepWay, lastWay, pushedOf}
 use Rattle.table.specs.Leaves.{placesIn, numberedIn, lowestFreeIn, spareRowIn, joiningIn}
 use Rattle.table.proofs.Ways.{by-11, by-12, by-replace, by-last, by-keep, keep-output}
 use borrow.Author.Needs.{needs}
@@ -27,11 +27,17 @@ module _ (c : tie.Start) where
   abbrev keeps : Way
   keeps = keepWay (lowestFreeIn (now (c .args .owners))) (spareRowIn (now (c .args .used))) (c .args .row)
 
+refused-requires : tie.Need-refused-requires
+refused-requires c κs = search needs
+
 returns : tie.Need-returns
-returns c = rw (by-11 (length (now (c .before .before .before .before .args .store))) (length (now (c .before .before .before .before .args .payload))) (place (c .before .before .before .before)) (c .before .before .before .before .args .f .last) (joins (c .before .before .before .before)) (keeps (c .before .before .before .before)) (c .if1 .taken)) (record { answers = refl; changes = refl; puts = refl })
+returns c = rw (by-11 (length (now (c .before .before .before .before .before .args .store))) (length (now (c .before .before .before .before .before .args .payload))) (place (c .before .before .before .before .before)) (c .before .before .before .before .before .args .f .last) (joins (c .before .before .before .before .before)) (keeps (c .before .before .before .before .before)) (c .before .if1 .taken)) (record { answers = ap pushedOf (c .refused .ensures .1); changes = c .refused .ensures .0; puts = refl })
+
+refused-requires-2 : tie.Need-refused-requires-2
+refused-requires-2 c κs = search needs
 
 returns-2 : tie.Need-returns-2
-returns-2 c = rw (by-12 (length (now (c .before .before .before .before .before .args .store))) (length (now (c .before .before .before .before .before .args .payload))) (place (c .before .before .before .before .before)) (c .before .before .before .before .before .args .f .last) (joins (c .before .before .before .before .before)) (keeps (c .before .before .before .before .before)) (c .before .if1 .left) (c .if2 .taken)) (record { answers = refl; changes = refl; puts = refl })
+returns-2 c = rw (by-12 (length (now (c .before .before .before .before .before .before .args .store))) (length (now (c .before .before .before .before .before .before .args .payload))) (place (c .before .before .before .before .before .before)) (c .before .before .before .before .before .before .args .f .last) (joins (c .before .before .before .before .before .before)) (keeps (c .before .before .before .before .before .before)) (c .before .before .if1 .left) (c .before .if2 .taken)) (record { answers = ap pushedOf (c .refused2 .ensures .1); changes = c .refused2 .ensures .0; puts = refl })
 
 held-at-requires : tie.Need-held-at-requires
 held-at-requires c κs = c .before .before .before .before .before .pre .2
@@ -60,7 +66,9 @@ pub choose-spec : {M : Type 1} → statement M
 choose-spec =
     tie.close
     (tie.spec
+    refused-requires
     returns
+    refused-requires-2
     returns-2
     held-at-requires
     returns-3
