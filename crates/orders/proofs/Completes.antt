@@ -11,7 +11,7 @@ use Rattle.numbers.specs.Numbers.{gives}
 use Rattle.table.specs.declared.Table.{Table}
 use Rattle.table.specs.declared.ages.Tally.{Tally}
 use Rattle.table.specs.Search.{lowest}
-use Rattle.table.specs.Rows.{Place, freshTable, placeAt, rowOf, spareRow, lowestFree, withKey, withPlace}
+use Rattle.table.specs.Rows.{freshTable, rowOf, spareRow, lowestFree, withKey, withPlace}
 use Rattle.table.specs.Joining.{Held, Kept, nothing, kept, Fragments, andNew, Since, never, since}
 use Rattle.table.specs.Push.{Way, keepAt, waiting, placeFor, tableBy, answerBy}
 use Rattle.table.specs.Made.{Made, byFresh}

@@ -7,7 +7,7 @@ use native.Mathlib.Omega.{arith}
 use lib.Dec.{ltb}
 use lib.ListN.{length}
 use lib.Seq.{paste}
-use borrow.Author.Tests.{ltb-true, lt-ltb, le-ltb, ltb-false}
+use borrow.Author.Tests.{ltb-true}
 use Rattle.table.specs.declared.Table.{Table}
 use Rattle.table.specs.declared.Arrival.{Arrival}
 use Rattle.table.specs.declared.choose.Change.{Change}
@@ -15,7 +15,7 @@ use Rattle.table.specs.declared.choose.Change.the-variants.{Stay, PutAt,
 use Rattle.table.specs.declared.choose.Chosen.{Chosen}
 use Rattle.table.specs.Rows.{ownerOf, rowOf, withPlace, without}
 use Rattle.table.specs.Joining.{Joining}
-use Rattle.table.specs.Push.{Way, end, Ending, keepWay, lastWay, joinedWith, wayBy, way, placeFor, droppedKey, tableBy, storeBy, outputBy, answerBy, Goes}
+use Rattle.table.specs.Push.{Way, end, keepWay, lastWay, joinedWith, wayBy, way, placeFor, droppedKey, tableBy, storeBy, outputBy, answerBy, Goes}
 use Rattle.table.specs.Leaves.{lowestFreeIn, spareRowIn, numberedIn, joiningIn, changeBy, Chooses, opened}
 use Rattle.table.proofs.Ways.{same-joins, Went, went, went-refuse, went-replace, went-keep, went-open, went-end}
 use Rattle.table.proofs.Sound.{Sound, used-row, place-holds}

@@ -11,12 +11,12 @@ use borrow.Author.Tests.{eqb-true, eqb-false, eq-eqb, ne-eqb, ltb-true, ltb-fals
 use Rattle.table.specs.declared.Table.{Table}
 use Rattle.table.specs.declared.Fragment.{Fragment}
 use Rattle.table.specs.declared.Arrival.{Arrival}
-use Rattle.table.specs.Rows.{Place, ownerOf, freePlace, placeAt, isRowOf, rowOf, isSpare, isNumbered, placeOf, isFree, withKey, withPlace, without, bytesAt}
+use Rattle.table.specs.Rows.{Place, ownerOf, placeAt, isRowOf, rowOf, isSpare, isNumbered, placeOf, isFree, withKey, withPlace, without, bytesAt}
 use Rattle.table.specs.Joining.{Fragments, Held, Kept, nothing, kept, heldOf, keptAt, heldIn, heldBy, andNew, Since, never, since, firstTime}
 use Rattle.table.specs.Push.{Way, refuse, replace, keepAt, openAt, end, way, tableBy, storeBy, placeFor}
 use Rattle.table.proofs.Search.{lowest-is, lowest-holds, lowest-before, lowest-same}
 use Rattle.table.proofs.Places.{put-here, put-elsewhere}
-use Rattle.table.proofs.Sound.{Sound, used-row, place-holds, no-place, not-held, numbered-both, open-sound, drop-sound}
+use Rattle.table.proofs.Sound.{Sound, place-holds, no-place, not-held, numbered-both, open-sound, drop-sound}
 use Rattle.table.proofs.Pieces.{kept-in, kept-out, fragment}
 use Rattle.table.proofs.Apart.{bytes-apart, drop-gone}
 use Rattle.table.proofs.Ways.{Went, went, went-refuse, went-replace, went-keep, went-open, went-end}

@@ -1,4 +1,4 @@
-// Which way a push goes, and what it answers: decided before anything of the table changes, so that the table is copied once.
+// Which way a push goes, and what it answers: decided before anything of the table changes, over lent lists, so that the table is seldom copied.
 use crate::Fragment;
 use crate::Pushed;
 use crate::join::Verdict;

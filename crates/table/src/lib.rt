@@ -26,8 +26,8 @@ ghost use Rattle.table.specs.Show.{shown};
 ghost use Rattle.table.specs.Keys.{keyOf};
 ghost use Rattle.table.specs.Made.{Made};
 
-// 16 keys, each in a row of three lists, and 32 places, each in a row of six: a kept fragment, but for its payload, which lies in the lent store at 1,492
-// bytes a place. Each list is an array of its own, which a look-up can be lent.
+// 16 keys, each a row of three lists, and 32 places, each a row of the six others: a kept fragment, but for its payload, which lies in the lent store at
+// 1,492 bytes a place. Each list is an array of its own, which a look-up can be lent.
 #[repr(C)]
 pub struct Table {
     pub codes: [u64; 16],

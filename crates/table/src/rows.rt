@@ -42,7 +42,7 @@ fn mark_or_none(free: bool, x: bool) -> bool
 }
 
 // What the places of an owner hold is set to nothing, in a list of bytes, of numbers, of marks.
-pub(crate) fn free_bytes(owners: &[u8; 32], owner: u8, xs: &mut [u8; 32])
+fn free_bytes(owners: &[u8; 32], owner: u8, xs: &mut [u8; 32])
     requires { ⌜ (1 ≤ owner) × (length (now owners) ≡ 32) ⌝ }
     ensures { λ _. ⌜ now (xs .exit) ≡ wiped owner 0 (now (owners .entry)) (now (xs .entry)) ⌝ }
 {
@@ -54,7 +54,7 @@ pub(crate) fn free_bytes(owners: &[u8; 32], owner: u8, xs: &mut [u8; 32])
     }
 }
 
-pub(crate) fn free_numbers(owners: &[u8; 32], owner: u8, xs: &mut [u16; 32])
+fn free_numbers(owners: &[u8; 32], owner: u8, xs: &mut [u16; 32])
     requires { ⌜ (1 ≤ owner) × (length (now owners) ≡ 32) ⌝ }
     ensures { λ _. ⌜ now (xs .exit) ≡ wiped owner 0 (now (owners .entry)) (now (xs .entry)) ⌝ }
 {
@@ -66,7 +66,7 @@ pub(crate) fn free_numbers(owners: &[u8; 32], owner: u8, xs: &mut [u16; 32])
     }
 }
 
-pub(crate) fn free_marks(owners: &[u8; 32], owner: u8, xs: &mut [bool; 32])
+fn free_marks(owners: &[u8; 32], owner: u8, xs: &mut [bool; 32])
     requires { ⌜ (1 ≤ owner) × (length (now owners) ≡ 32) ⌝ }
     ensures { λ _. ⌜ now (xs .exit) ≡ wiped owner false (now (owners .entry)) (now (xs .entry)) ⌝ }
 {

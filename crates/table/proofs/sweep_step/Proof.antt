@@ -4,7 +4,6 @@ use mathlib.Core.Logic.{⊎-elim}
 use Prim.Native.Nat.{_+_, _≤_, _-_}
 use native.Mathlib.Omega.{arith}
 use Rattle.table.specs.declared.Counts.{Counts}
-use Rattle.table.specs.declared.Swept.{Swept}
 use Rattle.table.specs.declared.ages.Tally.{Tally}
 use Rattle.table.specs.Sweep.{lackOf, tally, counted, sweptRow, sweptRows, sweptAs}
 use Rattle.table.specs.Leaves.{Within}

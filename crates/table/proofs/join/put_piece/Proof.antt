@@ -1,6 +1,5 @@
 -- The bytes copied are those of `pieceBytes`.
 use mathlib.Core.Path.{sym, ap, _∙_}
-use mathlib.Core.List.{List}
 use Prim.Native.Nat.{ℕ, _+_, _*_}
 use lib.ListN.{length, drop}
 use lib.Seq.{paste}

@@ -1,5 +1,4 @@
 -- The test is that of `sizeAt`.
-use mathlib.Core.Path.{_∙_}
 use borrow.Author.Tests.{lt-ltb, le-ltb}
 use borrow.Author.Needs.{needs}
 use Rattle.table.proofs.join.size_at.Statement.{statement}

@@ -1,14 +1,12 @@
 -- The loop has passed i rows of which none is sought.
-use mathlib.Core.Path.{_≡_, sym, ap, _∙_}
+use mathlib.Core.Path.{_≡_, ap, _∙_}
 use mathlib.Core.List.{List}
 use mathlib.Core.Bool.{Bool, false, not}
 use Prim.Native.Nat.{ℕ, _≤_, _-_}
 use native.Mathlib.Omega.{arith}
-use lib.Dec.{eqb}
 use lib.ListN.{getD}
 use denote.Ref.{now}
 use borrow.Author.Needs.{needs}
-use borrow.Author.Tests.{eq-eqb, ne-eqb}
 use Rattle.table.specs.Search.{lowest}
 use Rattle.table.proofs.Search.{before-all, found, passed}
 use Rattle.table.proofs.look.find_spare.Statement.{statement}

@@ -1,5 +1,5 @@
 -- Whether the row gets its key or has it, the place then gets the fragment.
-use mathlib.Core.Path.{_≡_, sym, ap, _∙_}
+use mathlib.Core.Path.{sym, ap, _∙_}
 use mathlib.Core.Bool.{Bool}
 use mathlib.Core.Logic.{⊎-elim}
 use borrow.Author.Needs.{needs}
