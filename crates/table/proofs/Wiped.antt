@@ -1,9 +1,10 @@
 -- Freeing the places of an owner, list by list: what stands where afterwards, and one law for every loop that does it.
-use mathlib.Core.Path.{_≡_, refl, ap}
+use mathlib.Core.Path.{_≡_, refl, sym, ap, _∙_}
 use mathlib.Core.List.{List, [], _∷_}
 use mathlib.Core.Bool.{Bool, true, false, cond}
-use Prim.Native.Nat.{ℕ, zero, suc, _≤_}
+use Prim.Native.Nat.{ℕ, zero, suc, _+_, _≤_}
 use native.Mathlib.Omega.{arith}
+use native.Mathlib.Numerals.{add-one}
 use lib.Dec.{eqb}
 use lib.ListN.{length, getD, take, set}
 use lib.Seq.{set-getD, take-all}
@@ -37,7 +38,7 @@ module _ {A : Type 0} (owner : ℕ) (blank : A) where
   unfolding wiped
   wiped-none os xs = refl
 
-  pub wiped-next : 1 ≤ owner → (os : List ℕ) (xs : List A) (i : ℕ) (d : A) → set (wipedTo os xs i) i (cond (eqb (getD os i 0) owner) blank (getD (wipedTo os xs i) i d)) ≡ wipedTo os xs (suc i)
+  wiped-next : 1 ≤ owner → (os : List ℕ) (xs : List A) (i : ℕ) (d : A) → set (wipedTo os xs i) i (cond (eqb (getD os i 0) owner) blank (getD (wipedTo os xs i) i d)) ≡ wipedTo os xs (suc i)
   unfolding wiped
   wiped-next h [] xs zero d = rw (ne-eqb 0 owner (λ e. omega arith)) (set-getD xs 0 d)
   wiped-next h [] xs (suc i) d = rw (ne-eqb 0 owner (λ e. omega arith)) (set-getD xs (suc i) d)
@@ -45,6 +46,11 @@ module _ {A : Type 0} (owner : ℕ) (blank : A) where
   wiped-next h (o ∷ os) [] (suc i) d = refl
   wiped-next h (o ∷ os) (x ∷ xs) zero d = refl
   wiped-next h (o ∷ os) (x ∷ xs) (suc i) d = ap (λ (r : List A). cond (eqb o owner) blank x ∷ r) (wiped-next h os xs i d)
+
+  -- one turn of such a loop: the element that was read is stored, or a blank
+  pub wiped-more : 1 ≤ owner → (os : List ℕ) (xs : List A) (i : ℕ) (l : List A) → l ≡ wipedTo os xs i → (x : A) → x ≡ cond (eqb (getD os i 0) owner) blank (getD l i blank) → set l i x ≡ wipedTo os xs (i + 1)
+  wiped-more h os xs i l e x f =
+      ap (set l i) f ∙ ap (λ (r : List A). set r i (cond (eqb (getD os i 0) owner) blank (getD r i blank))) e ∙ wiped-next h os xs i blank ∙ ap (wipedTo os xs) (sym (add-one i))
 
   pub wiped-all : (os : List ℕ) (xs : List A) (i : ℕ) → length os ≤ i → wipedTo os xs i ≡ wiped owner blank os xs
   wiped-all os xs i h = ap (λ (l : List ℕ). wiped owner blank l xs) (take-all i os h)

@@ -1,15 +1,11 @@
 -- The loop has freed what the first i owners say.
-use mathlib.Core.Path.{_≡_, sym, ap, _∙_}
-use mathlib.Core.List.{List}
-use mathlib.Core.Bool.{Bool, false, cond}
+use mathlib.Core.Path.{_≡_, _∙_}
+use mathlib.Core.Bool.{false}
 use Prim.Native.Nat.{_≤_, _-_}
 use native.Mathlib.Omega.{arith}
-use native.Mathlib.Numerals.{add-one}
-use lib.Dec.{eqb}
-use lib.ListN.{getD, set}
 use denote.Ref.{now}
 use borrow.Author.Needs.{needs}
-use Rattle.table.proofs.Wiped.{wipedTo, wiped-none, wiped-next, wiped-all}
+use Rattle.table.proofs.Wiped.{wipedTo, wiped-none, wiped-more, wiped-all}
 use Rattle.table.proofs.rows.free_marks.Statement.{statement}
 use Rattle.table.proofs.rows.free_marks.Tie as tie
 
@@ -44,13 +40,7 @@ loop-again : tie.Need-loop-again Inv-loop μ-loop
 loop-again c =
     let b = c .before .before .before .before in
     let a = b .before .args in
-    let i = b .loop .i in (
-      search needs,
-      ap (set (b .loop .xs) i) (c .mark-or-none .ensures)
-          ∙ ap (λ (l : List Bool). set l i (cond (eqb (getD (now (a .owners)) i 0) (a .owner)) false (getD l i false))) (b .loop .inv .1)
-          ∙ wiped-next (a .owner) false (b .before .pre .0) (now (a .owners)) (now (a .xs)) i false
-          ∙ ap (wipedTo (a .owner) false (now (a .owners)) (now (a .xs))) (sym (add-one i)),
-    )
+    (search needs, wiped-more (a .owner) false (b .before .pre .0) (now (a .owners)) (now (a .xs)) (b .loop .i) (b .loop .xs) (b .loop .inv .1) (c .mark-or-none .result) (c .mark-or-none .ensures))
 
 returns : tie.Need-returns Inv-loop μ-loop
 returns c =

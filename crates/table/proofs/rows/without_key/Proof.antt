@@ -33,19 +33,19 @@ element-write-n-3 : tie.Need-element-write-n-3
 element-write-n-3 c = search needs
 
 free-numbers-requires : tie.Need-free-numbers-requires
-free-numbers-requires c κs = search needs
+free-numbers-requires c κs = (omega arith, long (c .before .before))
 
 free-numbers-requires-2 : tie.Need-free-numbers-requires-2
-free-numbers-requires-2 c κs = search needs
+free-numbers-requires-2 c κs = (omega arith, long (c .before .before .before .before .before))
 
 free-bytes-requires : tie.Need-free-bytes-requires
-free-bytes-requires c κs = search needs
+free-bytes-requires c κs = (omega arith, long (c .before .before .before .before .before .before .before .before))
 
 free-bytes-requires-2 : tie.Need-free-bytes-requires-2
-free-bytes-requires-2 c κs = search needs
+free-bytes-requires-2 c κs = (omega arith, long (c .before .before .before .before .before .before .before .before .before .before .before))
 
 free-bytes-requires-3 : tie.Need-free-bytes-requires-3
-free-bytes-requires-3 c κs = search needs
+free-bytes-requires-3 c κs = (omega arith, long (c .before .before .before .before .before .before .before .before .before .before .before .before .before .before))
 
 free-marks-requires : tie.Need-free-marks-requires
 free-marks-requires c κs = (omega arith, long (c .before .before .before .before .before .before .before .before .before .before .before .before .before .before .before .before .before))
