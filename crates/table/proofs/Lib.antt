@@ -1,5 +1,5 @@
 pub mod Search
-pub mod Lengths
+pub mod Byte
 pub mod Wiped
 pub mod Places
 pub mod Ways

@@ -9,7 +9,7 @@ use Rattle.table.specs.declared.Table.{Table}
 use Rattle.table.specs.declared.Arrival.{Arrival}
 use Rattle.table.specs.declared.choose.Change.{Change}
 use Rattle.table.specs.Push.{Way, way, tableBy, storeBy, Goes}
-use Rattle.table.proofs.Lengths.{number-byte}
+use Rattle.table.proofs.Byte.{number-byte}
 use Rattle.table.proofs.Sound.{Sound, sound, no-place}
 use Rattle.table.proofs.Changes.{Does, way-is, done, goes-so}
 use borrow.Author.Needs.{needs}
