@@ -55,7 +55,7 @@ fn told<'a>(answer: Pushed, payload: &'a [u8], out: &'a [u8]) -> u64 {
         Pushed::Joined(_) => 7,
         Pushed::Refused(_) => 8,
     };
-    let message = table::show(answer, payload, out);
+    let message = reassembler::show(answer, payload, out);
     folded(code, message)
 }
 
@@ -110,7 +110,7 @@ fn arrival(sender: u64, number: u64, time: u64) -> Arrival
         last: number == 2,
     };
     Arrival {
-        key: table::key_of(2, 0, 0, 0, 0, (sender % 256) as u8, 7),
+        key: reassembler::key_of(2, 0, 0, 0, 0, (sender % 256) as u8, 7),
         time,
         fragment,
     }

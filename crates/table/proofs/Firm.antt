@@ -16,8 +16,6 @@ use Rattle.table.specs.declared.Pushed.the-variants.{WaitingForMoreFragm
 use Rattle.table.specs.Rows.{freshTable}
 use Rattle.table.specs.Push.{Heard, waiting, duplicated, inconsistent, missing, missingLast, single, joined, Way, pushedOf, Goes}
 use Rattle.table.specs.Sweep.{swept, sweptAs}
-use Rattle.table.specs.Show.{shown}
-use Rattle.table.specs.Keys.{keyOf}
 
 -- the number of an answer, 0 where it is no refusal
 abbrev numberOf : Answer Heard → ℕ
@@ -101,9 +99,3 @@ sweep-firm t time t₁ t₂ c₁ c₂ x y = (ap (λ (s : Swept). s .table) (x �
 
 pub fresh-firm : (t₁ t₂ : Table) → t₁ ≡ freshTable → t₂ ≡ freshTable → t₁ ≡ t₂
 fresh-firm t₁ t₂ x y = x ∙ sym y
-
-pub show-firm : (answer : Answer Heard) (payload out r₁ r₂ : List ℕ) → r₁ ≡ shown answer payload out → r₂ ≡ shown answer payload out → r₁ ≡ r₂
-show-firm answer payload out r₁ r₂ x y = x ∙ sym y
-
-pub key-firm : (sender : List ℕ) (message-id k₁ k₂ : ℕ) → k₁ ≡ keyOf sender message-id → k₂ ≡ keyOf sender message-id → k₁ ≡ k₂
-key-firm sender message-id k₁ k₂ x y = x ∙ sym y

@@ -9,7 +9,6 @@ pub mod Pieces
 pub mod Ends
 pub mod Changes
 pub mod Firm
-pub mod Keys
 pub mod Apart
 pub mod Calls
 pub mod Own

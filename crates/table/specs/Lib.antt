@@ -4,6 +4,5 @@ pub mod Joining
 pub mod Push
 pub mod Sweep
 pub mod Show
-pub mod Keys
 pub mod Made
 pub mod Leaves

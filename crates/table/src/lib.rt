@@ -17,13 +17,10 @@ use rows::copy;
 use rows::with_fragment;
 use rows::without_key;
 ghost use mathlib.Core.Path.{_≡_};
-ghost use mathlib.Core.List.{[], _∷_};
 ghost use lib.ListN.{length};
 ghost use Rattle.table.specs.Rows.{freshTable};
-ghost use Rattle.table.specs.Push.{pushedOf, way, Goes};
-ghost use Rattle.table.specs.Sweep.{swept, sweptAs};
-ghost use Rattle.table.specs.Show.{shown};
-ghost use Rattle.table.specs.Keys.{keyOf};
+ghost use Rattle.table.specs.Push.{way, Goes};
+ghost use Rattle.table.specs.Sweep.{swept};
 ghost use Rattle.table.specs.Made.{Made};
 
 // 16 keys, each a row of three lists, and 32 places, each a row of the six others: a kept fragment, but for its payload, which lies in the lent store at
@@ -53,7 +50,7 @@ pub struct Fragment {
     pub last: bool,
 }
 
-// A fragment as it comes in: under which key (see key_of), and when, in milliseconds.
+// A fragment as it comes in: under which key (see key_of of the crate reassembler), and when, in milliseconds.
 #[repr(C)]
 pub struct Arrival {
     pub key: u64,
@@ -172,58 +169,4 @@ pub fn push_step(t: Table, store: &mut [u8], out: &mut [u8], a: Arrival, payload
             Stepped { table, answer }
         }
     }
-}
-
-// The message of an answer: of a single fragment it is the payload, of others the output's first bytes. The slices are those that push was given.
-pub fn show<'a>(answer: Pushed, payload: &'a [u8], out: &'a [u8]) -> &'a [u8]
-    ensures { λ r. ⌜ now r ≡ shown (pushedOf answer) (now (payload .entry)) (now (out .entry)) ⌝ }
-{
-    match answer {
-        Pushed::Single(n) => {
-            if n <= payload.len() {
-                return &payload[..n];
-            }
-            &payload[..0]
-        }
-        Pushed::Joined(n) => {
-            if n <= out.len() {
-                return &out[..n];
-            }
-            &out[..0]
-        }
-        Pushed::WaitingForMoreFragments => &payload[..0],
-        Pushed::DuplicatedFragment => &payload[..0],
-        Pushed::InconsistentMetadata => &payload[..0],
-        Pushed::MissingFragments => &payload[..0],
-        Pushed::MissingLastFragment => &payload[..0],
-        Pushed::Refused(_) => &payload[..0],
-    }
-}
-
-// The key of a sender, by its six bytes in their order, and a message id.
-pub fn key_of(s0: u8, s1: u8, s2: u8, s3: u8, s4: u8, s5: u8, message_id: u16) -> u64
-    ensures { λ r. ⌜ r ≡ keyOf (s0 ∷ s1 ∷ s2 ∷ s3 ∷ s4 ∷ s5 ∷ []) «message_id» ⌝ }
-{
-    let high = (s0 as u64 * 256 + s1 as u64) * 256 + s2 as u64;
-    let low = (s3 as u64 * 256 + s4 as u64) * 256 + s5 as u64;
-    (high * 16777216 + low) * 65536 + message_id as u64
-}
-
-// Push, altering the caller's table itself: a thin shell over push_step.
-pub fn push(t: &mut Table, store: &mut [u8], out: &mut [u8], a: Arrival, payload: &[u8]) -> Pushed
-    requires { ⌜ Made (now t) ⌝ }
-    ensures { λ r. ⌜ Goes (way (now (t .entry)) (now (store .entry)) a (now (payload .entry)) (length (now (out .entry)))) (now (t .entry)) (now (store .entry)) (now (out .entry)) a (now (payload .entry)) r (now (t .exit)) (now (store .exit)) (now (out .exit)) ⌝ }
-{
-    let stepped = push_step(*t, store, out, a, payload);
-    *t = stepped.table;
-    stepped.answer
-}
-
-// Sweep, altering the caller's table itself: a thin shell over sweep_step.
-pub fn sweep(t: &mut Table, time: u64) -> Counts
-    ensures { λ r. ⌜ sweptAs (now (t .exit)) r ≡ swept (now (t .entry)) time ⌝ }
-{
-    let swept = sweep_step(*t, time);
-    *t = swept.table;
-    swept.counts
 }

@@ -40,27 +40,27 @@ use denote.Triple.Clauses.{ensured, lasts}
 use denote.Triple.Table.{entered, cited}
 use denote.Triple.Walked.{says, needs, Stays, stay-ref, stay-none, stay-none-slice, gave-slice, walkOf, AllGo, goes-none, goes-ref, goes-none-slice, goes-gave-slice, Walks, ends-at, walked, walk-meets}
 use denote.Exit.{yes}
 use Rattle.table.specs.declared.Table.{Table}
 use Rattle.table.specs.declared.Arrival.{Arrival}
 use Rattle.table.specs.declared.Stepped.{Stepped}
 use Rattle.table.specs.Push.{way, Goes}
 use Rattle.table.specs.Made.{Made}
 use Rattle.table.proofs.Pushed as E
 use Rattle.table.proofs.Pushed.Laws as E′
 use Rattle.table.proofs.Table as T
 use Rattle.table.proofs.Table.Laws as T′
 use Rattle.table.proofs.Arrival as P
 use Rattle.table.proofs.Arrival.Laws as P′
 use Rattle.table.proofs.Stepped as S
 use Rattle.table.proofs.Stepped.Laws as S′
 use Rattle.table.proofs.push_step as callee
 use Rattle.table.proofs.push_step.Symbol as callee-def
 use Rattle.table.proofs.push_step.Symbol.{name as #callee}
 use Rattle.table.proofs.push_step.Met as callee-thm
-use Rattle.table.proofs.push.Key.{name as #f}
-use Rattle.table.proofs.push as f
-use Rattle.table.proofs.push.Statement as stated
-use Rattle.table.proofs.push.Code as code
+use Rattle.reassembler.proofs.push.Key.{name as #f}
+use Rattle.reassembler.proofs.push as f
+use Rattle.reassembler.proofs.push.Statement as stated
+use Rattle.reassembler.proofs.push.Code as code
 
 abbrev stayed : Stays (f.ended .signature .params) (f.ended .kept)
 stayed = (stay-ref (0 ∷ []) tt (plain (λ _. T.the-row)), (gave-slice (1 ∷ []) tt (plain (λ _. u8)), (gave-slice (2 ∷ []) tt (plain (λ _. u8)), (stay-none (λ _. P.the-row) yes, (stay-none-slice (3 ∷ []) tt (plain (λ _. u8)) yes, tt)))))

@@ -3,7 +3,7 @@ use mathlib.Core.Path.{_≡_}
 use mathlib.Core.List.{List, [], _∷_}
 use Prim.Native.Nat.{ℕ, _+_, _*_, _<_}
 use native.Mathlib.Omega.{arith}
-use Rattle.table.specs.Keys.{bigEndian, keyOf}
+use Rattle.reassembler.specs.Keys.{bigEndian, keyOf}
 
 -- a sender: six bytes
 pub record Sender : Type 0 where

@@ -37,23 +37,23 @@ use denote.Triple.Clauses.{ensured, lasts}
 use denote.Triple.Table.{entered, cited}
 use denote.Triple.Walked.{says, Stays, stay-ref, stay-none, walkOf, AllGo, goes-none, goes-ref, Walks, ends-at, walked, walk-meets}
 use denote.Exit.{yes}
 use Rattle.table.specs.declared.Table.{Table}
 use Rattle.table.specs.declared.Swept.{Swept}
 use Rattle.table.specs.Sweep.{swept}
 use Rattle.table.proofs.Counts as N
 use Rattle.table.proofs.Counts.Laws as N′
 use Rattle.table.proofs.Table as T
 use Rattle.table.proofs.Table.Laws as T′
 use Rattle.table.proofs.Swept as S
 use Rattle.table.proofs.Swept.Laws as S′
 use Rattle.table.proofs.sweep_step as callee
 use Rattle.table.proofs.sweep_step.Symbol as callee-def
 use Rattle.table.proofs.sweep_step.Symbol.{name as #callee}
 use Rattle.table.proofs.sweep_step.Met as callee-thm
-use Rattle.table.proofs.sweep.Key.{name as #f}
-use Rattle.table.proofs.sweep as f
-use Rattle.table.proofs.sweep.Statement as stated
-use Rattle.table.proofs.sweep.Code as code
+use Rattle.reassembler.proofs.sweep.Key.{name as #f}
+use Rattle.reassembler.proofs.sweep as f
+use Rattle.reassembler.proofs.sweep.Statement as stated
+use Rattle.reassembler.proofs.sweep.Code as code
 
 abbrev stayed : Stays (f.ended .signature .params) (f.ended .kept)
 stayed = (stay-ref (0 ∷ []) tt (plain (λ _. T.the-row)), (stay-none (λ _. u64) yes, tt))

@@ -3,8 +3,8 @@ use mathlib.Core.Path.{sym}
 use lib.Seq.{length-take-le}
 use borrow.Author.Tests.{le-leb, lt-leb}
 use borrow.Author.Needs.{needs}
-use Rattle.table.proofs.show.Statement.{statement}
-use Rattle.table.proofs.show.Tie as tie
+use Rattle.reassembler.proofs.show.Statement.{statement}
+use Rattle.reassembler.proofs.show.Tie as tie
 
 enum-known-answer : tie.Need-enum-known-answer
 enum-known-answer c = search needs
