@@ -37,12 +37,9 @@ typedef struct {
     uint8_t refusal;
 } AshlarKind;
 
+/* where a record lies in the list; read_kind says what its value reads as */
 typedef struct {
     size_t place;
-    size_t entries;
-    size_t consumed;
-    size_t rest;
-    bool is_list;
     uint8_t refusal;
 } AshlarFound;
 

@@ -123,8 +123,7 @@ AshlarFound plain_find(const AshlarTlv *list, size_t count, const uint8_t *p, si
     if (!is_kind(code)) return (AshlarFound){.refusal = 16};
     for (size_t i = from; i < count; i++) {
         if (list[i].tlv_type != code || n < 3 || n - 3 < list[i].length || n - 3 - list[i].length < list[i].offset) continue;
-        AshlarKind k = plain_read_kind(code, p + list[i].offset + 3, list[i].length);
-        if (!k.refusal) return (AshlarFound){i, k.entries, k.consumed, k.rest, k.is_list, 0};
+        if (!plain_read_kind(code, p + list[i].offset + 3, list[i].length).refusal) return (AshlarFound){i, 0};
     }
     return (AshlarFound){.refusal = 15};
 }

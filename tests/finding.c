@@ -12,9 +12,15 @@ static const uint8_t payload[] = {
 static const AshlarTlv walked[] = {{0x92, 13, 0}, {0x92, 13, 16}, {0x92, 13, 32}, {0, 0, 48}};
 static int failed;
 
+/* find says where; what lies there has to read, and to be so long */
+static bool reads(AshlarTlv t, uint8_t code, size_t consumed) {
+    AshlarKind got = ashlar_read_kind(code, payload + t.offset + 3, t.length);
+    return got.refusal == 0 && got.consumed == consumed;
+}
+
 static void finds(const char *name, const AshlarTlv *list, size_t n, uint8_t code, size_t from, size_t place, size_t consumed, uint8_t refusal) {
     AshlarFound got = ashlar_find(list, n, payload, sizeof payload, code, from);
-    int good = got.refusal == refusal && (refusal != 0 || (got.place == place && got.consumed == consumed));
+    bool good = got.refusal == refusal && (refusal != 0 || (got.place == place && reads(list[place], code, consumed)));
     failed += !good;
     printf("%s finding: %s\n", good ? "ok" : "FAILED", name);
 }

@@ -105,11 +105,19 @@ static void walk_into(void) {
     listed(bytes(n), n, &list);
 }
 
+static bool same_kind(AshlarKind a, AshlarKind b) { return a.entries == b.entries && a.consumed == b.consumed && a.rest == b.rest && a.is_list == b.is_list && a.refusal == b.refusal; }
+
 static void read_kind(void) {
     size_t n = below(4) ? below(40) : below(2000);
     uint8_t *p = bytes(n), k = code();
-    AshlarKind a = ashlar_read_kind(k, p, n), b = plain_read_kind(k, p, n);
-    told(READ_KIND, a.refusal, a.entries == b.entries && a.consumed == b.consumed && a.rest == b.rest && a.is_list == b.is_list && a.refusal == b.refusal);
+    AshlarKind a = ashlar_read_kind(k, p, n);
+    told(READ_KIND, a.refusal, same_kind(a, plain_read_kind(k, p, n)));
+}
+
+/* the value of a record that was found */
+static bool reads(uint8_t k, const uint8_t *p, AshlarTlv t) {
+    AshlarKind a = ashlar_read_kind(k, p + t.offset + 3, t.length);
+    return !a.refusal && same_kind(a, plain_read_kind(k, p + t.offset + 3, t.length));
 }
 
 /* the list holds what a walk left, and behind it anything at all */
@@ -120,7 +128,8 @@ static void find(void) {
     many = listed(p, n, &list);
     size_t from = below(4) ? 0 : below(3) ? below(20) : (size_t)any() << 32;
     AshlarFound a = ashlar_find(list, many, p, n, k, from), b = plain_find(list, many, p, n, k, from);
-    told(FIND, a.refusal, a.place == b.place && a.entries == b.entries && a.consumed == b.consumed && a.rest == b.rest && a.is_list == b.is_list && a.refusal == b.refusal);
+    bool same = a.place == b.place && a.refusal == b.refusal;
+    told(FIND, a.refusal, same && (a.refusal || reads(k, p, list[a.place])));
 }
 
 static void push(void) {

@@ -35,9 +35,10 @@ abbrev pub kindNumbers : Answer Typed → AshlarKind
 kindNumbers (gives t) = record { entries = entriesOf (t .held); consumed = t .consumed; rest = t .rest; «is_list» = isList (t .held); refusal = 0 }
 kindNumbers (refuses n vs) = record { entries = 0; consumed = 0; rest = 0; «is_list» = false; refusal = n }
 
+-- a find says where; what the value there reads as is read_kind's to say
 abbrev pub foundNumbers : Answer Hit → AshlarFound
-foundNumbers (gives h) = record { place = h .place; entries = entriesOf (h .reading .held); consumed = h .reading .consumed; rest = h .reading .rest; «is_list» = isList (h .reading .held); refusal = 0 }
-foundNumbers (refuses n vs) = record { place = 0; entries = 0; consumed = 0; rest = 0; «is_list» = false; refusal = n }
+foundNumbers (gives h) = record { place = h .place; refusal = 0 }
+foundNumbers (refuses n vs) = record { place = 0; refusal = n }
 
 -- push's named answers from 1 on, 0 for a refusal; the length is the message's, or the one that 13 gives
 abbrev pub namedAs : ℕ → ℕ → AshlarPushed

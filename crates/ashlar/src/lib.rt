@@ -38,14 +38,10 @@ pub struct AshlarKind {
     pub refusal: u8,
 }
 
-// The place of the record that was found, and what its value reads as.
+// The place of the record that was found. What its value reads as is `ashlar_read_kind`'s to say, so that this answer fits two registers.
 #[repr(C)]
 pub struct AshlarFound {
     pub place: usize,
-    pub entries: usize,
-    pub consumed: usize,
-    pub rest: usize,
-    pub is_list: bool,
     pub refusal: u8,
 }
 
@@ -139,10 +135,6 @@ fn nothing_found(refusal: Refusal) -> AshlarFound
 {
     AshlarFound {
         place: 0,
-        entries: 0,
-        consumed: 0,
-        rest: 0,
-        is_list: false,
         refusal: numbers::number_of(refusal),
     }
 }
@@ -155,35 +147,21 @@ fn found_numbers(found: Found) -> AshlarFound
             place,
             tlv: _,
             record: _,
-            consumed,
-            rest,
-        } => AshlarFound {
-            place,
-            entries: 0,
-            consumed,
-            rest,
-            is_list: false,
-            refusal: 0,
-        },
+            consumed: _,
+            rest: _,
+        } => AshlarFound { place, refusal: 0 },
         Found::List {
             place,
             tlv: _,
-            entries,
-            consumed,
-            rest,
-        } => AshlarFound {
-            place,
-            entries,
-            consumed,
-            rest,
-            is_list: true,
-            refusal: 0,
-        },
+            entries: _,
+            consumed: _,
+            rest: _,
+        } => AshlarFound { place, refusal: 0 },
         Found::Refused(refusal) => nothing_found(refusal),
     }
 }
 
-// The first readable record of the kind with this code at the place `from` of the list or behind it, and what its value reads as.
+// The place of the first readable record of the kind with this code, at the place `from` of the list or behind it.
 #[no_mangle]
 pub extern "C" fn ashlar_find(list: &[Tlv], payload: &[u8], code: u8, from: usize) -> AshlarFound
     ensures { λ r. ⌜ r ≡ foundNumbers (findFrom code (now (list .entry)) (now (payload .entry)) from) ⌝ }
