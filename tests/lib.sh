@@ -30,3 +30,48 @@ told() { # NAME STATUS
         echo "FAILED $1"
     fi
 }
+
+# A C program over the archive of exported calls: tests/NAME.c and the sources named, built, and run with the arguments. It prints lines that begin 'ok ' or
+# 'FAILED ', which are counted; the last line has the counts. Installs the Debian packages that it needs (as root); where they can't be had it says so and fails.
+c_program() { # NAME SOURCES ARGUMENTS..
+    local name=$1 sources=$2 work=target/$1 archive=target/staticlib/libashlar.a emulator=qemu-x86_64 status
+    shift 2
+    c_program_built || return 1
+    ${emulator:+"$emulator"} "$work/$name" "$@" >"$work/lines"
+    status=$?
+    cat "$work/lines"
+    passed=$(grep -c '^ok ' "$work/lines")
+    failed=$(grep -c '^FAILED ' "$work/lines")
+    if [ "$status" -ne 0 ] && [ "$failed" -eq 0 ]; then
+        told "$name: the program stopped with $status" 1
+    fi
+    echo "$passed passed, $failed failed"
+    [ "$failed" -eq 0 ] && [ "$passed" -gt 0 ]
+}
+
+# The archive is proved and built anew where a file of crates/ is newer than it.
+c_program_built() {
+    # what bench/need calls where a package can't be had
+    fail() {
+        lacking "$*"
+        exit 1
+    }
+    # shellcheck source=bench/need
+    . bench/need
+    [ "$(uname -m)" != x86_64 ] || emulator=
+    # shellcheck disable=SC2086
+    need $cross_compiler $cross_library ${emulator:+qemu-user}
+    mkdir -p "$work" || return 1
+    if [ ! -f "$archive" ] || [ -n "$(find crates crates.txt -newer "$archive" | head -n 1)" ]; then
+        rt staticlib ashlar >"$work/rt.log" 2>&1 || lacking "the archive could not be proved and built; $work/rt.log says why" || return 1
+    fi
+    # shellcheck disable=SC2086
+    "$cross-gcc" -O2 -std=gnu11 -Wall -Wextra -static "tests/$name.c" $sources "$archive" -o "$work/$name" >"$work/gcc.log" 2>&1 ||
+        lacking "the program could not be built; $work/gcc.log says why"
+}
+
+lacking() { # WHY
+    echo "FAILED $name: $1"
+    echo "0 passed, 1 failed"
+    return 1
+}
