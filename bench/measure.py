@@ -181,7 +181,7 @@ gives the same number on every machine: the difference of runs with {2 * TURNS} 
 - The original is unchanged. Its rows pay for its own lists and buffers, whose making and freeing belongs to what it does; the fragments that it is pushed are made before
   the first turn. Its sweep runs in its worker, so a sweep's row has the turn of the runtime that wakes the worker in it.
 - Ours are the exported calls of the crate `ashlar`, linked as an archive; tlvlist is the proved program.
-- The original's find hands over the value itself, ours and plain C say where it lies, once it has been seen to read. Copying its six bytes out is no part of a turn; a trial with that copy in each turn took 76 for the hit at the first record, so on the original's own work that row would miss its bar.
+- The original's find hands over the value itself, ours and plain C say where it lies, once it has been seen to read: so their turns copy the six bytes out.
 - A waiting push is held to 900 instructions beyond the copy of its payload, which by itself takes {copies[16]:,.0f} for 16 bytes and {copies[1492]:,.0f} for 1,492.
 
 | Work | Plain C | Original | Ours | to plain C | to the original | Bar | |

@@ -91,9 +91,15 @@ static void find(int turns, uint8_t code) {
     tlvs(166, 2, 6, 4);
     AshlarWalk w = CALL(walk_into)(list, TLVS, payload, size);
     AshlarFound f = {0};
-    for (int i = 0; i < turns; i++) f = CALL(find)(list, w.count, payload, size, code, 0);
+    uint8_t value[6];
+    for (int i = 0; i < turns; i++) {
+        f = CALL(find)(list, w.count, payload, size, code, 0);
+        /* the original hands the value over: so it is taken out in each turn */
+        if (!f.refusal) memcpy(value, payload + list[f.place].offset + 3, 6);
+        __asm__ volatile("" ::"r"(value) : "memory");
+    }
     if (f.refusal) printf("none\n");
-    else printf("%lu\n", sum(payload + list[f.place].offset + 3, 6));
+    else printf("%lu\n", sum(value, 6));
 }
 #else
 static void find(int turns, uint8_t code) {

@@ -1,7 +1,6 @@
 // The hot calls for C: each is a thin shell over the layer's own call, and gives its answer in document 01's numbers. `refusal` is 0 where nothing is refused.
-use finding::Found;
+use finding::Placed;
 use kinds::KindSize;
-use numbers::Refusal;
 use table::Arrival;
 use table::Counts;
 use table::Pushed;
@@ -9,10 +8,9 @@ use table::Table;
 use walking::Tlv;
 use walking::Walked;
 ghost use mathlib.Core.Path.{_≡_};
-ghost use Rattle.numbers.specs.Numbers.{told};
 ghost use Rattle.walking.specs.Walk.{walkedOf, walkOf, counted, listed, filled};
 ghost use Rattle.kinds.specs.Kinds.{readKind};
-ghost use Rattle.finding.specs.Finding.{foundOf, findFrom};
+ghost use Rattle.finding.specs.Finding.{placedOf, placeIn, findFrom};
 ghost use Rattle.table.specs.Rows.{freshTable};
 ghost use lib.ListN.{length};
 ghost use Rattle.table.specs.Push.{pushedOf, way};
@@ -130,44 +128,25 @@ pub extern "C" fn ashlar_read_kind(code: u8, value: &[u8]) -> AshlarKind
     }
 }
 
-fn nothing_found(refusal: Refusal) -> AshlarFound
-    ensures { λ r. ⌜ r ≡ foundNumbers (told refusal) ⌝ }
+fn found_numbers(placed: Placed) -> AshlarFound
+    ensures { λ r. ⌜ r ≡ foundNumbers (placedOf placed) ⌝ }
 {
-    AshlarFound {
-        place: 0,
-        refusal: numbers::number_of(refusal),
-    }
-}
-
-fn found_numbers(found: Found) -> AshlarFound
-    ensures { λ r. ⌜ r ≡ foundNumbers (foundOf found) ⌝ }
-{
-    match found {
-        Found::Record {
-            place,
-            tlv: _,
-            record: _,
-            consumed: _,
-            rest: _,
-        } => AshlarFound { place, refusal: 0 },
-        Found::List {
-            place,
-            tlv: _,
-            entries: _,
-            consumed: _,
-            rest: _,
-        } => AshlarFound { place, refusal: 0 },
-        Found::Refused(refusal) => nothing_found(refusal),
+    match placed {
+        Placed::At(place) => AshlarFound { place, refusal: 0 },
+        Placed::Refused(refusal) => AshlarFound {
+            place: 0,
+            refusal: numbers::number_of(refusal),
+        },
     }
 }
 
 // The place of the first readable record of the kind with this code, at the place `from` of the list or behind it.
 #[no_mangle]
 pub extern "C" fn ashlar_find(list: &[Tlv], payload: &[u8], code: u8, from: usize) -> AshlarFound
-    ensures { λ r. ⌜ r ≡ foundNumbers (findFrom code (now (list .entry)) (now (payload .entry)) from) ⌝ }
+    ensures { λ r. ⌜ r ≡ foundNumbers (placeIn (findFrom code (now (list .entry)) (now (payload .entry)) from)) ⌝ }
 {
-    let found = finding::find(list, payload, code, from);
-    found_numbers(found)
+    let placed = finding::find_place(list, payload, code, from);
+    found_numbers(placed)
 }
 
 // A table that holds nothing.

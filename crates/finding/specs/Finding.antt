@@ -16,6 +16,8 @@ use Rattle.walking.specs.declared.Tlv.{Tlv}
 use Rattle.walking.specs.Walk.{walkOf}
 use Rattle.finding.specs.declared.Found.{Found}
 use Rattle.finding.specs.declared.Found.the-variants as Found
+use Rattle.finding.specs.declared.Placed.{Placed}
+use Rattle.finding.specs.declared.Placed.the-variants as Placed
 use Rattle.finding.specs.declared.Searched.{Searched}
 use Rattle.finding.specs.declared.Searched.the-variants as Searched
 
@@ -62,6 +64,15 @@ firstOf code payload place (t ∷ ts) = thereOr (readsAs code payload t) place t
 -- the first record of the kind at place `from` of the list or behind it: "Order elsewhere: 16, then" the rest
 unfoldable pub findFrom : ℕ → List Tlv → List ℕ → ℕ → Answer Hit
 findFrom code tlvs payload from = cond (isKind code) (firstOf code payload from (drop from tlvs)) (refuses 16 [])
+
+-- the place alone
+abbrev pub placedOf : Placed → Answer ℕ
+placedOf (Placed.At i) = gives i
+placedOf (Placed.Refused r) = told r
+
+abbrev pub placeIn : Answer Hit → Answer ℕ
+placeIn (gives h) = gives (h .place)
+placeIn (refuses n vs) = refuses n vs
 
 -- the same over the TLVs of a payload: 16, then the walk's refusal with its offset
 abbrev pub searchedOf : Searched → Answer Hit
