@@ -3,8 +3,8 @@ use mathlib.Core.Path.{_≡_, sym, _∙_}
 use mathlib.Core.List.{List}
 use Prim.Native.Nat.{ℕ}
 use Rattle.table.specs.declared.Table.{Table}
-use Rattle.table.specs.declared.Arrival.{Arrival}
-use Rattle.table.specs.Push.{Way}
+use Rattle.pushing.specs.declared.Arrival.{Arrival}
+use Rattle.pushing.specs.Push.{Way}
 use Rattle.ashlar.specs.declared.AshlarPushed.{AshlarPushed}
 use Rattle.ashlar.specs.Numbers.{Numbered}
 

@@ -6,8 +6,8 @@ use Prim.Native.Nat.{ℕ}
 use lib.Dec.{leb}
 use lib.ListN.{length, take}
 use Rattle.numbers.specs.Numbers.{Answer, gives, refuses}
-use Rattle.table.specs.Push.{Heard, waiting, duplicated, inconsistent, missing, missingLast, single, joined}
-use Rattle.table.specs.Show.{startOf, shown}
+use Rattle.pushing.specs.Push.{Heard, waiting, duplicated, inconsistent, missing, missingLast, single, joined}
+use Rattle.pushing.specs.Show.{startOf, shown}
 use Rattle.ashlar.specs.declared.AshlarShown.{AshlarShown}
 use Rattle.ashlar.specs.Numbers.{pushNumbers, withinOf, shownIn}
 

@@ -8,8 +8,8 @@ use lib.ListN.{length, getD}
 use Rattle.numbers.specs.Numbers.{Answer, gives, refuses}
 use Rattle.kinds.specs.Kinds.{Held, one, list, Typed}
 use Rattle.table.specs.declared.Table.{Table}
-use Rattle.table.specs.declared.Arrival.{Arrival}
-use Rattle.table.specs.Push.{Heard, waiting, duplicated, inconsistent, missing, missingLast, single, joined, Way, answerBy, tableBy, storeBy, outputBy}
+use Rattle.pushing.specs.declared.Arrival.{Arrival}
+use Rattle.pushing.specs.Push.{Heard, waiting, duplicated, inconsistent, missing, missingLast, single, joined, Way, answerBy, tableBy, storeBy, outputBy}
 use Rattle.ashlar.specs.declared.AshlarWalk.{AshlarWalk}
 use Rattle.ashlar.specs.declared.AshlarKind.{AshlarKind}
 use Rattle.ashlar.specs.declared.AshlarFound.{AshlarFound}

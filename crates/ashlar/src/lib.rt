@@ -1,9 +1,9 @@
 // The hot calls for C: each is a thin shell over the layer's own call, and gives its answer in document 01's numbers. `refusal` is 0 where nothing is refused.
 use finding::Placed;
 use kinds::KindSize;
-use table::Arrival;
-use table::Counts;
-use table::Pushed;
+use pushing::Arrival;
+use pushing::Pushed;
+use sweeping::Counts;
 use table::Table;
 use walking::Tlv;
 use walking::Walked;
@@ -13,9 +13,9 @@ ghost use Rattle.kinds.specs.Kinds.{readKind};
 ghost use Rattle.finding.specs.Finding.{placedOf, placeIn, findFrom};
 ghost use Rattle.table.specs.Rows.{freshTable};
 ghost use lib.ListN.{length};
-ghost use Rattle.table.specs.Push.{pushedOf, way};
-ghost use Rattle.table.specs.Sweep.{swept, sweptAs};
-ghost use Rattle.table.specs.Made.{Made};
+ghost use Rattle.pushing.specs.Push.{pushedOf, way};
+ghost use Rattle.sweeping.specs.Sweep.{swept, sweptAs};
+ghost use Rattle.pushing.specs.Made.{Made};
 ghost use Rattle.ashlar.specs.Numbers.{walkNumbers, kindNumbers, foundNumbers, namedAs, pushNumbers, withinOf, shownIn, Numbered};
 
 // How many TLVs a payload has; where one is refused, its offset.
@@ -197,7 +197,7 @@ fn push_coded(t: Table, store: &mut [u8], out: &mut [u8], a: Arrival, payload: &
     requires { ⌜ Made t ⌝ }
     ensures { λ r. ⌜ Numbered (way t (now (store .entry)) a (now (payload .entry)) (length (now (out .entry)))) t (now (store .entry)) (now (out .entry)) a (now (payload .entry)) (r .answer) (r .table) (now (store .exit)) (now (out .exit)) ⌝ }
 {
-    let s = table::push_step(t, store, out, a, payload);
+    let s = pushing::push_step(t, store, out, a, payload);
     let table = s.table;
     let pushed = s.answer;
     Coded {
@@ -258,7 +258,7 @@ pub extern "C" fn ashlar_show(pushed: AshlarPushed, payload: &[u8], out: &[u8]) 
 pub extern "C" fn ashlar_sweep(t: &mut Table, time: u64) -> Counts
     ensures { λ r. ⌜ sweptAs (now (t .exit)) r ≡ swept (now (t .entry)) time ⌝ }
 {
-    let s = table::sweep_step(*t, time);
+    let s = sweeping::sweep_step(*t, time);
     *t = s.table;
     s.counts
 }

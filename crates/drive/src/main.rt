@@ -6,7 +6,7 @@ use table::Table;
 use words::parse;
 use words::show;
 ghost use Prim.Native.Nat.{_≤_};
-ghost use Rattle.table.specs.Made.{Made};
+ghost use Rattle.pushing.specs.Made.{Made};
 
 // The table, where the text of answers ends, what of the input is still to be answered, from `at` to `have`, and whether it has ended and all is done.
 struct State {

@@ -14,7 +14,7 @@ use Rattle.records.specs.declared.AssociationState.{AssociationState}
 use Rattle.records.specs.declared.MultiApProfile.{MultiApProfile}
 use Rattle.records.specs.declared.ByteCounterUnits.{ByteCounterUnits}
 use Rattle.kinds.specs.Kinds.{one, readKind}
-use Rattle.table.specs.Push.{waiting, joined as joinedAs, missing}
+use Rattle.pushing.specs.Push.{waiting, joined as joinedAs, missing}
 use Rattle.orders.specs.Runs.{Push, push, sweep, pushed, counted as swept, after, tells, start, holding, holdsNothing, toldOf}
 use Rattle.orders.specs.Shares.{noneDropped}
 

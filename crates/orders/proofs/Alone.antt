@@ -7,15 +7,16 @@ use native.Mathlib.Omega.{arith}
 use lib.Dec.{eqb}
 use borrow.Author.Tests.{eqb-true, eqb-false, eq-eqb, ne-eqb, not-false}
 use Rattle.table.specs.declared.Table.{Table}
-use Rattle.table.specs.declared.ages.Tally.{Tally}
+use Rattle.sweeping.specs.declared.ages.Tally.{Tally}
 use Rattle.table.specs.Rows.{ownerOf, freshTable, placeAt, rowOf, isSpare, lowestFree, isFree}
-use Rattle.table.specs.Joining.{never, since}
-use Rattle.table.specs.Push.{Way, refuse, replace, keepAt, openAt, end}
-use Rattle.table.specs.Sweep.{tally}
+use Rattle.pushing.specs.Joining.{never, since}
+use Rattle.pushing.specs.Push.{Way, refuse, replace, keepAt, openAt, end}
+use Rattle.sweeping.specs.Sweep.{tally}
 use Rattle.table.proofs.Search.{lowest-holds, lowest-before}
-use Rattle.table.proofs.Ways.{Went, went, went-refuse, went-replace, went-keep, went-open, went-end}
-use Rattle.table.proofs.Sweeping.{tally-none}
-use Rattle.table.proofs.Sound.{Sound, sound}
+use Rattle.pushing.proofs.Ways.{Went, went, went-refuse, went-replace, went-keep, went-open, went-end}
+use Rattle.sweeping.proofs.Sweeping.{tally-none}
+use Rattle.table.proofs.Sound.{Sound}
+use Rattle.pushing.proofs.Sound.{sound}
 use Rattle.orders.specs.Runs.{State, Push, Call, push, sweep, finishedBy, part, wayOf, after, tells, isAccepted, isOwn, isSweep, concerns, start, Holding, holding, holdsNothing}
 use Rattle.orders.specs.Shares.{due, tallyOf}
 use Rattle.table.proofs.Places.{all-same}

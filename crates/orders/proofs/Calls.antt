@@ -8,12 +8,12 @@ use lib.Seq.{take-at}
 use borrow.Author.Tests.{le-leb}
 use Rattle.numbers.specs.Numbers.{Answer}
 use Rattle.table.specs.declared.Table.{Table}
-use Rattle.table.specs.declared.Counts.{Counts}
-use Rattle.table.specs.declared.Swept.{Swept}
-use Rattle.table.specs.declared.Pushed.{Pushed}
-use Rattle.table.specs.Push.{Heard, pushedOf, way, Goes, Way, refuse, replace, keepAt, openAt, end, inconsistentEnd, missingEnd, missingLastEnd, singleEnd, joinedEnd, outputBy, answerBy, over}
-use Rattle.table.specs.Sweep.{swept, sweptAs}
-use Rattle.table.specs.Show.{startOf, shown}
+use Rattle.sweeping.specs.declared.Counts.{Counts}
+use Rattle.sweeping.specs.declared.Swept.{Swept}
+use Rattle.pushing.specs.declared.Pushed.{Pushed}
+use Rattle.pushing.specs.Push.{Heard, pushedOf, way, Goes, Way, refuse, replace, keepAt, openAt, end, inconsistentEnd, missingEnd, missingLastEnd, singleEnd, joinedEnd, outputBy, answerBy, over}
+use Rattle.sweeping.specs.Sweep.{swept, sweptAs}
+use Rattle.pushing.specs.Show.{startOf, shown}
 use Rattle.orders.specs.Runs.{State, Push, push, sweep, pushed, counted, finishedBy, part, wayOf, after, tells}
 
 start-over : (bytes out : List ℕ) → startOf (length bytes) (over bytes out) ≡ bytes

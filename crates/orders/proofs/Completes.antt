@@ -9,14 +9,15 @@ use lib.ListN.{length}
 use borrow.Author.Tests.{eqb-true, eqb-false, eq-eqb, ne-eqb, ltb-true, not-true}
 use Rattle.numbers.specs.Numbers.{gives}
 use Rattle.table.specs.declared.Table.{Table}
-use Rattle.table.specs.declared.ages.Tally.{Tally}
+use Rattle.sweeping.specs.declared.ages.Tally.{Tally}
 use Rattle.table.specs.Search.{lowest}
 use Rattle.table.specs.Rows.{freshTable, rowOf, spareRow, lowestFree, withKey, withPlace}
-use Rattle.table.specs.Joining.{Held, Kept, nothing, kept, Fragments, andNew, Since, never, since}
-use Rattle.table.specs.Push.{Way, keepAt, waiting, placeFor, tableBy, answerBy}
-use Rattle.table.specs.Made.{Made, byFresh}
-use Rattle.table.proofs.Ways.{Went, went, went-refuse, went-replace, went-keep, went-open, went-end}
-use Rattle.table.proofs.Sound.{Sound, sound, fresh-sound}
+use Rattle.pushing.specs.Joining.{Held, Kept, nothing, kept, Fragments, andNew, Since, never, since}
+use Rattle.pushing.specs.Push.{Way, keepAt, waiting, placeFor, tableBy, answerBy}
+use Rattle.pushing.specs.Made.{Made, byFresh}
+use Rattle.pushing.proofs.Ways.{Went, went, went-refuse, went-replace, went-keep, went-open, went-end}
+use Rattle.table.proofs.Sound.{Sound, fresh-sound}
+use Rattle.pushing.proofs.Sound.{sound}
 use Rattle.orders.specs.Machine.{those, remaining, every}
 use Rattle.orders.specs.Runs.{State, Push, Call, push, Told, pushed, finishedBy, part, wayOf, after, tells, hasRoom, isOwn, isSweep, concerns, start, Holding, holding, holdsNothing, mine, crossed, toldOf, toldOfAccepted}
 use Rattle.orders.specs.Shares.{andKept, tallyOf, isIn, distinct}

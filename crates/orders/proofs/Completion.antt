@@ -9,10 +9,10 @@ use lib.ListN.{length}
 use lib.Seq.{take-length}
 use borrow.Author.Tests.{eqb-true, eqb-false, eq-eqb, ne-eqb, ltb-true, ltb-false, lt-ltb, le-ltb, le-leb}
 use Rattle.numbers.specs.Numbers.{gives}
-use Rattle.table.specs.Joining.{Held, nothing, kept, heldOf, isKept, Joining, message}
-use Rattle.table.specs.Push.{Way, keepAt, end, singleEnd, joinedEnd, lastWay, single, joined, answerBy}
-use Rattle.table.specs.Show.{startOf}
-use Rattle.table.proofs.Ways.{last-single, last-joined}
+use Rattle.pushing.specs.Joining.{Held, nothing, kept, heldOf, isKept, Joining, message}
+use Rattle.pushing.specs.Push.{Way, keepAt, end, singleEnd, joinedEnd, lastWay, single, joined, answerBy}
+use Rattle.pushing.specs.Show.{startOf}
+use Rattle.pushing.proofs.Ways.{last-single, last-joined}
 use Rattle.orders.specs.Runs.{Push, push, pushed, finishedBy, Holding, holdsNothing}
 use Rattle.orders.specs.Messages.{Message, pieces, whole, Brings, completed}
 use Rattle.orders.proofs.Telling.{ownJoining, ownWay, own-keep, own-last, byOwn, withNew, tell, answer}

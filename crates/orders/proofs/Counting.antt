@@ -7,13 +7,14 @@ use native.Mathlib.Omega.{arith}
 use lib.Dec.{eqb, ltb}
 use borrow.Author.Tests.{ltb-true, ltb-false, lt-ltb, le-ltb, eqb-true, eqb-false, eq-eqb, ne-eqb}
 use Rattle.table.specs.declared.Table.{Table}
-use Rattle.table.specs.declared.Counts.{Counts}
-use Rattle.table.specs.declared.Swept.{Swept}
-use Rattle.table.specs.declared.ages.Tally.{Tally}
+use Rattle.sweeping.specs.declared.Counts.{Counts}
+use Rattle.sweeping.specs.declared.Swept.{Swept}
+use Rattle.sweeping.specs.declared.ages.Tally.{Tally}
 use Rattle.table.specs.Rows.{Place, ownerOf, placeAt, rowOf, without}
-use Rattle.table.specs.Joining.{heldIn, never, since}
-use Rattle.table.specs.Sweep.{expired, tallied, tally, lackOf, counted, sweptRow, sweptRows, swept}
-use Rattle.table.proofs.Sound.{Sound, row-holds, sweep-sound}
+use Rattle.pushing.specs.Joining.{heldIn, never, since}
+use Rattle.sweeping.specs.Sweep.{expired, tallied, tally, lackOf, counted, sweptRow, sweptRows, swept}
+use Rattle.table.proofs.Sound.{Sound, row-holds}
+use Rattle.sweeping.proofs.Sound.{sweep-sound}
 use Rattle.orders.specs.Runs.{State, Holding, holding, holdsNothing}
 use Rattle.orders.specs.Shares.{tallyOf, noneDropped, share, plus, total, isIn, distinct}
 use Rattle.table.proofs.Places.{after-drop}

@@ -9,13 +9,13 @@ use lib.ListN.{length, drop, length-append, take-append-drop}
 use lib.Seq.{paste, length-paste}
 use borrow.Author.Tests.{ltb-true, ltb-false, lt-ltb}
 use Rattle.table.specs.declared.Table.{Table}
-use Rattle.table.specs.declared.Arrival.{Arrival}
+use Rattle.pushing.specs.declared.Arrival.{Arrival}
 use Rattle.table.specs.Rows.{ownerOf, placeAt, rowOf}
-use Rattle.table.specs.Joining.{Kept, kept, heldOf, heldBy, Since, firstTime}
-use Rattle.table.specs.Push.{Way, refuse, replace, keepAt, openAt, end, tableBy, storeBy}
-use Rattle.table.proofs.Apart.{push-untouched}
-use Rattle.table.proofs.Own.{absent-since, heldAfter, sinceAfter, push-told}
-use Rattle.table.proofs.Ways.{way-11, Went, went, went-refuse, went-replace, went-keep, went-open, went-end}
+use Rattle.pushing.specs.Joining.{Kept, kept, heldOf, heldBy, Since, firstTime}
+use Rattle.pushing.specs.Push.{Way, refuse, replace, keepAt, openAt, end, tableBy, storeBy}
+use Rattle.pushing.proofs.Apart.{push-untouched}
+use Rattle.pushing.proofs.Own.{absent-since, heldAfter, sinceAfter, push-told}
+use Rattle.pushing.proofs.Ways.{way-11, Went, went, went-refuse, went-replace, went-keep, went-open, went-end}
 use Rattle.table.proofs.Sound.{Sound, used-row, place-holds}
 use Rattle.orders.specs.Runs.{State, Push, part, wayOf, afterWay, Holding, holding}
 use Rattle.orders.proofs.Holdings.{holding-same, held-front}

@@ -10,11 +10,12 @@ use borrow.Author.Tests.{eqb-true, eqb-false, eq-eqb, ne-eqb, le-leb, lt-leb, lt
 use Rattle.numbers.specs.Numbers.{gives}
 use Rattle.table.specs.Search.{lowest}
 use Rattle.table.specs.Rows.{freshTable}
-use Rattle.table.specs.Joining.{Held, nothing, kept, Fragments, heldOf, isKept, unlike, inconsistentWith, andNew, Joining, missingFragments, joining}
-use Rattle.table.specs.Push.{Way, end, missingEnd, lastWay, waiting, missing, joined, answerBy}
-use Rattle.table.specs.Sweep.{noneMarkedLast, lackOf}
-use Rattle.table.proofs.Sweeping.{lack-mark}
-use Rattle.table.proofs.Sound.{fresh-sound, sound}
+use Rattle.pushing.specs.Joining.{Held, nothing, kept, Fragments, heldOf, isKept, unlike, inconsistentWith, andNew, Joining, missingFragments, joining}
+use Rattle.pushing.specs.Push.{Way, end, missingEnd, lastWay, waiting, missing, joined, answerBy}
+use Rattle.sweeping.specs.Sweep.{noneMarkedLast, lackOf}
+use Rattle.sweeping.proofs.Sweeping.{lack-mark}
+use Rattle.table.proofs.Sound.{fresh-sound}
+use Rattle.pushing.proofs.Sound.{sound}
 use Rattle.orders.specs.Runs.{State, Push, push, sweep, pushed, counted, finishedBy, after, tells, hasRoom, start, Holding, holding, holdsNothing, toldOf}
 use Rattle.orders.specs.Shares.{due, andOne, tallyOf, noneDropped, share, total, isIn, distinct}
 use Rattle.orders.specs.Messages.{Message, pieces, Brings, Ordering}

@@ -10,11 +10,11 @@ use lib.Seq.{take-append-le, drop-append-le}
 use borrow.Author.Tests.{ltb-true, ltb-false, lt-ltb}
 use Rattle.table.specs.declared.Table.{Table}
 use Rattle.table.specs.Rows.{Place, placeAt, rowOf, placeOf, bytesAt}
-use Rattle.table.specs.Joining.{Held, kept, keptAt, heldIn, since, firstTime}
+use Rattle.pushing.specs.Joining.{Held, kept, keptAt, heldIn, since, firstTime}
 use Rattle.orders.specs.Runs.{State, holding, holdsNothing}
-use Rattle.table.proofs.Pieces.{kept-in, kept-out}
-use Rattle.table.proofs.Apart.{Untouched}
-use Rattle.table.proofs.Own as O
+use Rattle.pushing.proofs.Pieces.{kept-in, kept-out}
+use Rattle.pushing.proofs.Apart.{Untouched}
+use Rattle.pushing.proofs.Own as O
 use Rattle.table.proofs.Sound.{Sound, used-row}
 use Rattle.orders.proofs.Rows.{isUsed, codeAt, firstAt}
 use Rattle.orders.proofs.Lookups.{row-is}

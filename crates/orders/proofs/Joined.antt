@@ -7,9 +7,9 @@ use native.Mathlib.Omega.{arith}
 use lib.Dec.{ltb}
 use borrow.Author.Tests.{ltb-true, ltb-false, lt-ltb, le-ltb, eq-eqb}
 use Rattle.table.specs.Search.{lowest, some}
-use Rattle.table.specs.Joining.{Held, Kept, nothing, kept, Fragments, isKept, isLast, unlike, inconsistentWith, reach, gapped, payloads, missingFragments, message, joining}
+use Rattle.pushing.specs.Joining.{Held, Kept, nothing, kept, Fragments, isKept, isLast, unlike, inconsistentWith, reach, gapped, payloads, missingFragments, message, joining}
 use Rattle.table.proofs.Search.{lowest-before, lowest-is, lowest-none}
-use Rattle.table.proofs.Pieces.{some-at}
+use Rattle.pushing.proofs.Pieces.{some-at}
 use Rattle.orders.specs.Messages.{pieces}
 
 pub none-passes : (test : ℕ → Bool) (n : ℕ) → ((k : ℕ) → k < n → test k ≡ false) → some test n ≡ false

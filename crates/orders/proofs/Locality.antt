@@ -6,10 +6,11 @@ use Prim.Native.Nat.{ℕ}
 use lib.Dec.{eqb}
 use lib.ListN.{length, take-append-drop}
 use borrow.Author.Tests.{eqb-true, eqb-false, not-false}
-use Rattle.table.specs.Push.{Way, refuse, replace, keepAt, openAt, end, answerBy}
-use Rattle.table.specs.Made.{byFresh, byPush, bySweep}
-use Rattle.table.proofs.Ways.{went}
-use Rattle.table.proofs.Sound.{Sound, sound}
+use Rattle.pushing.specs.Push.{Way, refuse, replace, keepAt, openAt, end, answerBy}
+use Rattle.pushing.specs.Made.{byFresh, byPush, bySweep}
+use Rattle.pushing.proofs.Ways.{went}
+use Rattle.table.proofs.Sound.{Sound}
+use Rattle.pushing.proofs.Sound.{sound}
 use Rattle.orders.specs.Runs.{State, Push, Call, push, sweep, pushed, finishedBy, part, wayOf, afterWay, after, tells, refusedBy, isAccepted, hasRoom, isOwn, isSweep, concerns, start, holding, forRoom}
 use Rattle.orders.proofs.Telling.{refusedWay, refused-is, ownWay, byOwn, tell, answer}
 use Rattle.orders.proofs.Pushing.{Good, roomBy, same-answer, same-finished, way-shape}

@@ -7,9 +7,10 @@ use lib.Dec.{eqb}
 use lib.ListN.{length}
 use native.Mathlib.Omega.{arith}
 use borrow.Author.Tests.{eqb-true, eqb-false, ne-eqb}
-use Rattle.table.specs.Sweep.{swept}
-use Rattle.table.specs.Made.{Made}
-use Rattle.table.proofs.Sound.{sound, fresh-sound}
+use Rattle.sweeping.specs.Sweep.{swept}
+use Rattle.pushing.specs.Made.{Made}
+use Rattle.table.proofs.Sound.{fresh-sound}
+use Rattle.pushing.proofs.Sound.{sound}
 use Rattle.orders.specs.Machine.{those, run, remaining}
 use Rattle.orders.specs.Runs.{State, Push, Call, push, sweep, counted, after, tells, isAccepted, hasRoom, isOwn, isSweep, concerns, mine, start, Holding, holding, ends, neverFull, holdsNothing, crossed}
 use Rattle.orders.specs.Shares.{due, share, total, isIn, distinct}

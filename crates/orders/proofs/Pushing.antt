@@ -7,13 +7,14 @@ use lib.Dec.{ltb, leb}
 use lib.ListN.{length, take, drop, length-take, take-append-drop}
 use borrow.Author.Tests.{leb-true, leb-false, ltb-true, ltb-false, le-ltb}
 use Rattle.table.specs.declared.Table.{Table}
-use Rattle.table.specs.declared.Arrival.{Arrival}
+use Rattle.pushing.specs.declared.Arrival.{Arrival}
 use Rattle.table.specs.Rows.{rowOf, spareRow, placeOf, lowestFree}
-use Rattle.table.specs.Joining.{Fragments, Joining, inconsistentMetadata, missingFragments, missingLastFragment, message, isKept, heldOf, heldIn, andNew, joining}
-use Rattle.table.specs.Push.{Way, refuse, replace, keepAt, openAt, end, singleEnd, joinedEnd, lastWay, keepWay, joinedWith, answerBy}
-use Rattle.table.specs.Made.{Made}
-use Rattle.table.proofs.Ways.{keep-full, keep-there, keep-keys, keep-new, way-11, way-12, way-replace, way-last, way-keep}
-use Rattle.table.proofs.Sound.{Sound, sound}
+use Rattle.pushing.specs.Joining.{Fragments, Joining, inconsistentMetadata, missingFragments, missingLastFragment, message, isKept, heldOf, heldIn, andNew, joining}
+use Rattle.pushing.specs.Push.{Way, refuse, replace, keepAt, openAt, end, singleEnd, joinedEnd, lastWay, keepWay, joinedWith, answerBy}
+use Rattle.pushing.specs.Made.{Made}
+use Rattle.pushing.proofs.Ways.{keep-full, keep-there, keep-keys, keep-new, way-11, way-12, way-replace, way-last, way-keep}
+use Rattle.table.proofs.Sound.{Sound}
+use Rattle.pushing.proofs.Sound.{sound}
 use Rattle.orders.specs.Runs.{State, Push, finishedBy, part, wayOf, Holding, holding, forRoom}
 use Rattle.orders.proofs.Holdings.{held-front}
 use Rattle.orders.proofs.Lookups.{kept-there}

@@ -7,11 +7,11 @@ use native.Mathlib.Omega.{arith}
 use lib.Dec.{eqb}
 use borrow.Author.Tests.{eqb-true, eqb-false, eq-eqb, ne-eqb}
 use Rattle.table.specs.declared.Table.{Table}
-use Rattle.table.specs.declared.ages.Tally.{Tally}
+use Rattle.sweeping.specs.declared.ages.Tally.{Tally}
 use Rattle.table.specs.Rows.{ownerOf, placeAt, bytesAt}
-use Rattle.table.specs.Joining.{Held, Kept, nothing, kept, Fragments, heldIn, andNew}
-use Rattle.table.specs.Sweep.{tally}
-use Rattle.table.proofs.Pieces.{kept-in}
+use Rattle.pushing.specs.Joining.{Held, Kept, nothing, kept, Fragments, heldIn, andNew}
+use Rattle.sweeping.specs.Sweep.{tally}
+use Rattle.pushing.proofs.Pieces.{kept-in}
 use Rattle.table.proofs.Sound.{Sound}
 use Rattle.orders.specs.Shares.{andOne, andKept, tallyOf}
 use Rattle.orders.proofs.Lookups.{held-cases}

@@ -6,8 +6,8 @@ use Prim.Native.Nat.{ℕ, min, _≤_, _<_}
 use lib.Dec.{ltb}
 use lib.ListN.{length}
 use borrow.Author.Tests.{lt-ltb, le-ltb}
-use Rattle.table.specs.Joining.{Since, never, since, isKept, heldOf, andNew, Joining, joining}
-use Rattle.table.specs.Push.{Way, refuse, replace, keepAt, openAt, end, inconsistentEnd, missingEnd, missingLastEnd, singleEnd, joinedEnd, lastWay, answerBy}
+use Rattle.pushing.specs.Joining.{Since, never, since, isKept, heldOf, andNew, Joining, joining}
+use Rattle.pushing.specs.Push.{Way, refuse, replace, keepAt, openAt, end, inconsistentEnd, missingEnd, missingLastEnd, singleEnd, joinedEnd, lastWay, answerBy}
 use Rattle.orders.specs.Runs.{Push, Call, push, sweep, Told, pushed, counted, finishedBy, refusedBy, Holding, holdsNothing}
 use Rattle.orders.specs.Shares.{due, noneDropped}
 

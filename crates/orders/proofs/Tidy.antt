@@ -8,13 +8,15 @@ use lib.Dec.{ltb}
 use lib.ListN.{length}
 use borrow.Author.Tests.{ltb-true}
 use Rattle.table.specs.declared.Table.{Table}
-use Rattle.table.specs.declared.Arrival.{Arrival}
+use Rattle.pushing.specs.declared.Arrival.{Arrival}
 use Rattle.table.specs.Rows.{Place, ownerOf, freePlace, freshTable, placeAt, rowOf, withKey, withPlace, without}
-use Rattle.table.specs.Push.{Way, placeFor, tableBy}
-use Rattle.table.specs.Sweep.{expired, tally, lackOf, counted, sweptRow, sweptRows}
-use Rattle.table.specs.Made.{Made, byFresh, byPush, bySweep}
-use Rattle.table.proofs.Ways.{Went, went, went-refuse, went-replace, went-keep, went-open, went-end}
-use Rattle.table.proofs.Sound.{Sound, sound, open-sound, sweep-sound}
+use Rattle.pushing.specs.Push.{Way, placeFor, tableBy}
+use Rattle.sweeping.specs.Sweep.{expired, tally, lackOf, counted, sweptRow, sweptRows}
+use Rattle.pushing.specs.Made.{Made, byFresh, byPush, bySweep}
+use Rattle.pushing.proofs.Ways.{Went, went, went-refuse, went-replace, went-keep, went-open, went-end}
+use Rattle.table.proofs.Sound.{Sound, open-sound}
+use Rattle.sweeping.proofs.Sound.{sweep-sound}
+use Rattle.pushing.proofs.Sound.{sound}
 use Rattle.table.proofs.Places.{all-same, fresh-place, after-put, after-drop}
 use Rattle.orders.proofs.Rows.{isUsed, codeAt, firstAt, opened-used, opened-code, opened-first, dropped-used, dropped-code, dropped-first}
 

@@ -6,8 +6,8 @@ use Prim.Native.Nat.{ℕ}
 use native.Mathlib.Omega.{arith}
 use lib.Dec.{eqb}
 use borrow.Author.Tests.{eqb-true, eqb-false, eq-eqb, not-true}
-use Rattle.table.specs.declared.Counts.{Counts}
-use Rattle.table.specs.Sweep.{Lack, emptyFragments, noneMarkedLast, fewerKept, neitherOf, counted}
+use Rattle.sweeping.specs.declared.Counts.{Counts}
+use Rattle.sweeping.specs.Sweep.{Lack, emptyFragments, noneMarkedLast, fewerKept, neitherOf, counted}
 use Rattle.orders.specs.Shares.{noneDropped, plus, total, isIn, distinct}
 use Rattle.orders.proofs.Lists.{left-true, right-true}
 

@@ -3,7 +3,7 @@ use mathlib.Core.Path.{_≡_}
 use mathlib.Core.List.{List}
 use mathlib.Core.Bool.{true, false}
 use Prim.Native.Nat.{ℕ}
-use Rattle.table.specs.Sweep.{swept}
+use Rattle.sweeping.specs.Sweep.{swept}
 use Rattle.orders.specs.Machine.{every}
 use Rattle.orders.specs.Shares.{share, total}
 use Rattle.orders.specs.Messages.{Message, calls, completing}

@@ -8,7 +8,7 @@ use lib.ListN.{length}
 use Rattle.numbers.specs.Numbers.{gives}
 use Rattle.table.specs.declared.Table.{Table}
 use Rattle.table.specs.Rows.{placeAt, isFree, spareRow}
-use Rattle.table.specs.Push.{Heard, waiting, single, joined}
+use Rattle.pushing.specs.Push.{Heard, waiting, single, joined}
 use Rattle.orders.specs.Runs.{Push, Call, push, Told, pushed}
 use Rattle.orders.specs.Shares.{isIn, distinct}
 

@@ -6,13 +6,13 @@ use lib.Dec.{eqb}
 use lib.ListN.{length, take, drop}
 use Rattle.numbers.specs.Numbers.{Answer, gives, refuses}
 use Rattle.table.specs.declared.Table.{Table}
-use Rattle.table.specs.declared.Arrival.{Arrival}
-use Rattle.table.specs.declared.Counts.{Counts}
+use Rattle.pushing.specs.declared.Arrival.{Arrival}
+use Rattle.sweeping.specs.declared.Counts.{Counts}
 use Rattle.table.specs.Rows.{freshTable}
-use Rattle.table.specs.Joining.{nothing, Fragments, Since, never, heldBy, firstTime}
-use Rattle.table.specs.Push.{Heard, Way, refuse, replace, keepAt, openAt, end, inconsistentEnd, missingEnd, missingLastEnd, singleEnd, joinedEnd, way, tableBy, storeBy, answerBy}
-use Rattle.table.specs.Sweep.{swept}
-use Rattle.table.specs.Show.{startOf}
+use Rattle.pushing.specs.Joining.{nothing, Fragments, Since, never, heldBy, firstTime}
+use Rattle.pushing.specs.Push.{Heard, Way, refuse, replace, keepAt, openAt, end, inconsistentEnd, missingEnd, missingLastEnd, singleEnd, joinedEnd, way, tableBy, storeBy, answerBy}
+use Rattle.sweeping.specs.Sweep.{swept}
+use Rattle.pushing.specs.Show.{startOf}
 use Rattle.orders.specs.Machine.{those, run, remaining, heard, every}
 
 pub record State : Type 0 where

@@ -3,10 +3,10 @@ use mathlib.Core.List.{List, [], _∷_}
 use mathlib.Core.Bool.{Bool, true, false, cond, not, _&&_, _||_}
 use Prim.Native.Nat.{ℕ, zero, suc, max, _+_}
 use lib.Dec.{eqb, leb}
-use Rattle.table.specs.declared.Counts.{Counts}
-use Rattle.table.specs.declared.ages.Tally.{Tally}
-use Rattle.table.specs.Joining.{Kept, nothing, kept, Fragments, Since, never, since}
-use Rattle.table.specs.Sweep.{elapsed, lackOf, counted}
+use Rattle.sweeping.specs.declared.Counts.{Counts}
+use Rattle.sweeping.specs.declared.ages.Tally.{Tally}
+use Rattle.pushing.specs.Joining.{Kept, nothing, kept, Fragments, Since, never, since}
+use Rattle.sweeping.specs.Sweep.{elapsed, lackOf, counted}
 use Rattle.orders.specs.Runs.{Holding}
 
 -- how many fragments, 1 more than the highest number, and if one is marked last: among the numbers below n

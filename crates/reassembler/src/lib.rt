@@ -1,16 +1,16 @@
 // The fragment table as a caller uses it: push and sweep alter the caller's own table, show gives the message of an answer, key_of makes a key.
 
-use table::Arrival;
-use table::Counts;
-use table::Pushed;
+use pushing::Arrival;
+use pushing::Pushed;
+use sweeping::Counts;
 use table::Table;
 ghost use mathlib.Core.Path.{_≡_};
 ghost use mathlib.Core.List.{[], _∷_};
 ghost use lib.ListN.{length};
-ghost use Rattle.table.specs.Push.{pushedOf, way, Goes};
-ghost use Rattle.table.specs.Sweep.{swept, sweptAs};
-ghost use Rattle.table.specs.Show.{shown};
-ghost use Rattle.table.specs.Made.{Made};
+ghost use Rattle.pushing.specs.Push.{pushedOf, way, Goes};
+ghost use Rattle.sweeping.specs.Sweep.{swept, sweptAs};
+ghost use Rattle.pushing.specs.Show.{shown};
+ghost use Rattle.pushing.specs.Made.{Made};
 ghost use Rattle.reassembler.specs.Keys.{keyOf};
 
 // The message of an answer: of a single fragment it is the payload, of others the output's first bytes. The slices are those that push was given.
@@ -53,7 +53,7 @@ pub fn push(t: &mut Table, store: &mut [u8], out: &mut [u8], a: Arrival, payload
     requires { ⌜ Made (now t) ⌝ }
     ensures { λ r. ⌜ Goes (way (now (t .entry)) (now (store .entry)) a (now (payload .entry)) (length (now (out .entry)))) (now (t .entry)) (now (store .entry)) (now (out .entry)) a (now (payload .entry)) r (now (t .exit)) (now (store .exit)) (now (out .exit)) ⌝ }
 {
-    let stepped = table::push_step(*t, store, out, a, payload);
+    let stepped = pushing::push_step(*t, store, out, a, payload);
     *t = stepped.table;
     stepped.answer
 }
@@ -62,7 +62,7 @@ pub fn push(t: &mut Table, store: &mut [u8], out: &mut [u8], a: Arrival, payload
 pub fn sweep(t: &mut Table, time: u64) -> Counts
     ensures { λ r. ⌜ sweptAs (now (t .exit)) r ≡ swept (now (t .entry)) time ⌝ }
 {
-    let swept = table::sweep_step(*t, time);
+    let swept = sweeping::sweep_step(*t, time);
     *t = swept.table;
     swept.counts
 }

@@ -1,15 +1,5 @@
 pub mod Search
-pub mod Byte
 pub mod Wiped
 pub mod Places
-pub mod Ways
-pub mod Sweeping
 pub mod Sound
-pub mod Pieces
-pub mod Ends
-pub mod Changes
 pub mod Firm
-pub mod Apart
-pub mod Calls
-pub mod Own
-pub mod Aged

@@ -1,23 +1,16 @@
--- What holds of every table that the calls made: its lists have their lengths, each place's size and number fit, belong to a row that a key has, and are the only ones with their number there; and no key has two rows.
+-- What holds of every table that the calls make of a fresh one: its lists have their lengths, each place's size and number fit, belong to a row that a key has, and are the only ones with their number there; and no key has two rows.
 use mathlib.Core.Path.{_≡_, refl, sym, ap, _∙_, subst}
-use mathlib.Core.List.{List}
 use mathlib.Core.Bool.{Bool, true, false, cond, _&&_, false≢true}
-use Prim.Native.Nat.{ℕ, zero, suc, _≤_, _<_}
+use Prim.Native.Nat.{ℕ, _≤_, _<_}
 use native.Mathlib.Omega.{arith}
 use lib.Dec.{eqb, ltb}
 use lib.ListN.{length, getD, length-set, length-replicate, List·getD-eq-default}
 use lib.Seq.{getD-set-same, getD-set-other}
-use borrow.Author.Tests.{eqb-true, eq-eqb, ltb-true, ltb-false, not-true}
+use borrow.Author.Tests.{eqb-true, eq-eqb, ltb-true, ltb-false}
 use Rattle.table.specs.declared.Table.{Table}
-use Rattle.table.specs.declared.Arrival.{Arrival}
-use Rattle.table.specs.declared.Swept.{Swept}
-use Rattle.table.specs.Rows.{Place, ownerOf, freePlace, freshTable, placeAt, isRowOf, rowOf, isSpare, isNumbered, placeOf, withKey, withPlace, without}
-use Rattle.table.specs.Push.{Way, tableBy, placeFor, droppedKey}
-use Rattle.table.specs.Sweep.{lackOf, counted, tally, sweptRow, sweptRows, expired}
-use Rattle.table.specs.Made.{Made, byFresh, byPush, bySweep}
+use Rattle.table.specs.Rows.{Place, ownerOf, freePlace, freshTable, placeAt, isRowOf, rowOf, isNumbered, placeOf, withKey, withPlace, without, droppedKey}
 use Rattle.table.proofs.Search.{lowest-holds, lowest-before}
 use Rattle.table.proofs.Places.{Long, fresh-long, put-long, drop-long, all-same, after-set, fresh-place, after-put, after-drop}
-use Rattle.table.proofs.Ways.{Went, went, went-refuse, went-replace, went-keep, went-open, went-end}
 
 pub record Sound (t : Table) : Type 0 where
   pub codes-long : length (t .codes) ≡ 16
@@ -234,48 +227,9 @@ module _ (t : Table) (s : Sound t) (row : ℕ) (in-16 : row < 16) where
         s .keyed r q (sym (dropped-other r a) ∙ e) (sym (dropped-other q b) ∙ f) (sym (dropped-code r a) ∙ g ∙ dropped-code q b);
   }
 
--- what each call keeps
 pub end-sound : (t : Table) → Sound t → (row : ℕ) → Sound (droppedKey t row)
 end-sound t s row = by-row (ltb row 16) refl
   where
     by-row : (b : Bool) → ltb row 16 ≡ b → Sound (cond b (without t row) t)
     by-row true e = drop-sound t s row (ltb-true _ _ e)
     by-row false e = s
-
-push-sound : (t : Table) → Sound t → (store : List ℕ) (a : Arrival) (payload : List ℕ) (room : ℕ) → a .fragment .number < 256 → {w : Way} → Went t store a payload room w → Sound (tableBy w t a (length payload))
-push-sound t s store a payload room byte (went-refuse n values) = s
-push-sound t s store a payload room byte (went-replace i h₁ h₂ e h) =
-    let row = rowOf t (a .key) in
-    let number = a .fragment .number in
-    let holds = place-holds t row number (omega arith) in
-    let own : placeAt t i .owner ≡ ownerOf row = ap (λ (k : ℕ). placeAt t k .owner) e ∙ holds .0 in
-    let its : placeAt t i .number ≡ number = ap (λ (k : ℕ). placeAt t k .number) e ∙ holds .1 in
-    put-sound t s i row h (placeFor row (a .fragment) (length payload)) refl h₂ byte (s .owned i row own) (λ j other f g. other (s .once j i row f own (g ∙ sym its)))
-push-sound t s store a payload room byte (went-keep i h₁ h₂ h₃ l e h k) =
-    let row = rowOf t (a .key) in
-    put-sound t s i row h (placeFor row (a .fragment) (length payload)) refl h₂ byte (row-holds t (a .key) k .0) (λ j other f g. not-held t s row (a .fragment .number) h₃ j f g)
-push-sound t s store a payload room byte (went-open i row h₁ h₂ h₃ l e h k e₂ h₄) =
-    let t′ = withKey t row (a .key) (a .time) in
-    let s′ = open-sound t s row (a .key) (a .time) h₄ k in
-    let was-spare : getD (t .used) row false ≡ false = ap (λ (r : ℕ). getD (t .used) r false) e₂ ∙ not-true _ (lowest-holds (isSpare t) 16 (omega arith)) in
-    put-sound t′ s′ i row h (placeFor row (a .fragment) (length payload)) refl h₂ byte (getD-set-same (t .used) row true false (omega (arith, s .used-long)))
-    (λ j other f g. false≢true (sym was-spare ∙ s .owned j row f))
-push-sound t s store a payload room byte (went-end ending h₁ h₂ h₃ l e) = end-sound t s (rowOf t (a .key))
-
-sweep-row-sound : (time row : ℕ) → row < 16 → (z : Swept) → Sound (z .table) → Sound (sweptRow time row z .table)
-unfolding sweptRow
-sweep-row-sound time row h z s = by-age (expired (z .table) time row)
-  where
-    by-age : (b : Bool) → Sound (cond b (record { table = without (z .table) row; counts = counted (lackOf (tally (z .table) row 32)) (z .counts) }) z .table)
-    by-age true = drop-sound (z .table) s row h
-    by-age false = s
-
-pub sweep-sound : (t : Table) → Sound t → (time n : ℕ) → n ≤ 16 → Sound (sweptRows t time n .table)
-unfolding sweptRows
-sweep-sound t s time zero h = s
-sweep-sound t s time (suc n) h = sweep-row-sound time n (omega arith) (sweptRows t time n) (sweep-sound t s time n (omega arith))
-
-pub sound : {t : Table} → Made t → Sound t
-sound byFresh = fresh-sound
-sound (byPush {t} m store a payload room byte) = push-sound t (sound m) store a payload room byte (went t store a payload room)
-sound (bySweep {t} m time) = sweep-sound t (sound m) time 16 (omega arith)

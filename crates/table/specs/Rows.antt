@@ -2,7 +2,7 @@
 use mathlib.Core.List.{List, [], _∷_}
 use mathlib.Core.Bool.{Bool, true, false, cond, not, _&&_}
 use Prim.Native.Nat.{ℕ, _+_, _*_}
-use lib.Dec.{eqb}
+use lib.Dec.{eqb, ltb}
 use lib.ListN.{take, drop, getD, set, replicate}
 use Rattle.table.specs.declared.Table.{Table}
 use Rattle.table.specs.Search.{lowest}
@@ -125,6 +125,10 @@ without t row =
       lasts = wiped (ownerOf row) false (t .owners) (t .lasts);
       used = set (t .used) row false;
     }
+
+-- "the key is dropped", if it is there
+abbrev pub droppedKey : Table → ℕ → Table
+droppedKey t row = cond (ltb row 16) (without t row) t
 
 -- the bytes that place i of the store holds
 abbrev pub bytesAt : List ℕ → ℕ → ℕ → List ℕ

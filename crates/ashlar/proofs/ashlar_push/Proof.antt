@@ -40,17 +40,17 @@ use denote.Triple.Table.{entered, cited}
 use denote.Triple.Walked.{says, needs, Stays, stay-ref, stay-none, stay-none-slice, gave-slice, walkOf, AllGo, goes-none, goes-ref, goes-none-slice, goes-gave-slice, Walks, ends-at, walked, walk-meets}
 use denote.Exit.{yes}
 use Rattle.table.specs.declared.Table.{Table}
-use Rattle.table.specs.declared.Arrival.{Arrival}
+use Rattle.pushing.specs.declared.Arrival.{Arrival}
 use Rattle.ashlar.specs.declared.Coded.{Coded}
-use Rattle.table.specs.Push.{way}
-use Rattle.table.specs.Made.{Made}
+use Rattle.pushing.specs.Push.{way}
+use Rattle.pushing.specs.Made.{Made}
 use Rattle.ashlar.specs.Numbers.{Numbered}
 use Rattle.ashlar.proofs.AshlarPushed as E
 use Rattle.ashlar.proofs.AshlarPushed.Laws as E′
 use Rattle.table.proofs.Table as T
 use Rattle.table.proofs.Table.Laws as T′
-use Rattle.table.proofs.Arrival as P
-use Rattle.table.proofs.Arrival.Laws as P′
+use Rattle.pushing.proofs.Arrival as P
+use Rattle.pushing.proofs.Arrival.Laws as P′
 use Rattle.ashlar.proofs.Coded as S
 use Rattle.ashlar.proofs.Coded.Laws as S′
 use Rattle.ashlar.proofs.push_coded as callee

@@ -1,7 +1,7 @@
 -- `serve` is safe and ends: it counts its turns, and the table stays one that the table's calls made.
 use mathlib.Core.Path.{_≡_}
 use lib.ListN.{length}
-use Rattle.table.specs.Made.{Made}
+use Rattle.pushing.specs.Made.{Made}
 use borrow.Author.Needs.{needs}
 use Rattle.drive.proofs.serve.Statement.{statement}
 use Rattle.drive.proofs.serve.Tie as tie

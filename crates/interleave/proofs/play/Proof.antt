@@ -4,8 +4,8 @@ use Prim.Native.Nat.{_≤_, _-_}
 use borrow.Author.Needs.{needs}
 use native.Mathlib.Omega.{arith}
 use lib.ListN.{length}
-use Rattle.table.specs.Made.{Made}
-use Rattle.table.proofs.Calls.{fresh-made}
+use Rattle.pushing.specs.Made.{Made}
+use Rattle.pushing.proofs.Calls.{fresh-made}
 use Rattle.interleave.proofs.play.Statement.{statement}
 use Rattle.interleave.proofs.play.Tie as tie
 

@@ -1,5 +1,5 @@
 -- `pushed_on` meets its contract: push keeps a table that these calls made.
-use Rattle.table.proofs.Calls.{push-made}
+use Rattle.pushing.proofs.Calls.{push-made}
 use borrow.Author.Needs.{needs}
 use Rattle.interleave.proofs.pushed_on.Statement.{statement}
 use Rattle.interleave.proofs.pushed_on.Tie as tie

@@ -41,22 +41,22 @@ use denote.Triple.Table.{entered, cited}
 use denote.Triple.Walked.{says, needs, Stays, stay-ref, stay-none, stay-none-slice, gave-slice, walkOf, AllGo, goes-none, goes-ref, goes-none-slice, goes-gave-slice, Walks, ends-at, walked, walk-meets}
 use denote.Exit.{yes}
 use Rattle.table.specs.declared.Table.{Table}
-use Rattle.table.specs.declared.Arrival.{Arrival}
-use Rattle.table.specs.declared.Stepped.{Stepped}
-use Rattle.table.specs.Push.{way, Goes}
-use Rattle.table.specs.Made.{Made}
-use Rattle.table.proofs.Pushed as E
-use Rattle.table.proofs.Pushed.Laws as E′
+use Rattle.pushing.specs.declared.Arrival.{Arrival}
+use Rattle.pushing.specs.declared.Stepped.{Stepped}
+use Rattle.pushing.specs.Push.{way, Goes}
+use Rattle.pushing.specs.Made.{Made}
+use Rattle.pushing.proofs.Pushed as E
+use Rattle.pushing.proofs.Pushed.Laws as E′
 use Rattle.table.proofs.Table as T
 use Rattle.table.proofs.Table.Laws as T′
-use Rattle.table.proofs.Arrival as P
-use Rattle.table.proofs.Arrival.Laws as P′
-use Rattle.table.proofs.Stepped as S
-use Rattle.table.proofs.Stepped.Laws as S′
-use Rattle.table.proofs.push_step as callee
-use Rattle.table.proofs.push_step.Symbol as callee-def
-use Rattle.table.proofs.push_step.Symbol.{name as #callee}
-use Rattle.table.proofs.push_step.Met as callee-thm
+use Rattle.pushing.proofs.Arrival as P
+use Rattle.pushing.proofs.Arrival.Laws as P′
+use Rattle.pushing.proofs.Stepped as S
+use Rattle.pushing.proofs.Stepped.Laws as S′
+use Rattle.pushing.proofs.push_step as callee
+use Rattle.pushing.proofs.push_step.Symbol as callee-def
+use Rattle.pushing.proofs.push_step.Symbol.{name as #callee}
+use Rattle.pushing.proofs.push_step.Met as callee-thm
 use Rattle.reassembler.proofs.push.Key.{name as #f}
 use Rattle.reassembler.proofs.push as f
 use Rattle.reassembler.proofs.push.Statement as stated
@@ -204,4 +204,4 @@ push-spec 𝓤 H 𝓜 𝓖 𝓡 =
     entered 𝓤 H (tripleOf 𝓤 H (𝓖 .A) f.signature (f.spec 𝓤 H (𝓖 .A) (𝓜 .mem) (𝓡 .run)))
     (tables 𝓤 H 𝓜 𝓡 code.env .C) (tables 𝓤 H 𝓜 𝓡 code.env .Λ) #f code.function (code.unfolded 𝓤 H 𝓜 𝓡)
     (f-meets 𝓤 H (𝓖 .A) (givenOf 𝓤 H 𝓜 𝓖) (𝓜 .mem) (𝓡 .run) (tablesOf 𝓤 H 𝓜 (tables 𝓤 H 𝓜 𝓡 code.env))
-    (cited 𝓤 H (Callee 𝓤 H (𝓖 .A) (𝓜 .mem) (𝓡 .run)) 𝓜 𝓡 code.env #callee callee-def.routine code.calls-table·push-step (callee-thm.met 𝓤 H 𝓜 𝓖 𝓡)))
+    (cited 𝓤 H (Callee 𝓤 H (𝓖 .A) (𝓜 .mem) (𝓡 .run)) 𝓜 𝓡 code.env #callee callee-def.routine code.calls-pushing·push-step (callee-thm.met 𝓤 H 𝓜 𝓖 𝓡)))

@@ -38,18 +38,18 @@ use denote.Triple.Table.{entered, cited}
 use denote.Triple.Walked.{says, Stays, stay-ref, stay-none, walkOf, AllGo, goes-none, goes-ref, Walks, ends-at, walked, walk-meets}
 use denote.Exit.{yes}
 use Rattle.table.specs.declared.Table.{Table}
-use Rattle.table.specs.declared.Swept.{Swept}
-use Rattle.table.specs.Sweep.{swept}
-use Rattle.table.proofs.Counts as N
-use Rattle.table.proofs.Counts.Laws as N′
+use Rattle.sweeping.specs.declared.Swept.{Swept}
+use Rattle.sweeping.specs.Sweep.{swept}
+use Rattle.sweeping.proofs.Counts as N
+use Rattle.sweeping.proofs.Counts.Laws as N′
 use Rattle.table.proofs.Table as T
 use Rattle.table.proofs.Table.Laws as T′
-use Rattle.table.proofs.Swept as S
-use Rattle.table.proofs.Swept.Laws as S′
-use Rattle.table.proofs.sweep_step as callee
-use Rattle.table.proofs.sweep_step.Symbol as callee-def
-use Rattle.table.proofs.sweep_step.Symbol.{name as #callee}
-use Rattle.table.proofs.sweep_step.Met as callee-thm
+use Rattle.sweeping.proofs.Swept as S
+use Rattle.sweeping.proofs.Swept.Laws as S′
+use Rattle.sweeping.proofs.sweep_step as callee
+use Rattle.sweeping.proofs.sweep_step.Symbol as callee-def
+use Rattle.sweeping.proofs.sweep_step.Symbol.{name as #callee}
+use Rattle.sweeping.proofs.sweep_step.Met as callee-thm
 use Rattle.reassembler.proofs.sweep.Key.{name as #f}
 use Rattle.reassembler.proofs.sweep as f
 use Rattle.reassembler.proofs.sweep.Statement as stated
@@ -161,4 +161,4 @@ sweep-spec 𝓤 H 𝓜 𝓖 𝓡 =
     entered 𝓤 H (tripleOf 𝓤 H (𝓖 .A) f.signature (f.spec 𝓤 H (𝓖 .A) (𝓜 .mem) (𝓡 .run)))
     (tables 𝓤 H 𝓜 𝓡 code.env .C) (tables 𝓤 H 𝓜 𝓡 code.env .Λ) #f code.function (code.unfolded 𝓤 H 𝓜 𝓡)
     (f-meets 𝓤 H (𝓖 .A) (givenOf 𝓤 H 𝓜 𝓖) (𝓜 .mem) (𝓡 .run) (tablesOf 𝓤 H 𝓜 (tables 𝓤 H 𝓜 𝓡 code.env))
-    (cited 𝓤 H (Callee 𝓤 H (𝓖 .A) (𝓜 .mem) (𝓡 .run)) 𝓜 𝓡 code.env #callee callee-def.routine code.calls-table·sweep-step (callee-thm.met 𝓤 H 𝓜 𝓖 𝓡)))
+    (cited 𝓤 H (Callee 𝓤 H (𝓖 .A) (𝓜 .mem) (𝓡 .run)) 𝓜 𝓡 code.env #callee callee-def.routine code.calls-sweeping·sweep-step (callee-thm.met 𝓤 H 𝓜 𝓖 𝓡)))

@@ -1,0 +1,11 @@
+pub mod Byte
+pub mod Ways
+pub mod Sound
+pub mod Pieces
+pub mod Ends
+pub mod Changes
+pub mod Firm
+pub mod Apart
+pub mod Calls
+pub mod Own
+pub mod Aged

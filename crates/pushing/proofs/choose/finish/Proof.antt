@@ -1,0 +1,107 @@
+-- Each verdict is one of the joining rule's words, and each way out is that of `lastWay`.
+use mathlib.Core.Path.{_≡_, refl, sym, ap, _∙_}
+use mathlib.Core.List.{List}
+use Prim.Native.Nat.{ℕ, _≤_}
+use lib.ListN.{length}
+use denote.Ref.{now}
+use Rattle.pushing.specs.declared.Pushed.the-variants.{InconsistentMetadata, MissingFragments, MissingLastFragment}
+use Rattle.pushing.specs.declared.join.Verdict.{Verdict}
+use Rattle.pushing.specs.declared.join.Verdict.the-variants.{Message}
+use Rattle.pushing.specs.Push.{lastWay, inconsistentEnd, missingEnd, missingLastEnd}
+use Rattle.pushing.specs.Leaves.{Places, placesIn, piecesTo, joiningBy, joiningIn}
+use Rattle.pushing.proofs.Pieces.{counted-as, pieces-size}
+use Rattle.pushing.proofs.Ways.{last-inconsistent, last-missing, last-unmarked}
+use Rattle.pushing.proofs.Ends.{ends}
+use borrow.Author.Needs.{needs}
+use Rattle.pushing.proofs.choose.finish.Statement.{statement}
+use Rattle.pushing.proofs.choose.finish.Tie as tie
+
+-- once the verdict is there
+module _ (c : tie.After-judge) where
+  abbrev start : tie.Start
+  start = c .before .before .before .before
+
+  abbrev places : Places
+  places = placesIn (now (start .args .types)) (now (start .args .sizes)) (now (start .args .owners)) (now (start .args .numbers)) (now (start .args .versions)) (now (start .args .lasts))
+
+  abbrev upto : ℕ → List ℕ
+  upto = piecesTo (now (start .args .sizes)) (now (start .args .owners)) (now (start .args .numbers)) (now (start .args .store)) (start .args .row) (start .args .f .number) (now (start .args .payload))
+
+  as-told : (v : Verdict) → c .judge .result ≡ v
+      → lastWay (joiningIn places (now (start .args .store)) (start .args .row) (start .args .f) (now (start .args .payload))) (length (now (start .args .out))) ≡ lastWay (joiningBy v upto) (length (now (start .args .out)))
+  as-told v told = ap (λ (z : Verdict). lastWay (joiningBy z upto) (length (now (start .args .out)))) (sym (c .judge .ensures) ∙ told)
+
+  -- a message's pieces, and their bytes
+  all-of : (n total : ℕ) → c .judge .result ≡ Message n total → (n ≤ 256) × (total ≡ length (upto n))
+  all-of n total told =
+      let counted = counted-as places (start .args .row) (start .args .f) (length (now (start .args .payload))) n total (sym (c .judge .ensures) ∙ told) in
+      (counted .0, counted .1 ∙ sym (pieces-size (now (start .args .sizes)) (now (start .args .owners)) (now (start .args .numbers)) (now (start .args .store)) (start .args .row) (start .args .f .number) (now (start .args .payload)) (start .pre .1) (start .pre .2) n))
+
+judge-requires : tie.Need-judge-requires
+judge-requires c κs = (c .before .before .before .pre .0, c .before .before .before .pre .3, c .before .before .before .pre .1)
+
+enum-told : tie.Need-enum-told
+enum-told c = search needs
+
+ended-requires : tie.Need-ended-requires
+ended-requires c κs = search needs
+
+enum-told-2 : tie.Need-enum-told-2
+enum-told-2 c = search needs
+
+ended-requires-2 : tie.Need-ended-requires-2
+ended-requires-2 c κs = search needs
+
+enum-told-3 : tie.Need-enum-told-3
+enum-told-3 c = search needs
+
+ended-requires-3 : tie.Need-ended-requires-3
+ended-requires-3 c κs = search needs
+
+enum-known-verdict : tie.Need-enum-known-verdict
+enum-known-verdict c = search needs
+
+complete-requires : tie.Need-complete-requires
+complete-requires c κs =
+    let sized = all-of (c .before .before .before .before) (c .before .before .verdict .given .0 .0) (c .before .before .verdict .given .0 .1 .0) (c .before .before .verdict .given .1) in
+    (c .before .before .before .before .before .before .before .before .pre .0, c .before .before .before .before .before .before .before .before .pre .1, c .before .before .before .before .before .before .before .before .pre .2, sized .0, sized .1)
+
+returns : tie.Need-returns
+returns c =
+    let out = now (c .before .before .before .before .before .before .before .args .out) in
+    ends _ inconsistentEnd (as-told (c .before .before .before) _ (c .before .enum-told .given .1) ∙ last-inconsistent (length out)) (c .before .before .before .before .before .before .before .args .row) InconsistentMetadata refl (c .ended .result) (c .ended .ensures) out out refl
+
+returns-2 : tie.Need-returns-2
+returns-2 c =
+    let out = now (c .before .before .before .before .before .before .before .args .out) in
+    ends _ missingEnd (as-told (c .before .before .before) _ (c .before .enum-told2 .given .1) ∙ last-missing (length out)) (c .before .before .before .before .before .before .before .args .row) MissingFragments refl (c .ended2 .result) (c .ended2 .ensures) out out refl
+
+returns-3 : tie.Need-returns-3
+returns-3 c =
+    let out = now (c .before .before .before .before .before .before .before .args .out) in
+    ends _ missingLastEnd (as-told (c .before .before .before) _ (c .before .enum-told3 .given .1) ∙ last-unmarked (length out)) (c .before .before .before .before .before .before .before .args .row) MissingLastFragment refl (c .ended3 .result) (c .ended3 .ensures) out out refl
+
+same-length : tie.Need-same-length
+same-length c = search needs
+
+returns-4 : tie.Need-returns-4
+returns-4 c = rw (as-told (c .before .before .before .before .before .before .before) _ (c .before .before .before .before .before .verdict .given .1)) (c .before .before .complete .ensures)
+
+pub finish-spec : {M : Type 1} → statement M
+finish-spec =
+    tie.close
+    (tie.spec
+    judge-requires
+    enum-told
+    ended-requires
+    enum-told-2
+    ended-requires-2
+    enum-told-3
+    ended-requires-3
+    enum-known-verdict
+    complete-requires
+    returns
+    returns-2
+    returns-3
+    same-length
+    returns-4)

@@ -1,0 +1,122 @@
+-- What the private functions answer, in the words of the other files. No public contract cites this one.
+use mathlib.Core.Path.{_≡_}
+use mathlib.Core.List.{List, [], _++_}
+use mathlib.Core.Bool.{Bool, true, false, cond, not, _&&_}
+use Prim.Native.Nat.{ℕ, zero, suc, _+_, _-_}
+use lib.Dec.{eqb, ltb}
+use lib.ListN.{length, getD}
+use Rattle.table.specs.declared.Table.{Table}
+use Rattle.pushing.specs.declared.Arrival.{Arrival}
+use Rattle.pushing.specs.declared.Fragment.{Fragment}
+use Rattle.pushing.specs.declared.join.Reach.{Reach}
+use Rattle.pushing.specs.declared.join.Verdict.{Verdict}
+use Rattle.pushing.specs.declared.join.Verdict.the-variants.{Inconsistent, Missing, MissingLast, Message}
+use Rattle.pushing.specs.declared.choose.Change.{Change}
+use Rattle.pushing.specs.declared.choose.Change.the-variants.{Stay, PutAt, DropKey}
+use Rattle.pushing.specs.declared.choose.Chosen.{Chosen}
+use Rattle.table.specs.Search.{lowest}
+use Rattle.table.specs.Rows.{ownerOf, bytesAt, withKey}
+use Rattle.pushing.specs.Joining.{Joining, inconsistentMetadata, missingFragments, missingLastFragment, message}
+use Rattle.pushing.specs.Push.{Way, refuse, replace, keepAt, openAt, end, pushedOf, answerBy, outputBy}
+
+-- the look-ups, in the lists that they are lent
+abbrev pub rowIn : List Bool → List ℕ → ℕ → ℕ
+rowIn used codes key = lowest (λ row. getD used row false && eqb (getD codes row 0) key) 16
+
+abbrev pub spareRowIn : List Bool → ℕ
+spareRowIn used = lowest (λ row. not (getD used row false)) 16
+
+abbrev pub lowestFreeIn : List ℕ → ℕ
+lowestFreeIn owners = lowest (λ i. eqb (getD owners i 0) 0) 32
+
+abbrev pub numberedIn : (owners numbers : List ℕ) → (owner number : ℕ) → ℕ
+numberedIn owners numbers owner number = lowest (λ i. eqb (getD owners i 0) owner && eqb (getD numbers i 0) number) 32
+
+abbrev pub unlikeIn : (owners versions types : List ℕ) → (owner version type : ℕ) → ℕ
+unlikeIn owners versions types owner version type = lowest (λ i. eqb (getD owners i 0) owner && not (eqb (getD versions i 0) version && eqb (getD types i 0) type)) 32
+
+abbrev pub beyondIn : (owners numbers : List ℕ) → (owner number : ℕ) → ℕ
+beyondIn owners numbers owner number = lowest (λ i. eqb (getD owners i 0) owner && ltb number (getD numbers i 0)) 32
+
+-- the six lists of a table's places
+pub record Places : Type 0 where
+  pub message-types : List ℕ
+  pub sizes : List ℕ
+  pub owners : List ℕ
+  pub numbers : List ℕ
+  pub versions : List ℕ
+  pub lasts : List Bool
+
+abbrev pub placesIn : (message-types sizes owners numbers versions : List ℕ) → List Bool → Places
+placesIn message-types sizes owners numbers versions lasts = record { message-types = message-types; sizes = sizes; owners = owners; numbers = numbers; versions = versions; lasts = lasts }
+
+-- where the piece with number k lies: in a place below 32; 32 where there is none; 33 where it is the new fragment
+unfoldable pub pieceAt : (owners numbers : List ℕ) → (row number k : ℕ) → ℕ
+pieceAt owners numbers row number k = cond (eqb k number) 33 (numberedIn owners numbers (ownerOf row) k)
+
+abbrev pub sizeAt : List ℕ → (size piece : ℕ) → ℕ
+sizeAt sizes size piece = cond (ltb piece 32) (getD sizes piece 0) size
+
+abbrev pub markedAt : List Bool → Bool → ℕ → Bool
+markedAt lasts last piece = cond (ltb piece 32) (getD lasts piece false) last
+
+unfoldable pub pieceBytes : (sizes store payload : List ℕ) → ℕ → List ℕ
+pieceBytes sizes store payload piece = cond (ltb piece 32) (bytesAt store piece (getD sizes piece 0)) payload
+
+-- the first n pieces: how many bytes they have, and the bytes
+unfoldable pub sizeTo : (sizes owners numbers : List ℕ) → (row number size n : ℕ) → ℕ
+sizeTo sizes owners numbers row number size zero = 0
+sizeTo sizes owners numbers row number size (suc n) = sizeTo sizes owners numbers row number size n + sizeAt sizes size (pieceAt owners numbers row number n)
+
+unfoldable pub piecesTo : (sizes owners numbers store : List ℕ) → (row number : ℕ) → List ℕ → ℕ → List ℕ
+piecesTo sizes owners numbers store row number payload zero = []
+piecesTo sizes owners numbers store row number payload (suc n) = piecesTo sizes owners numbers store row number payload n ++ pieceBytes sizes store payload (pieceAt owners numbers row number n)
+
+abbrev pub isGap : (owners numbers : List ℕ) → (row number k : ℕ) → Bool
+isGap owners numbers row number k = eqb (pieceAt owners numbers row number k) 32
+
+abbrev pub countFor : (owners numbers : List ℕ) → (row number : ℕ) → ℕ
+countFor owners numbers row number = lowest (isGap owners numbers row number) 256
+
+abbrev pub reachFor : (sizes owners numbers : List ℕ) → (row number size : ℕ) → Reach
+reachFor sizes owners numbers row number size = record { count = countFor owners numbers row number; total = sizeTo sizes owners numbers row number size (countFor owners numbers row number) }
+
+unfoldable pub verdictFor : Places → ℕ → Fragment → ℕ → Verdict
+verdictFor p row f size =
+    cond (ltb (unlikeIn (p .owners) (p .versions) (p .message-types) (ownerOf row) (f .version) (f .«message_type»)) 32) Inconsistent
+    (cond (ltb (countFor (p .owners) (p .numbers) row (f .number)) (f .number)) Missing
+    (cond (ltb (beyondIn (p .owners) (p .numbers) (ownerOf row) (countFor (p .owners) (p .numbers) row (f .number))) 32) Missing
+    (cond (markedAt (p .lasts) (f .last) (pieceAt (p .owners) (p .numbers) row (f .number) (countFor (p .owners) (p .numbers) row (f .number) - 1)))
+    (Message (countFor (p .owners) (p .numbers) row (f .number)) (sizeTo (p .sizes) (p .owners) (p .numbers) row (f .number) size (countFor (p .owners) (p .numbers) row (f .number))))
+    MissingLast)))
+
+-- a verdict in the words of the joining rule; `bytes n` are those of the first n pieces
+abbrev pub joiningBy : Verdict → (ℕ → List ℕ) → Joining
+joiningBy Inconsistent bytes = inconsistentMetadata
+joiningBy Missing bytes = missingFragments
+joiningBy MissingLast bytes = missingLastFragment
+joiningBy (Message n total) bytes = message n (bytes n)
+
+abbrev pub joiningIn : Places → List ℕ → ℕ → Fragment → List ℕ → Joining
+joiningIn p store row f payload = joiningBy (verdictFor p row f (length payload)) (piecesTo (p .sizes) (p .owners) (p .numbers) store row (f .number) payload)
+
+-- what each way does to the table, for a key with this row
+abbrev pub endChange : ℕ → Change
+endChange row = cond (ltb row 16) DropKey Stay
+
+abbrev pub changeBy : Way → ℕ → Change
+changeBy (refuse n values) row = Stay
+changeBy (replace i) row = PutAt i row false
+changeBy (keepAt i) row = PutAt i row false
+changeBy (openAt i spare) row = PutAt i spare true
+changeBy (end e) row = endChange row
+
+-- a choice is that of the way w, and so is the output
+pub record Chooses (w : Way) (row : ℕ) (r : Chosen) (out out′ : List ℕ) : Type 0 where
+  pub answers : pushedOf (r .answer) ≡ answerBy w
+  pub changes : r .change ≡ changeBy w row
+  pub puts : out′ ≡ outputBy w out
+
+-- a row gets the key, or has it
+abbrev pub opened : Bool → Table → ℕ → Arrival → Table
+opened opens t row a = cond opens (withKey t row (a .key) (a .time)) t

@@ -1,0 +1,5 @@
+pub mod Joining
+pub mod Push
+pub mod Show
+pub mod Made
+pub mod Leaves

@@ -1,0 +1,94 @@
+// A push to the fragment table: a fragment is kept, or joined with those kept under its key, or refused.
+
+mod choose;
+mod join;
+mod look;
+mod rows;
+
+use choose::Change;
+use choose::choose;
+use look::find_key;
+use numbers::Refusal;
+use rows::copy;
+use rows::with_fragment;
+use table::Table;
+use table::without_key;
+ghost use lib.ListN.{length};
+ghost use Rattle.pushing.specs.Push.{way, Goes};
+ghost use Rattle.pushing.specs.Made.{Made};
+
+// What a fragment is, but for its payload.
+#[repr(C)]
+pub struct Fragment {
+    pub message_type: u16,
+    pub version: u8,
+    pub number: u8,
+    pub last: bool,
+}
+
+// A fragment as it comes in: under which key (see key_of of the crate reassembler), and when, in milliseconds.
+#[repr(C)]
+pub struct Arrival {
+    pub key: u64,
+    pub time: u64,
+    pub fragment: Fragment,
+}
+
+// What push answers.
+pub enum Pushed {
+    WaitingForMoreFragments,
+    DuplicatedFragment,
+    InconsistentMetadata,
+    MissingFragments,
+    MissingLastFragment,
+    // the message is the payload that was pushed, of this length
+    Single(usize),
+    // the message is the first bytes of the output, this many
+    Joined(usize),
+    Refused(Refusal),
+}
+
+pub struct Stepped {
+    pub table: Table,
+    pub answer: Pushed,
+}
+
+// A fragment comes in: the table after it, and what there is to say. The store keeps the payloads, the output gets a message that was joined.
+pub fn push_step(t: Table, store: &mut [u8], out: &mut [u8], a: Arrival, payload: &[u8]) -> Stepped
+    requires { ⌜ Made t ⌝ }
+    ensures { λ r. ⌜ Goes (way t (now (store .entry)) a (now (payload .entry)) (length (now (out .entry)))) t (now (store .entry)) (now (out .entry)) a (now (payload .entry)) (r .answer) (r .table) (now (store .exit)) (now (out .exit)) ⌝ }
+{
+    let f = a.fragment;
+    let row = find_key(&t.used, &t.codes, a.key);
+    let chosen = choose(
+        &t.used,
+        &t.message_types,
+        &t.sizes,
+        &t.owners,
+        &t.numbers,
+        &t.versions,
+        &t.lasts,
+        store,
+        out,
+        row,
+        f,
+        payload,
+    );
+    let change = chosen.change;
+    let answer = chosen.answer;
+    match change {
+        Change::Stay => Stepped { table: t, answer },
+        Change::PutAt(place, under, opens) => {
+            copy(payload, 0, payload.len(), store, place * 1492);
+            let kept = with_fragment(t, place, under, opens, a, payload.len());
+            Stepped {
+                table: kept,
+                answer,
+            }
+        }
+        Change::DropKey => {
+            let table = without_key(t, row);
+            Stepped { table, answer }
+        }
+    }
+}

@@ -1,0 +1,156 @@
+// Looking up in the table: one pass for each question, over the lists that it asks, which are lent.
+ghost use mathlib.Core.Path.{_≡_};
+ghost use mathlib.Core.Bool.{not, _&&_};
+ghost use Prim.Native.Nat.{_≤_};
+ghost use lib.Dec.{eqb, ltb};
+ghost use Rattle.pushing.specs.Leaves.{rowIn, spareRowIn, lowestFreeIn, numberedIn, unlikeIn, beyondIn};
+
+pub(crate) fn is_key(used: bool, code: u64, key: u64) -> bool
+    ensures { λ r. ⌜ r ≡ (used && eqb code key) ⌝ }
+{
+    if used { code == key } else { false }
+}
+
+// The row of a key, 16 where there is none.
+pub(crate) fn find_key<'a>(used: &'a [bool; 16], codes: &'a [u64; 16], key: u64) -> usize
+    ensures { λ r. ⌜ (r ≡ rowIn (now (used .entry)) (now (codes .entry)) key) × (r ≤ 16) ⌝ }
+{
+    let mut i: usize = 0;
+    while i < 16 {
+        if is_key(used[i], codes[i], key) {
+            return i;
+        }
+        i += 1;
+    }
+    i
+}
+
+// The lowest row that no key has, 16 where all have one.
+pub(crate) fn find_spare(used: &[bool; 16]) -> usize
+    ensures { λ r. ⌜ (r ≡ spareRowIn (now (used .entry))) × (r ≤ 16) ⌝ }
+{
+    let mut i: usize = 0;
+    while i < 16 {
+        if !used[i] {
+            return i;
+        }
+        i += 1;
+    }
+    i
+}
+
+// The lowest free place, 32 where all are used.
+pub(crate) fn find_free(owners: &[u8; 32]) -> usize
+    ensures { λ r. ⌜ (r ≡ lowestFreeIn (now (owners .entry))) × (r ≤ 32) ⌝ }
+{
+    let mut i: usize = 0;
+    while i < 32 {
+        if owners[i] == 0 {
+            return i;
+        }
+        i += 1;
+    }
+    i
+}
+
+pub(crate) fn is_numbered(of: u8, own: u8, owner: u8, number: u8) -> bool
+    ensures { λ r. ⌜ r ≡ (eqb of owner && eqb own number) ⌝ }
+{
+    if of == owner { own == number } else { false }
+}
+
+// The place of an owner's fragment with this number, 32 where there is none.
+pub(crate) fn find_numbered<'a>(
+    owners: &'a [u8; 32],
+    numbers: &'a [u8; 32],
+    owner: u8,
+    number: u8,
+) -> usize
+    ensures { λ r. ⌜ (r ≡ numberedIn (now (owners .entry)) (now (numbers .entry)) owner number) × (r ≤ 32) ⌝ }
+{
+    let mut i: usize = 0;
+    while i < 32 {
+        if is_numbered(owners[i], numbers[i], owner, number) {
+            return i;
+        }
+        i += 1;
+    }
+    i
+}
+
+// Of the owner, and of another version or type.
+pub(crate) fn is_unlike(
+    of: u8,
+    own_version: u8,
+    own_type: u16,
+    owner: u8,
+    version: u8,
+    message_type: u16,
+) -> bool
+    ensures { λ r. ⌜ r ≡ (eqb of owner && not (eqb «own_version» version && eqb «own_type» «message_type»)) ⌝ }
+{
+    if of == owner {
+        if own_version == version {
+            return own_type != message_type;
+        }
+        return true;
+    }
+    false
+}
+
+// The lowest place of an owner's fragment with another version or type, 32 where there is none.
+pub(crate) fn find_unlike<'a>(
+    owners: &'a [u8; 32],
+    versions: &'a [u8; 32],
+    types: &'a [u16; 32],
+    owner: u8,
+    version: u8,
+    message_type: u16,
+) -> usize
+    ensures { λ r. ⌜ (r ≡ unlikeIn (now (owners .entry)) (now (versions .entry)) (now (types .entry)) owner version «message_type») × (r ≤ 32) ⌝ }
+{
+    let mut i: usize = 0;
+    while i < 32 {
+        if is_unlike(
+            owners[i],
+            versions[i],
+            types[i],
+            owner,
+            version,
+            message_type,
+        ) {
+            return i;
+        }
+        i += 1;
+    }
+    i
+}
+
+pub(crate) fn is_beyond(of: u8, own: u8, owner: u8, number: usize) -> bool
+    ensures { λ r. ⌜ r ≡ (eqb of owner && ltb number own) ⌝ }
+{
+    if of == owner {
+        let wide = own as usize;
+        return number < wide;
+    }
+    false
+}
+
+// The lowest place of an owner's fragment with a number above this one, 32 where there is none.
+pub(crate) fn find_beyond<'a>(
+    owners: &'a [u8; 32],
+    numbers: &'a [u8; 32],
+    owner: u8,
+    number: usize,
+) -> usize
+    ensures { λ r. ⌜ (r ≡ beyondIn (now (owners .entry)) (now (numbers .entry)) owner number) × (r ≤ 32) ⌝ }
+{
+    let mut i: usize = 0;
+    while i < 32 {
+        if is_beyond(owners[i], numbers[i], owner, number) {
+            return i;
+        }
+        i += 1;
+    }
+    i
+}

@@ -1,0 +1,50 @@
+// Changes to the table's rows and places, and to the bytes that belong to them.
+use crate::Arrival;
+use table::Table;
+ghost use mathlib.Core.Path.{_≡_};
+ghost use Prim.Native.Nat.{_+_, _≤_, _<_};
+ghost use lib.ListN.{length, drop};
+ghost use lib.Seq.{paste};
+ghost use Rattle.table.specs.Rows.{withPlace};
+ghost use Rattle.pushing.specs.Push.{placeFor};
+ghost use Rattle.pushing.specs.Leaves.{opened};
+
+// n bytes of src, from the byte `from` on, go to dst, from the byte `at` on.
+pub(crate) fn copy(src: &[u8], from: usize, n: usize, dst: &mut [u8], at: usize)
+    requires { ⌜ (from + n ≤ length (now src)) × (at + n ≤ length (now dst)) ⌝ }
+    ensures { λ _. ⌜ now (dst .exit) ≡ paste (now (dst .entry)) at (drop from (now (src .entry))) n ⌝ }
+{
+    let mut j: usize = 0;
+    while j < n {
+        dst[at + j] = src[from + j];
+        j += 1;
+    }
+}
+
+// The table with a fragment in a place, under a row that has its key, or that gets it.
+pub(crate) fn with_fragment(
+    t: Table,
+    place: usize,
+    row: usize,
+    opens: bool,
+    a: Arrival,
+    size: usize,
+) -> Table
+    requires { ⌜ (place < 32) × (row < 16) × (size ≤ 1492) ⌝ }
+    ensures { λ r. ⌜ r ≡ withPlace (opened opens t row a) place (placeFor row (a .fragment) size) ⌝ }
+{
+    let f = a.fragment;
+    let mut n = t;
+    if opens {
+        n.codes[row] = a.key;
+        n.firsts[row] = a.time;
+        n.used[row] = true;
+    }
+    n.message_types[place] = f.message_type;
+    n.sizes[place] = size as u16;
+    n.owners[place] = row as u8 + 1;
+    n.numbers[place] = f.number;
+    n.versions[place] = f.version;
+    n.lasts[place] = f.last;
+    n
+}
