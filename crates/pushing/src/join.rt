@@ -107,8 +107,7 @@ pub(crate) fn judge<'a>(
     ensures { λ r. ⌜ r ≡ verdictFor (placesIn (now (types .entry)) (now (sizes .entry)) (now (owners .entry)) (now (numbers .entry)) (now (versions .entry)) (now (lasts .entry))) row f size ⌝ }
 {
     let owner = row as u8 + 1;
-    let unlike = find_unlike(owners, versions, types, owner, f.version, f.message_type);
-    if unlike < 32 {
+    if find_unlike(owners, versions, types, owner, f.version, f.message_type) < 32 {
         return Verdict::Inconsistent;
     }
     let reached = reach_of(sizes, owners, numbers, row, f.number, size);
@@ -117,8 +116,7 @@ pub(crate) fn judge<'a>(
     if count < number {
         return Verdict::Missing;
     }
-    let beyond = find_beyond(owners, numbers, owner, count);
-    if beyond < 32 {
+    if find_beyond(owners, numbers, owner, count) < 32 {
         return Verdict::Missing;
     }
     let highest = piece_at(owners, numbers, row, f.number, (count - 1) as u8);

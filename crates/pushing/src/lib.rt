@@ -58,7 +58,6 @@ pub fn push_step(t: Table, store: &mut [u8], out: &mut [u8], a: Arrival, payload
     requires { ⌜ Made t ⌝ }
     ensures { λ r. ⌜ Goes (way t (now (store .entry)) a (now (payload .entry)) (length (now (out .entry)))) t (now (store .entry)) (now (out .entry)) a (now (payload .entry)) (r .answer) (r .table) (now (store .exit)) (now (out .exit)) ⌝ }
 {
-    let f = a.fragment;
     let row = find_key(&t.used, &t.codes, a.key);
     let chosen = choose(
         &t.used,
@@ -71,7 +70,7 @@ pub fn push_step(t: Table, store: &mut [u8], out: &mut [u8], a: Arrival, payload
         store,
         out,
         row,
-        f,
+        a.fragment,
         payload,
     );
     let change = chosen.change;

@@ -33,18 +33,17 @@ pub(crate) fn with_fragment(
     requires { ⌜ (place < 32) × (row < 16) × (size ≤ 1492) ⌝ }
     ensures { λ r. ⌜ r ≡ withPlace (opened opens t row a) place (placeFor row (a .fragment) size) ⌝ }
 {
-    let f = a.fragment;
     let mut n = t;
     if opens {
         n.codes[row] = a.key;
         n.firsts[row] = a.time;
         n.used[row] = true;
     }
-    n.message_types[place] = f.message_type;
+    n.message_types[place] = a.fragment.message_type;
     n.sizes[place] = size as u16;
     n.owners[place] = row as u8 + 1;
-    n.numbers[place] = f.number;
-    n.versions[place] = f.version;
-    n.lasts[place] = f.last;
+    n.numbers[place] = a.fragment.number;
+    n.versions[place] = a.fragment.version;
+    n.lasts[place] = a.fragment.last;
     n
 }

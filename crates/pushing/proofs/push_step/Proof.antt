@@ -20,7 +20,7 @@ use Rattle.pushing.proofs.push_step.Tie as tie
 -- once the choice is made
 module _ (c : tie.After-choose) where
   abbrev start : tie.Start
-  start = c .before .before .before .before .before .before .before .before .before .before .before .before .before .before .before .before .before .before .before
+  start = c .before .before .before .before .before .before .before .before .before .before .before .before .before .before .before .before .before .before
 
   abbrev searched : tie.After-find-key
   searched = c .before .before .before .before .before .before .before .before .before .before .before
@@ -66,8 +66,8 @@ find-key-requires c κs = search needs
 
 choose-requires : tie.Need-choose-requires
 choose-requires c κs =
-    let s = sound (c .before .before .before .before .before .before .before .before .before .before .before .before .before .before .before .before .before .before .pre) in
-    (c .before .before .before .before .before .before .before .before .before .before .find-key .ensures .1, s .small, λ h. no-place (c .before .before .before .before .before .before .before .before .before .before .before .before .before .before .before .before .before .before .args .t1) s (c .before .before .before .before .before .before .before .before .before .before .find-key .result) (c .before .before .before .before .before .before .before .before .before .before .before .before .before .before .before .before .before .before .args .a .fragment .number) h)
+    let s = sound (c .before .before .before .before .before .before .before .before .before .before .before .before .before .before .before .before .before .pre) in
+    (c .before .before .before .before .before .before .before .before .before .before .find-key .ensures .1, s .small, λ h. no-place (c .before .before .before .before .before .before .before .before .before .before .before .before .before .before .before .before .before .args .t1) s (c .before .before .before .before .before .before .before .before .before .before .find-key .result) (c .before .before .before .before .before .before .before .before .before .before .before .before .before .before .before .before .before .args .a .fragment .number) h)
 
 enum-told : tie.Need-enum-told
 enum-told c = search needs
@@ -103,7 +103,7 @@ same-length-2 c = search needs
 returns : tie.Need-returns
 returns c =
     let does = did (c .before .before .before .before) _ (c .enum-told .given .1) in
-    goes (c .before .before .before .before) (c .before .before .before .before .before .before .before .before .before .before .before .before .before .before .before .before .before .before .before .before .before .before .before .args .t1) (now (c .before .before .before .before .before .before .before .before .before .before .before .before .before .before .before .before .before .before .before .before .before .before .before .args .store)) (does .0) (does .1)
+    goes (c .before .before .before .before) (c .before .before .before .before .before .before .before .before .before .before .before .before .before .before .before .before .before .before .before .before .before .before .args .t1) (now (c .before .before .before .before .before .before .before .before .before .before .before .before .before .before .before .before .before .before .before .before .before .before .args .store)) (does .0) (does .1)
 
 same-length-3 : tie.Need-same-length-3
 same-length-3 c = search needs
@@ -125,7 +125,7 @@ same-length-6 c = search needs
 returns-3 : tie.Need-returns-3
 returns-3 c =
     let does = did (c .before .before .before .before .before) _ (c .before .enum-told2 .given .1) in
-    goes (c .before .before .before .before .before) (c .without-key .result) (now (c .before .before .before .before .before .before .before .before .before .before .before .before .before .before .before .before .before .before .before .before .before .before .before .before .args .store)) (c .without-key .ensures ∙ does .0) (does .1)
+    goes (c .before .before .before .before .before) (c .without-key .result) (now (c .before .before .before .before .before .before .before .before .before .before .before .before .before .before .before .before .before .before .before .before .before .before .before .args .store)) (c .without-key .ensures ∙ does .0) (does .1)
 
 pub push-step-spec : {M : Type 1} → statement M
 push-step-spec =

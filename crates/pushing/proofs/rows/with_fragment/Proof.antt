@@ -60,7 +60,7 @@ element-write-n-9 c = search needs
 
 returns : tie.Need-returns
 returns c =
-    let a = c .before .before .args in
+    let a = c .before .args in
     let put : Table → Table = λ z. withPlace z (a .place) (placeFor (a .row) (a .a .fragment) (a .size)) in
     let as-opened : Bool → Table = λ b. put (opened b (a .t) (a .row) (a .a)) in
     ⊎-elim (λ w. ap put (w .1) ∙ ap as-opened (sym (w .0 .taken))) (λ w. ap put (w .1) ∙ ap as-opened (sym (w .0 .left))) (c .if1 .came)
