@@ -7,11 +7,13 @@ use native.Mathlib.Omega.{arith}
 use lib.Dec.{ltb, eqb}
 use lib.ListN.{length}
 use borrow.Author.Tests.{ltb-false, eqb-true}
-use Rattle.numbers.specs.Numbers.{gives, refuses}
+use Rattle.numbers.specs.declared.Refusal.{Refusal}
+use Rattle.numbers.specs.Numbers.{Answer, gives, refuses, number, values, told}
+use Rattle.numbers.proofs.Firm.{never}
 use Rattle.records.specs.declared.Kind.{Kind}
 use Rattle.records.specs.Values.{recordIn}
 use Rattle.records.specs.Kinds.{kinds, codeOf, layout, leftOver, accepted}
-use Rattle.records.specs.Reading.{Reading, readKind, readAs, withCode, readRecord}
+use Rattle.records.specs.Reading.{Reading, readKind, readAs, withCode, readRecord, sizeOf}
 
 -- the layout lies within the value, nothing of it is refused, and the answer is what the layout holds
 pub record Reads (k : Kind) (s : List ℕ) (x : Reading) : Type 0 where
@@ -30,6 +32,18 @@ unfolding readKind
 given k s x e =
     let h = by-tests (ltb (length s) (layout k s)) (leftOver k (length s - layout k s)) (accepted k s) x (record { value = recordIn k s; consumed = layout k s }) e in
     record { within = ltb-false (length s) (layout k s) (h .0); taken = h .1 .0; held = h .1 .1 }
+
+-- what takes so many bytes reads as the record in them
+pub with-record : (k : Kind) (s : List ℕ) (n : ℕ) → gives n ≡ sizeOf (readKind k s) → gives (record { value = recordIn k s; consumed = n }) ≡ readKind k s
+with-record k s n e = go (readKind k s) refl e where
+  go : (a : Answer Reading) → readKind k s ≡ a → gives n ≡ sizeOf a → gives (record { value = recordIn k s; consumed = n }) ≡ a
+  go (gives x) f e = let m : n ≡ x .consumed = cc in rw (m, ← given k s x f .held) refl
+  go (refuses m vs) f e = never n m vs e
+
+-- what is refused where bytes are counted is refused where they are read
+pub refused-alike : (a : Answer Reading) (f : Refusal) → told f ≡ sizeOf a → told f ≡ a
+refused-alike (gives x) f e = never _ _ _ (sym e)
+refused-alike (refuses m vs) f e = let p : number f ≡ m = cc in let q : values f ≡ vs = cc in rw (p, q) refl
 
 -- the kind that a code which reads has
 pub record Coded (c : ℕ) (s : List ℕ) (x : Reading) : Type 0 where

@@ -1,5 +1,5 @@
 -- Laws of `readKind` and `readRecord`: a law for each way that reading can go. `n` is how the code came by the layout's length.
-use mathlib.Core.Path.{_≡_, refl, sym, ap, _∙_}
+use mathlib.Core.Path.{_≡_, refl, ap}
 use mathlib.Core.Bool.{true, false}
 use mathlib.Core.List.{List, []}
 use Prim.Native.Nat.{ℕ, _-_, _<_, _≤_}
@@ -8,8 +8,8 @@ use borrow.Author.Tests.{lt-ltb, le-ltb}
 use Rattle.numbers.specs.Numbers.{Answer, gives, refuses}
 use Rattle.records.specs.declared.Kind.{Kind}
 use Rattle.records.specs.Values.{recordIn}
-use Rattle.records.specs.Kinds.{codeOf, layout, leftOver, accepted}
-use Rattle.records.specs.Reading.{Reading, readKind, readRecord, sizeOf}
+use Rattle.records.specs.Kinds.{kinds, codeOf, layout, leftOver, accepted}
+use Rattle.records.specs.Reading.{Reading, readKind, withCode, readAs, readRecord}
 
 module _ (k : Kind) (s : List ℕ) (n : ℕ) (e : n ≡ layout k s) where
   pub cut : length s < n → refuses 3 [] ≡ readKind k s
@@ -44,8 +44,7 @@ by-kind Kind.ClientAssociation s = refl
 by-kind Kind.MultiApProfile s = refl
 by-kind Kind.Profile2ApCapability s = refl
 
-pub at-code : (k : Kind) (c : ℕ) (s : List ℕ) (a : Answer Reading) → c ≡ codeOf k → a ≡ readKind k s → a ≡ readRecord c s
-at-code k c s a e f = rw e (f ∙ sym (by-kind k s))
-
-pub measured-at : (k : Kind) (c : ℕ) (s : List ℕ) (a : Answer ℕ) → c ≡ codeOf k → a ≡ sizeOf (readKind k s) → a ≡ sizeOf (readRecord c s)
-measured-at k c s a e f = f ∙ ap sizeOf (at-code k c s _ e refl)
+-- what a code says, and then the kind's reading
+pub by-code : (c : ℕ) (s : List ℕ) (a : Answer Kind) → a ≡ withCode c kinds → readAs a s ≡ readRecord c s
+unfolding readRecord
+by-code c s a e = ap (λ (b : Answer Kind). readAs b s) e

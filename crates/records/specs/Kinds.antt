@@ -8,6 +8,7 @@ use Rattle.records.specs.declared.Kind.{Kind}
 use Rattle.records.specs.declared.Record.{Record}
 use Rattle.records.specs.declared.rows.Layout.{Layout}
 use Rattle.records.specs.declared.rows.Check.{Check}
+use Rattle.records.specs.declared.rows.Row.{Row}
 use Rattle.records.specs.Values.{hasAddress}
 
 abbrev pub kinds : List Kind
@@ -41,20 +42,24 @@ codeOf Kind.ClientAssociation = 146
 codeOf Kind.MultiApProfile = 179
 codeOf Kind.Profile2ApCapability = 180
 
--- the layout of a kind: "fixed" so many bytes, or the query's
-abbrev pub layoutOf : Kind → Layout
-layoutOf Kind.EndOfMessage = Layout.Fixed 0
-layoutOf Kind.AlMacAddress = Layout.Fixed 6
-layoutOf Kind.MacAddress = Layout.Fixed 6
-layoutOf Kind.SearchedRole = Layout.Fixed 1
-layoutOf Kind.SupportedRole = Layout.Fixed 1
-layoutOf Kind.SupportedFreqBand = Layout.Fixed 1
-layoutOf Kind.Ieee1905ProfileVersion = Layout.Fixed 1
-layoutOf Kind.LinkMetricResultCode = Layout.Fixed 1
-layoutOf Kind.LinkMetricQuery = Layout.Query
-layoutOf Kind.ClientAssociation = Layout.Fixed 13
-layoutOf Kind.MultiApProfile = Layout.Fixed 1
-layoutOf Kind.Profile2ApCapability = Layout.Fixed 4
+-- "fixed" so many bytes; those behind them are handed back
+abbrev pub fixed : ℕ → Check → Row
+fixed n c = record { layout = Layout.Fixed n; «takes_rest» = true; check = c }
+
+-- the row of a kind: its layout, whether "bytes behind the layout are handed back as the rest", and which values it may hold
+abbrev pub rowOf : Kind → Row
+rowOf Kind.EndOfMessage = record { layout = Layout.Fixed 0; «takes_rest» = false; check = Check.Any }
+rowOf Kind.AlMacAddress = fixed 6 Check.Any
+rowOf Kind.MacAddress = fixed 6 Check.Any
+rowOf Kind.SearchedRole = fixed 1 Check.Zero
+rowOf Kind.SupportedRole = fixed 1 Check.Zero
+rowOf Kind.SupportedFreqBand = fixed 1 Check.Any
+rowOf Kind.Ieee1905ProfileVersion = fixed 1 Check.Any
+rowOf Kind.LinkMetricResultCode = fixed 1 Check.Any
+rowOf Kind.LinkMetricQuery = record { layout = Layout.Query; «takes_rest» = true; check = Check.Any }
+rowOf Kind.ClientAssociation = fixed 13 Check.HighBitOnly
+rowOf Kind.MultiApProfile = fixed 1 Check.NotZero
+rowOf Kind.Profile2ApCapability = fixed 4 Check.Any
 
 -- the bytes that a layout takes of a value: of a query by its first byte, "6-byte address only if type is 1"
 abbrev pub querySize : ℕ → ℕ
@@ -65,44 +70,16 @@ sizeIn (Layout.Fixed n) s = n
 sizeIn Layout.Query s = querySize (getD s 0 0)
 
 abbrev pub layout : Kind → List ℕ → ℕ
-layout k s = sizeIn (layoutOf k) s
+layout k s = sizeIn (rowOf k .layout) s
 
 -- "Bytes behind the layout are handed back as the rest, except in kinds 0, .., which refuse them"
-abbrev pub takesRest : Kind → Bool
-takesRest Kind.EndOfMessage = false
-takesRest Kind.AlMacAddress = true
-takesRest Kind.MacAddress = true
-takesRest Kind.SearchedRole = true
-takesRest Kind.SupportedRole = true
-takesRest Kind.SupportedFreqBand = true
-takesRest Kind.Ieee1905ProfileVersion = true
-takesRest Kind.LinkMetricResultCode = true
-takesRest Kind.LinkMetricQuery = true
-takesRest Kind.ClientAssociation = true
-takesRest Kind.MultiApProfile = true
-takesRest Kind.Profile2ApCapability = true
-
 abbrev pub surplus : Bool → ℕ → Bool
 surplus taken rest = cond taken false (ltb 0 rest)
 
 abbrev pub leftOver : Kind → ℕ → Bool
-leftOver k rest = surplus (takesRest k) rest
+leftOver k rest = surplus (rowOf k .«takes_rest») rest
 
--- which values a layout may hold; 5 is given for "role not 0, association bits 0-6 set, profile 0"
-abbrev pub checkOf : Kind → Check
-checkOf Kind.EndOfMessage = Check.Any
-checkOf Kind.AlMacAddress = Check.Any
-checkOf Kind.MacAddress = Check.Any
-checkOf Kind.SearchedRole = Check.Zero
-checkOf Kind.SupportedRole = Check.Zero
-checkOf Kind.SupportedFreqBand = Check.Any
-checkOf Kind.Ieee1905ProfileVersion = Check.Any
-checkOf Kind.LinkMetricResultCode = Check.Any
-checkOf Kind.LinkMetricQuery = Check.Any
-checkOf Kind.ClientAssociation = Check.HighBitOnly
-checkOf Kind.MultiApProfile = Check.NotZero
-checkOf Kind.Profile2ApCapability = Check.Any
-
+-- whether a value passes; 5 is given for "role not 0, association bits 0-6 set, profile 0"
 abbrev pub passing : Check → List ℕ → Bool
 passing Check.Any s = true
 passing Check.Zero s = eqb (getD s 0 0) 0
@@ -110,7 +87,7 @@ passing Check.NotZero s = ltb 0 (getD s 0 0)
 passing Check.HighBitOnly s = eqb (getD s 12 0 % 128) 0
 
 abbrev pub accepted : Kind → List ℕ → Bool
-accepted k s = passing (checkOf k) s
+accepted k s = passing (rowOf k .check) s
 
 -- the kind of a record
 abbrev pub kindOf : Record → Kind

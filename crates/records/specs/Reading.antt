@@ -6,6 +6,7 @@ use lib.Dec.{eqb, ltb}
 use lib.ListN.{length}
 use Rattle.numbers.specs.Numbers.{Answer, gives, refuses, told}
 use Rattle.records.specs.declared.Kind.{Kind}
+use Rattle.records.specs.declared.rows.KnownKind.{KnownKind}
 use Rattle.records.specs.declared.Record.{Record}
 use Rattle.records.specs.declared.Read.{Read}
 use Rattle.records.specs.declared.Measured.{Measured}
@@ -33,6 +34,11 @@ readKind k s =
 abbrev pub withCode : ℕ → List Kind → Answer Kind
 withCode c [] = refuses 16 []
 withCode c (k ∷ ks) = cond (eqb c (codeOf k)) (gives k) (withCode c ks)
+
+-- what each answer of `kind_of` says
+abbrev pub knownOf : KnownKind → Answer Kind
+knownOf (KnownKind.Is k) = gives k
+knownOf KnownKind.None = refuses 16 []
 
 abbrev pub readAs : Answer Kind → List ℕ → Answer Reading
 readAs (gives k) s = readKind k s

@@ -1,4 +1,5 @@
 // Typed values that are records: the kinds without lists, read by their code. They are written by the crate `record_writing`. The types have the original's names (cmdu_codec.rs).
+use crate::rows::KnownKind;
 use numbers::Refusal;
 
 mod reading;
@@ -200,20 +201,9 @@ pub enum Read {
 pub fn read_record(code: u8, s: &[u8]) -> Read
     ensures { λ r. ⌜ readOf r ≡ readRecord code (now (s .entry)) ⌝ }
 {
-    match code {
-        0 => reading::read_end_of_message(s),
-        1 => reading::read_al_mac_address(s),
-        2 => reading::read_mac_address(s),
-        13 => reading::read_searched_role(s),
-        15 => reading::read_supported_role(s),
-        16 => reading::read_supported_freq_band(s),
-        26 => reading::read_ieee1905_profile_version(s),
-        12 => reading::read_link_metric_result_code(s),
-        8 => reading::read_link_metric_query(s),
-        0x92 => reading::read_client_association(s),
-        0xB3 => reading::read_multi_ap_profile(s),
-        0xB4 => reading::read_profile2_ap_capability(s),
-        _ => Read::Refused(Refusal::UnknownKind),
+    match rows::kind_of(code) {
+        KnownKind::Is(kind) => reading::read_kind(kind, s),
+        KnownKind::None => Read::Refused(Refusal::UnknownKind),
     }
 }
 
@@ -227,19 +217,8 @@ pub enum Measured {
 pub fn measure(code: u8, s: &[u8]) -> Measured
     ensures { λ r. ⌜ measuredOf r ≡ sizeOf (readRecord code (now (s .entry))) ⌝ }
 {
-    match code {
-        0 => reading::measure_kind(Kind::EndOfMessage, s),
-        1 => reading::measure_kind(Kind::AlMacAddress, s),
-        2 => reading::measure_kind(Kind::MacAddress, s),
-        13 => reading::measure_kind(Kind::SearchedRole, s),
-        15 => reading::measure_kind(Kind::SupportedRole, s),
-        16 => reading::measure_kind(Kind::SupportedFreqBand, s),
-        26 => reading::measure_kind(Kind::Ieee1905ProfileVersion, s),
-        12 => reading::measure_kind(Kind::LinkMetricResultCode, s),
-        8 => reading::measure_kind(Kind::LinkMetricQuery, s),
-        0x92 => reading::measure_kind(Kind::ClientAssociation, s),
-        0xB3 => reading::measure_kind(Kind::MultiApProfile, s),
-        0xB4 => reading::measure_kind(Kind::Profile2ApCapability, s),
-        _ => Measured::Refused(Refusal::UnknownKind),
+    match rows::kind_of(code) {
+        KnownKind::Is(kind) => reading::measure_kind(kind, s),
+        KnownKind::None => Measured::Refused(Refusal::UnknownKind),
     }
 }

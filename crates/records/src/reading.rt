@@ -1,4 +1,4 @@
-// Reading: a function for each kind, over the rows of the table and the record in a layout's bytes.
+// Reading a value of a kind, over the rows of the table and the record in a layout's bytes.
 use crate::AssociationState;
 use crate::ByteCounterUnits;
 use crate::ClientAssociation;
@@ -16,9 +16,8 @@ use crate::Record;
 use crate::SupportedFreqBand;
 use crate::rows::Check;
 use crate::rows::Layout;
-use crate::rows::check_of;
-use crate::rows::layout_of;
-use crate::rows::takes_rest;
+use crate::rows::Row;
+use crate::rows::row_of;
 use numbers::Refusal;
 ghost use mathlib.Core.Path.{_≡_};
 ghost use Prim.Native.Nat.{_≤_};
@@ -27,109 +26,40 @@ ghost use Rattle.records.specs.Values.{addressAt, queryIn, associationIn
 ghost use Rattle.records.specs.Kinds.{querySize, sizeIn, surplus, passing};
 ghost use Rattle.records.specs.Reading.{readOf, readKind, measuredOf, sizeOf};
 
-// A value of each kind.
-pub(crate) fn read_end_of_message(s: &[u8]) -> Read
-    ensures { λ r. ⌜ readOf r ≡ readKind Kind.EndOfMessage (now (s .entry)) ⌝ }
-{
-    read_kind(Kind::EndOfMessage, s)
-}
-
-pub(crate) fn read_al_mac_address(s: &[u8]) -> Read
-    ensures { λ r. ⌜ readOf r ≡ readKind Kind.AlMacAddress (now (s .entry)) ⌝ }
-{
-    read_kind(Kind::AlMacAddress, s)
-}
-
-pub(crate) fn read_mac_address(s: &[u8]) -> Read
-    ensures { λ r. ⌜ readOf r ≡ readKind Kind.MacAddress (now (s .entry)) ⌝ }
-{
-    read_kind(Kind::MacAddress, s)
-}
-
-pub(crate) fn read_searched_role(s: &[u8]) -> Read
-    ensures { λ r. ⌜ readOf r ≡ readKind Kind.SearchedRole (now (s .entry)) ⌝ }
-{
-    read_kind(Kind::SearchedRole, s)
-}
-
-pub(crate) fn read_supported_role(s: &[u8]) -> Read
-    ensures { λ r. ⌜ readOf r ≡ readKind Kind.SupportedRole (now (s .entry)) ⌝ }
-{
-    read_kind(Kind::SupportedRole, s)
-}
-
-pub(crate) fn read_supported_freq_band(s: &[u8]) -> Read
-    ensures { λ r. ⌜ readOf r ≡ readKind Kind.SupportedFreqBand (now (s .entry)) ⌝ }
-{
-    read_kind(Kind::SupportedFreqBand, s)
-}
-
-pub(crate) fn read_ieee1905_profile_version(s: &[u8]) -> Read
-    ensures { λ r. ⌜ readOf r ≡ readKind Kind.Ieee1905ProfileVersion (now (s .entry)) ⌝ }
-{
-    read_kind(Kind::Ieee1905ProfileVersion, s)
-}
-
-pub(crate) fn read_link_metric_result_code(s: &[u8]) -> Read
-    ensures { λ r. ⌜ readOf r ≡ readKind Kind.LinkMetricResultCode (now (s .entry)) ⌝ }
-{
-    read_kind(Kind::LinkMetricResultCode, s)
-}
-
-pub(crate) fn read_link_metric_query(s: &[u8]) -> Read
-    ensures { λ r. ⌜ readOf r ≡ readKind Kind.LinkMetricQuery (now (s .entry)) ⌝ }
-{
-    read_kind(Kind::LinkMetricQuery, s)
-}
-
-pub(crate) fn read_client_association(s: &[u8]) -> Read
-    ensures { λ r. ⌜ readOf r ≡ readKind Kind.ClientAssociation (now (s .entry)) ⌝ }
-{
-    read_kind(Kind::ClientAssociation, s)
-}
-
-pub(crate) fn read_multi_ap_profile(s: &[u8]) -> Read
-    ensures { λ r. ⌜ readOf r ≡ readKind Kind.MultiApProfile (now (s .entry)) ⌝ }
-{
-    read_kind(Kind::MultiApProfile, s)
-}
-
-pub(crate) fn read_profile2_ap_capability(s: &[u8]) -> Read
-    ensures { λ r. ⌜ readOf r ≡ readKind Kind.Profile2ApCapability (now (s .entry)) ⌝ }
-{
-    read_kind(Kind::Profile2ApCapability, s)
-}
-
-// A value of a kind. What is refused comes in document 01's order: 3, 4, 5.
-fn read_kind(kind: Kind, s: &[u8]) -> Read
-    ensures { λ r. ⌜ readOf r ≡ readKind kind (now (s .entry)) ⌝ }
-{
-    let size = size_in(layout_of(kind), s);
-    if s.len() < size {
-        return Read::Refused(Refusal::CutShort);
-    }
-    if left_over(takes_rest(kind), s.len() - size) {
-        return Read::Refused(Refusal::LeftOver);
-    }
-    if passes(check_of(kind), s) {
-        return Read::Got {
-            record: record_in(kind, s),
-            consumed: size,
-        };
-    }
-    Read::Refused(Refusal::BadValue)
-}
-
-// The bytes of such a value.
+// The bytes that a value of a kind takes. What is refused comes in document 01's order: 3, 4, 5. The check is made before the lengths are compared, so that
+// each kind has a way of its own in the compiled code.
 pub(crate) fn measure_kind(kind: Kind, s: &[u8]) -> Measured
     ensures { λ r. ⌜ measuredOf r ≡ sizeOf (readKind kind (now (s .entry))) ⌝ }
 {
-    match read_kind(kind, s) {
-        Read::Got {
-            record: _,
+    let Row {
+        layout,
+        takes_rest,
+        check,
+    } = row_of(kind);
+    let size = size_in(layout, s);
+    let passed = passes(check, s);
+    if s.len() < size {
+        return Measured::Refused(Refusal::CutShort);
+    }
+    if left_over(takes_rest, s.len() - size) {
+        return Measured::Refused(Refusal::LeftOver);
+    }
+    if passed {
+        return Measured::Bytes(size);
+    }
+    Measured::Refused(Refusal::BadValue)
+}
+
+// A value of a kind: the record too, once it is known to be there.
+pub(crate) fn read_kind(kind: Kind, s: &[u8]) -> Read
+    ensures { λ r. ⌜ readOf r ≡ readKind kind (now (s .entry)) ⌝ }
+{
+    match measure_kind(kind, s) {
+        Measured::Bytes(consumed) => Read::Got {
+            record: record_in(kind, s),
             consumed,
-        } => Measured::Bytes(consumed),
-        Read::Refused(refusal) => Measured::Refused(refusal),
+        },
+        Measured::Refused(refusal) => Read::Refused(refusal),
     }
 }
 
@@ -176,23 +106,22 @@ fn passes(check: Check, s: &[u8]) -> bool
 fn record_in(kind: Kind, s: &[u8]) -> Record
     ensures { λ r. ⌜ r ≡ recordIn kind (now (s .entry)) ⌝ }
 {
+    let first = byte_at(s, 0);
     match kind {
         Kind::EndOfMessage => Record::EndOfMessage,
         Kind::AlMacAddress => Record::AlMacAddress(address_at(s, 0)),
         Kind::MacAddress => Record::MacAddress(address_at(s, 0)),
-        Kind::SearchedRole => Record::SearchedRole(byte_at(s, 0)),
-        Kind::SupportedRole => Record::SupportedRole(byte_at(s, 0)),
-        Kind::SupportedFreqBand => Record::SupportedFreqBand(SupportedFreqBand::from_u8(byte_at(
-            s,
-            0,
-        ))),
+        Kind::SearchedRole => Record::SearchedRole(first),
+        Kind::SupportedRole => Record::SupportedRole(first),
+        Kind::SupportedFreqBand => Record::SupportedFreqBand(SupportedFreqBand::from_u8(first)),
         Kind::Ieee1905ProfileVersion =>
-            Record::Ieee1905ProfileVersion(Ieee1905ProfileVersion::from_u8(byte_at(s, 0))),
-        Kind::LinkMetricResultCode =>
-            Record::LinkMetricResultCode(LinkMetricResultCode::from_u8(byte_at(s, 0))),
+            Record::Ieee1905ProfileVersion(Ieee1905ProfileVersion::from_u8(first)),
+        Kind::LinkMetricResultCode => Record::LinkMetricResultCode(LinkMetricResultCode::from_u8(
+            first,
+        )),
         Kind::LinkMetricQuery => Record::LinkMetricQuery(query_in(s)),
         Kind::ClientAssociation => Record::ClientAssociation(association_in(s)),
-        Kind::MultiApProfile => Record::MultiApProfile(MultiApProfile::from_u8(byte_at(s, 0))),
+        Kind::MultiApProfile => Record::MultiApProfile(MultiApProfile::from_u8(first)),
         Kind::Profile2ApCapability => Record::Profile2ApCapability(capability_in(s)),
     }
 }

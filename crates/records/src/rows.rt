@@ -1,7 +1,34 @@
-// The kinds that are records, as rows of document 01's table: the layout, whether bytes may stand behind it, and which values it takes.
+// The kinds that are records, as rows of document 01's table.
 use crate::Kind;
 ghost use mathlib.Core.Path.{_≡_};
-ghost use Rattle.records.specs.Kinds.{layoutOf, takesRest, checkOf};
+ghost use Rattle.records.specs.Kinds.{kinds, fixed, rowOf};
+ghost use Rattle.records.specs.Reading.{knownOf, withCode};
+
+// The kind that has a code, or that none has it.
+pub enum KnownKind {
+    Is(Kind),
+    None,
+}
+
+pub(crate) fn kind_of(code: u8) -> KnownKind
+    ensures { λ r. ⌜ knownOf r ≡ withCode code kinds ⌝ }
+{
+    match code {
+        0 => KnownKind::Is(Kind::EndOfMessage),
+        1 => KnownKind::Is(Kind::AlMacAddress),
+        2 => KnownKind::Is(Kind::MacAddress),
+        13 => KnownKind::Is(Kind::SearchedRole),
+        15 => KnownKind::Is(Kind::SupportedRole),
+        16 => KnownKind::Is(Kind::SupportedFreqBand),
+        26 => KnownKind::Is(Kind::Ieee1905ProfileVersion),
+        12 => KnownKind::Is(Kind::LinkMetricResultCode),
+        8 => KnownKind::Is(Kind::LinkMetricQuery),
+        0x92 => KnownKind::Is(Kind::ClientAssociation),
+        0xB3 => KnownKind::Is(Kind::MultiApProfile),
+        0xB4 => KnownKind::Is(Kind::Profile2ApCapability),
+        _ => KnownKind::None,
+    }
+}
 
 pub enum Layout {
     Fixed(usize),
@@ -19,60 +46,47 @@ pub enum Check {
     HighBitOnly,
 }
 
-pub(crate) fn layout_of(kind: Kind) -> Layout
-    ensures { λ r. ⌜ r ≡ layoutOf kind ⌝ }
+pub struct Row {
+    pub layout: Layout,
+    // bytes may stand behind the layout
+    pub takes_rest: bool,
+    pub check: Check,
+}
+
+// Most rows have a size of their own and take bytes behind it.
+fn fixed(size: usize, check: Check) -> Row
+    ensures { λ r. ⌜ r ≡ fixed size check ⌝ }
 {
-    match kind {
-        Kind::EndOfMessage => Layout::Fixed(0),
-        Kind::AlMacAddress => Layout::Fixed(6),
-        Kind::MacAddress => Layout::Fixed(6),
-        Kind::SearchedRole => Layout::Fixed(1),
-        Kind::SupportedRole => Layout::Fixed(1),
-        Kind::SupportedFreqBand => Layout::Fixed(1),
-        Kind::Ieee1905ProfileVersion => Layout::Fixed(1),
-        Kind::LinkMetricResultCode => Layout::Fixed(1),
-        Kind::LinkMetricQuery => Layout::Query,
-        Kind::ClientAssociation => Layout::Fixed(13),
-        Kind::MultiApProfile => Layout::Fixed(1),
-        Kind::Profile2ApCapability => Layout::Fixed(4),
+    Row {
+        layout: Layout::Fixed(size),
+        takes_rest: true,
+        check,
     }
 }
 
-// Only the end marker takes no bytes behind it.
-pub(crate) fn takes_rest(kind: Kind) -> bool
-    ensures { λ r. ⌜ r ≡ takesRest kind ⌝ }
+pub(crate) fn row_of(kind: Kind) -> Row
+    ensures { λ r. ⌜ r ≡ rowOf kind ⌝ }
 {
     match kind {
-        Kind::EndOfMessage => false,
-        Kind::AlMacAddress => true,
-        Kind::MacAddress => true,
-        Kind::SearchedRole => true,
-        Kind::SupportedRole => true,
-        Kind::SupportedFreqBand => true,
-        Kind::Ieee1905ProfileVersion => true,
-        Kind::LinkMetricResultCode => true,
-        Kind::LinkMetricQuery => true,
-        Kind::ClientAssociation => true,
-        Kind::MultiApProfile => true,
-        Kind::Profile2ApCapability => true,
-    }
-}
-
-pub(crate) fn check_of(kind: Kind) -> Check
-    ensures { λ r. ⌜ r ≡ checkOf kind ⌝ }
-{
-    match kind {
-        Kind::EndOfMessage => Check::Any,
-        Kind::AlMacAddress => Check::Any,
-        Kind::MacAddress => Check::Any,
-        Kind::SearchedRole => Check::Zero,
-        Kind::SupportedRole => Check::Zero,
-        Kind::SupportedFreqBand => Check::Any,
-        Kind::Ieee1905ProfileVersion => Check::Any,
-        Kind::LinkMetricResultCode => Check::Any,
-        Kind::LinkMetricQuery => Check::Any,
-        Kind::ClientAssociation => Check::HighBitOnly,
-        Kind::MultiApProfile => Check::NotZero,
-        Kind::Profile2ApCapability => Check::Any,
+        Kind::EndOfMessage => Row {
+            layout: Layout::Fixed(0),
+            takes_rest: false,
+            check: Check::Any,
+        },
+        Kind::AlMacAddress => fixed(6, Check::Any),
+        Kind::MacAddress => fixed(6, Check::Any),
+        Kind::SearchedRole => fixed(1, Check::Zero),
+        Kind::SupportedRole => fixed(1, Check::Zero),
+        Kind::SupportedFreqBand => fixed(1, Check::Any),
+        Kind::Ieee1905ProfileVersion => fixed(1, Check::Any),
+        Kind::LinkMetricResultCode => fixed(1, Check::Any),
+        Kind::LinkMetricQuery => Row {
+            layout: Layout::Query,
+            takes_rest: true,
+            check: Check::Any,
+        },
+        Kind::ClientAssociation => fixed(13, Check::HighBitOnly),
+        Kind::MultiApProfile => fixed(1, Check::NotZero),
+        Kind::Profile2ApCapability => fixed(4, Check::Any),
     }
 }
