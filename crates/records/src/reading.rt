@@ -1,4 +1,4 @@
-// Reading a value of a kind, over the rows of the table and the record in a layout's bytes.
+// Reading: a function for each kind and a match on the kind, over the rows of the table and the record in a layout's bytes.
 use crate::AssociationState;
 use crate::ByteCounterUnits;
 use crate::ClientAssociation;
@@ -50,8 +50,8 @@ pub(crate) fn measure_kind(kind: Kind, s: &[u8]) -> Measured
     Measured::Refused(Refusal::BadValue)
 }
 
-// A value of a kind: the record too, once it is known to be there.
-pub(crate) fn read_kind(kind: Kind, s: &[u8]) -> Read
+// The record of a kind, once its bytes are known to be there.
+fn record_of(kind: Kind, s: &[u8]) -> Read
     ensures { λ r. ⌜ readOf r ≡ readKind kind (now (s .entry)) ⌝ }
 {
     match measure_kind(kind, s) {
@@ -60,6 +60,99 @@ pub(crate) fn read_kind(kind: Kind, s: &[u8]) -> Read
             consumed,
         },
         Measured::Refused(refusal) => Read::Refused(refusal),
+    }
+}
+
+// A value of each kind.
+fn read_end_of_message(s: &[u8]) -> Read
+    ensures { λ r. ⌜ readOf r ≡ readKind Kind.EndOfMessage (now (s .entry)) ⌝ }
+{
+    record_of(Kind::EndOfMessage, s)
+}
+
+fn read_al_mac_address(s: &[u8]) -> Read
+    ensures { λ r. ⌜ readOf r ≡ readKind Kind.AlMacAddress (now (s .entry)) ⌝ }
+{
+    record_of(Kind::AlMacAddress, s)
+}
+
+fn read_mac_address(s: &[u8]) -> Read
+    ensures { λ r. ⌜ readOf r ≡ readKind Kind.MacAddress (now (s .entry)) ⌝ }
+{
+    record_of(Kind::MacAddress, s)
+}
+
+fn read_searched_role(s: &[u8]) -> Read
+    ensures { λ r. ⌜ readOf r ≡ readKind Kind.SearchedRole (now (s .entry)) ⌝ }
+{
+    record_of(Kind::SearchedRole, s)
+}
+
+fn read_supported_role(s: &[u8]) -> Read
+    ensures { λ r. ⌜ readOf r ≡ readKind Kind.SupportedRole (now (s .entry)) ⌝ }
+{
+    record_of(Kind::SupportedRole, s)
+}
+
+fn read_supported_freq_band(s: &[u8]) -> Read
+    ensures { λ r. ⌜ readOf r ≡ readKind Kind.SupportedFreqBand (now (s .entry)) ⌝ }
+{
+    record_of(Kind::SupportedFreqBand, s)
+}
+
+fn read_ieee1905_profile_version(s: &[u8]) -> Read
+    ensures { λ r. ⌜ readOf r ≡ readKind Kind.Ieee1905ProfileVersion (now (s .entry)) ⌝ }
+{
+    record_of(Kind::Ieee1905ProfileVersion, s)
+}
+
+fn read_link_metric_result_code(s: &[u8]) -> Read
+    ensures { λ r. ⌜ readOf r ≡ readKind Kind.LinkMetricResultCode (now (s .entry)) ⌝ }
+{
+    record_of(Kind::LinkMetricResultCode, s)
+}
+
+fn read_link_metric_query(s: &[u8]) -> Read
+    ensures { λ r. ⌜ readOf r ≡ readKind Kind.LinkMetricQuery (now (s .entry)) ⌝ }
+{
+    record_of(Kind::LinkMetricQuery, s)
+}
+
+fn read_client_association(s: &[u8]) -> Read
+    ensures { λ r. ⌜ readOf r ≡ readKind Kind.ClientAssociation (now (s .entry)) ⌝ }
+{
+    record_of(Kind::ClientAssociation, s)
+}
+
+fn read_multi_ap_profile(s: &[u8]) -> Read
+    ensures { λ r. ⌜ readOf r ≡ readKind Kind.MultiApProfile (now (s .entry)) ⌝ }
+{
+    record_of(Kind::MultiApProfile, s)
+}
+
+fn read_profile2_ap_capability(s: &[u8]) -> Read
+    ensures { λ r. ⌜ readOf r ≡ readKind Kind.Profile2ApCapability (now (s .entry)) ⌝ }
+{
+    record_of(Kind::Profile2ApCapability, s)
+}
+
+// A value of a kind.
+pub(crate) fn read_kind(kind: Kind, s: &[u8]) -> Read
+    ensures { λ r. ⌜ readOf r ≡ readKind kind (now (s .entry)) ⌝ }
+{
+    match kind {
+        Kind::EndOfMessage => read_end_of_message(s),
+        Kind::AlMacAddress => read_al_mac_address(s),
+        Kind::MacAddress => read_mac_address(s),
+        Kind::SearchedRole => read_searched_role(s),
+        Kind::SupportedRole => read_supported_role(s),
+        Kind::SupportedFreqBand => read_supported_freq_band(s),
+        Kind::Ieee1905ProfileVersion => read_ieee1905_profile_version(s),
+        Kind::LinkMetricResultCode => read_link_metric_result_code(s),
+        Kind::LinkMetricQuery => read_link_metric_query(s),
+        Kind::ClientAssociation => read_client_association(s),
+        Kind::MultiApProfile => read_multi_ap_profile(s),
+        Kind::Profile2ApCapability => read_profile2_ap_capability(s),
     }
 }
 
