@@ -1,10 +1,10 @@
 // Answers the commands on standard input, a line each, through the library's public calls (oracle/COMMANDS.md). It is held against the original
 // by oracle/run, and against a kept list of the original's answers whenever it is checked.
+use drive_pushes::Served;
+use drive_words::parse;
+use drive_words::show;
 use libc::STDIN_FILENO;
-use pushes::Served;
 use table::Table;
-use words::parse;
-use words::show;
 ghost use Prim.Native.Nat.{_≤_};
 ghost use Rattle.pushing.specs.Made.{Made};
 
@@ -28,11 +28,11 @@ struct Filled {
 fn answer(line: &[u8], data: &mut [u8], out: &mut [u8], text: &mut [u8], used: usize) -> usize {
     let letter = parse::byte_at(line, 0);
     match letter {
-        b'k' | b'g' | b'd' | b'D' | b'l' => payloads::answer(letter, line, data, text, used),
+        b'k' | b'g' | b'd' | b'D' | b'l' => drive_payloads::answer(letter, line, data, text, used),
         b'r' | b's' | b'f' | b'e' | b'a' => {
-            singles::answer_typed(letter, line, data, out, text, used)
+            drive_singles::answer_typed(letter, line, data, out, text, used)
         }
-        _ => singles::answer_framed(letter, line, data, out, text, used),
+        _ => drive_singles::answer_framed(letter, line, data, out, text, used),
     }
 }
 
@@ -71,7 +71,7 @@ fn turn(
     let used = show::with_room(text, before);
     if is_of_table(parse::byte_at(line, 0)) {
         let n = parse::decode_in(line, 8, data);
-        return pushes::answer(t, line, parse::part(data, 0, n), out, store, text, used);
+        return drive_pushes::answer(t, line, parse::part(data, 0, n), out, store, text, used);
     }
     let end = answer(line, data, out, text, used);
     Served {
@@ -171,7 +171,7 @@ fn serve(input: &mut [u8], data: &mut [u8], out: &mut [u8], store: &mut [u8], te
 fn start() -> State
     ensures { λ r. ⌜ Made (r .table) ⌝ }
 {
-    let t = pushes::made_fresh();
+    let t = drive_pushes::made_fresh();
     State {
         table: t,
         used: 0,

@@ -1,0 +1,257 @@
+// The commands of the kinds: r, s, f, e and a.
+use crate::framed;
+use drive_fields::Given;
+use drive_words::parse;
+use drive_words::show;
+use drive_words::show::Tally;
+use framing::Written;
+use kinds::KindRead;
+use layouts::Located;
+use layouts::Path;
+
+// Where to look next, while there is more to look for.
+struct Onward {
+    path: Path,
+    more: bool,
+}
+
+// More than any value has entries and ends of lists.
+const TURNS: usize = 1000000;
+
+// What stands in front of the list.
+fn put_front(code: u8, data: &[u8], text: &mut [u8], used: usize) -> usize {
+    if code == 6 || code == 7 {
+        return show::put_next_shown(text, used, parse::part(data, 0, 6));
+    }
+    show::put(text, used, b" -")
+}
+
+// How many bytes of a value were read, and how many are left.
+fn put_sizes(consumed: usize, rest: usize, text: &mut [u8], used: usize) -> usize {
+    let a = show::put_ok(text, used);
+    let b = show::put_next_size(text, a, consumed);
+    show::put_next_size(text, b, rest)
+}
+
+// r: a value read.
+pub(crate) fn read(code: u8, data: &[u8], text: &mut [u8], used: usize) -> usize {
+    match kinds::read_kind(code, data) {
+        KindRead::Record {
+            record,
+            consumed,
+            rest,
+        } => {
+            let a = put_sizes(consumed, rest, text, used);
+            drive_fields::put_record(record, text, a)
+        }
+        KindRead::List {
+            entries,
+            consumed,
+            rest,
+        } => {
+            let a = put_sizes(consumed, rest, text, used);
+            let b = put_front(code, data, text, a);
+            show::put_next_size(text, b, entries)
+        }
+        KindRead::Refused(refusal) => show::put_refused(text, used, refusal),
+    }
+}
+
+// A value written as it was read: a record from the record, a list from its bytes.
+fn write_read(code: u8, data: &[u8], out: &mut [u8]) -> Written {
+    match kinds::read_kind(code, data) {
+        KindRead::Record {
+            record,
+            consumed: _,
+            rest: _,
+        } => record_writing::write_record(record, out),
+        KindRead::List {
+            entries: _,
+            consumed: _,
+            rest: _,
+        } => kinds::write_kind(code, data, out),
+        KindRead::Refused(refusal) => Written::Refused(refusal),
+    }
+}
+
+// s: a value read, and written into so much room.
+pub(crate) fn rewrite(
+    code: u8,
+    asked: usize,
+    data: &[u8],
+    out: &mut [u8],
+    text: &mut [u8],
+    used: usize,
+) -> usize {
+    let room = parse::least(asked, out.len());
+    let written = write_read(code, data, &mut out[0..room]);
+    framed::put_written(written, out, text, used)
+}
+
+// f: a record written from its fields.
+pub(crate) fn write(line: &[u8], out: &mut [u8], text: &mut [u8], used: usize) -> usize {
+    let room = parse::least(parse::size_in(line, 2), out.len());
+    match drive_fields::record_in(parse::byte_in(line, 1), line) {
+        Given::Record(record) => {
+            let written = record_writing::write_record(record, &mut out[0..room]);
+            framed::put_written(written, out, text, used)
+        }
+        Given::Nothing => show::put(text, used, b"bad"),
+    }
+}
+
+fn index_in(numbers: &[u8], n: usize) -> usize {
+    parse::number(parse::piece(numbers, b'.', n)) as usize
+}
+
+fn path_of(numbers: &[u8]) -> Path {
+    Path {
+        depth: parse::pieces(numbers, b'.'),
+        i0: index_in(numbers, 0),
+        i1: index_in(numbers, 1),
+        i2: index_in(numbers, 2),
+    }
+}
+
+// e: an entry by its numbers.
+pub(crate) fn entry(code: u8, numbers: &[u8], data: &[u8], text: &mut [u8], used: usize) -> usize {
+    let path = path_of(numbers);
+    match kinds::locate(code, path, data) {
+        Located::Entry { start: _, end: _ } => {
+            let a = show::put_ok(text, used);
+            show::put_next_shown(text, a, kinds::entry(code, path, data))
+        }
+        Located::Refused(refusal) => show::put_refused(text, used, refusal),
+    }
+}
+
+// The entry behind this one in the same list.
+fn following(p: Path) -> Path {
+    let depth = p.depth;
+    if depth == 1 {
+        return Path {
+            depth,
+            i0: std::num::wrapping_add_usize(p.i0, 1),
+            i1: 0,
+            i2: 0,
+        };
+    }
+    if depth == 2 {
+        return Path {
+            depth,
+            i0: p.i0,
+            i1: std::num::wrapping_add_usize(p.i1, 1),
+            i2: 0,
+        };
+    }
+    Path {
+        depth,
+        i0: p.i0,
+        i1: p.i1,
+        i2: std::num::wrapping_add_usize(p.i2, 1),
+    }
+}
+
+// Behind an entry that is there come the first one below it and those behind it; where there is none, the one behind the entry above.
+fn next(p: Path, found: bool) -> Onward {
+    let depth = p.depth;
+    if found {
+        if depth < 3 {
+            return Onward {
+                path: Path {
+                    depth: depth + 1,
+                    i0: p.i0,
+                    i1: p.i1,
+                    i2: p.i2,
+                },
+                more: true,
+            };
+        }
+        return Onward {
+            path: following(p),
+            more: true,
+        };
+    }
+    if depth < 2 {
+        return Onward {
+            path: p,
+            more: false,
+        };
+    }
+    Onward {
+        path: following(Path {
+            depth: depth - 1,
+            i0: p.i0,
+            i1: p.i1,
+            i2: p.i2,
+        }),
+        more: true,
+    }
+}
+
+// The checksum goes on over the numbers of an entry.
+fn sum_path(sum: u64, p: Path) -> u64 {
+    let depth = p.depth;
+    let a = show::sum_two(show::sum_byte(sum, (depth % 256) as u8), p.i0);
+    if depth < 2 {
+        return a;
+    }
+    let b = show::sum_two(a, p.i1);
+    if depth < 3 {
+        return b;
+    }
+    show::sum_two(b, p.i2)
+}
+
+fn with_entry(all: Tally, p: Path, part: &[u8]) -> Tally {
+    show::with_part(all.count, sum_path(all.sum, p), part)
+}
+
+fn is_there(code: u8, p: Path, data: &[u8]) -> bool {
+    match kinds::locate(code, p, data) {
+        Located::Entry { start: _, end: _ } => true,
+        Located::Refused(_) => false,
+    }
+}
+
+// Every entry of a value, each before those below it.
+fn all_entries(code: u8, data: &[u8]) -> Tally {
+    let mut all = show::no_parts();
+    let mut p = Path {
+        depth: 1,
+        i0: 0,
+        i1: 0,
+        i2: 0,
+    };
+    let mut turn = 0;
+    while turn < TURNS {
+        let found = is_there(code, p, data);
+        if found {
+            all = with_entry(all, p, kinds::entry(code, p, data));
+        }
+        let n = next(p, found);
+        if !n.more {
+            return all;
+        }
+        p = n.path;
+        turn += 1;
+    }
+    all
+}
+
+// a: every entry at every level.
+pub(crate) fn entries(code: u8, data: &[u8], text: &mut [u8], used: usize) -> usize {
+    match kinds::read_kind(code, data) {
+        KindRead::Refused(refusal) => show::put_refused(text, used, refusal),
+        KindRead::Record {
+            record: _,
+            consumed: _,
+            rest: _,
+        } => show::put_tally(text, used, all_entries(code, data)),
+        KindRead::List {
+            entries: _,
+            consumed: _,
+            rest: _,
+        } => show::put_tally(text, used, all_entries(code, data)),
+    }
+}
