@@ -24,15 +24,13 @@ struct Filled {
     ended: bool,
 }
 
-// One line answered; where the text then ends.
-fn answer(line: &[u8], data: &mut [u8], out: &mut [u8], text: &mut [u8], used: usize) -> usize {
+// One line answered from the bytes that it gives; where the text then ends.
+fn answer(line: &[u8], bytes: &[u8], out: &mut [u8], text: &mut [u8], used: usize) -> usize {
     let letter = parse::byte_at(line, 0);
     match letter {
-        b'k' | b'g' | b'd' | b'D' | b'l' => drive_payloads::answer(letter, line, data, text, used),
-        b'r' | b's' | b'f' | b'e' | b'a' => {
-            drive_singles::answer_typed(letter, line, data, out, text, used)
-        }
-        _ => drive_singles::answer_framed(letter, line, data, out, text, used),
+        b'k' | b'g' | b'd' | b'D' | b'l' => drive_payloads::answer(letter, line, bytes, text, used),
+        b'w' | b's' | b'f' => drive_singles::answer_written(letter, line, bytes, out, text, used),
+        _ => drive_singles::answer_read(letter, line, bytes, text, used),
     }
 }
 
@@ -59,7 +57,7 @@ fn is_of_table(letter: u8) -> bool {
 fn turn(
     t: Table,
     line: &[u8],
-    data: &mut [u8],
+    bytes: &[u8],
     out: &mut [u8],
     store: &mut [u8],
     text: &mut [u8],
@@ -70,13 +68,11 @@ fn turn(
 {
     let used = show::with_room(text, before);
     if is_of_table(parse::byte_at(line, 0)) {
-        let n = parse::decode_in(line, 8, data);
-        return drive_pushes::answer(t, line, parse::part(data, 0, n), out, store, text, used);
+        return drive_pushes::answer(t, line, bytes, out, store, text, used);
     }
-    let end = answer(line, data, out, text, used);
     Served {
         table: t,
-        used: end,
+        used: answer(line, bytes, out, text, used),
     }
 }
 
@@ -95,7 +91,8 @@ fn answered(
 {
     let t = s.table;
     let line = parse::part(input, s.at, end);
-    let served = turn(t, line, data, out, store, text, s.used);
+    let n = parse::decode_line(line, data);
+    let served = turn(t, line, parse::part(data, 0, n), out, store, text, s.used);
     let after = served.table;
     State {
         table: after,

@@ -14,57 +14,68 @@ use records::Profile2ApCapability;
 use records::Record;
 use records::SupportedFreqBand;
 
-// A record that a command gives.
-pub enum Given {
-    Record(Record),
-    Nothing,
+// A code as a field: its number, with an `r` in front where the standard has no name for it.
+struct Code {
+    reserved: bool,
+    number: u8,
+}
+
+fn named(number: u8) -> Code {
+    Code {
+        reserved: false,
+        number,
+    }
+}
+
+fn reserved(number: u8) -> Code {
+    Code {
+        reserved: true,
+        number,
+    }
 }
 
 fn put_address(m: MacAddr, text: &mut [u8], used: usize) -> usize {
-    let blank = show::put(text, used, b" ");
-    let a = show::put_pair(text, blank, m.b0);
-    let b = show::put_pair(text, a, m.b1);
-    let c = show::put_pair(text, b, m.b2);
-    let d = show::put_pair(text, c, m.b3);
-    let e = show::put_pair(text, d, m.b4);
-    show::put_pair(text, e, m.b5)
+    show::put_shown(text, used, b' ', &[m.b0, m.b1, m.b2, m.b3, m.b4, m.b5])
 }
 
-fn put_reserved(code: u8, text: &mut [u8], used: usize) -> usize {
-    let a = show::put(text, used, b" r");
-    show::put_number(text, a, code as u64)
+fn put_code(code: Code, text: &mut [u8], used: usize) -> usize {
+    if code.reserved {
+        let a = show::put_byte(text, used, b' ');
+        return show::put_after(text, a, b'r', code.number as u64);
+    }
+    show::put_next(text, used, code.number as u64)
 }
 
-fn put_band(band: SupportedFreqBand, text: &mut [u8], used: usize) -> usize {
+fn code_of_band(band: SupportedFreqBand) -> Code {
     match band {
-        SupportedFreqBand::Band_802_11_2_4 => show::put(text, used, b" 0"),
-        SupportedFreqBand::Band_802_11_5 => show::put(text, used, b" 1"),
-        SupportedFreqBand::Band_802_11_60 => show::put(text, used, b" 2"),
-        SupportedFreqBand::Reserved(code) => put_reserved(code, text, used),
+        SupportedFreqBand::Band_802_11_2_4 => named(0),
+        SupportedFreqBand::Band_802_11_5 => named(1),
+        SupportedFreqBand::Band_802_11_60 => named(2),
+        SupportedFreqBand::Reserved(number) => reserved(number),
     }
 }
 
-fn put_version(version: Ieee1905ProfileVersion, text: &mut [u8], used: usize) -> usize {
+fn code_of_version(version: Ieee1905ProfileVersion) -> Code {
     match version {
-        Ieee1905ProfileVersion::Ieee1905_1 => show::put(text, used, b" 0"),
-        Ieee1905ProfileVersion::Ieee1905_1a => show::put(text, used, b" 1"),
-        Ieee1905ProfileVersion::Reserved(code) => put_reserved(code, text, used),
+        Ieee1905ProfileVersion::Ieee1905_1 => named(0),
+        Ieee1905ProfileVersion::Ieee1905_1a => named(1),
+        Ieee1905ProfileVersion::Reserved(number) => reserved(number),
     }
 }
 
-fn put_result(result: LinkMetricResultCode, text: &mut [u8], used: usize) -> usize {
+fn code_of_result(result: LinkMetricResultCode) -> Code {
     match result {
-        LinkMetricResultCode::InvalidNeighbor => show::put(text, used, b" 0"),
-        LinkMetricResultCode::UnknownCode(code) => put_reserved(code, text, used),
+        LinkMetricResultCode::InvalidNeighbor => named(0),
+        LinkMetricResultCode::UnknownCode(number) => reserved(number),
     }
 }
 
-fn put_profile(profile: MultiApProfile, text: &mut [u8], used: usize) -> usize {
+fn code_of_profile(profile: MultiApProfile) -> Code {
     match profile {
-        MultiApProfile::Profile1 => show::put(text, used, b" 1"),
-        MultiApProfile::Profile2 => show::put(text, used, b" 2"),
-        MultiApProfile::Profile3 => show::put(text, used, b" 3"),
-        MultiApProfile::Reserved(code) => put_reserved(code, text, used),
+        MultiApProfile::Profile1 => named(1),
+        MultiApProfile::Profile2 => named(2),
+        MultiApProfile::Profile3 => named(3),
+        MultiApProfile::Reserved(number) => reserved(number),
     }
 }
 
@@ -76,16 +87,16 @@ fn put_neighbor(neighbor: NeighborMac, text: &mut [u8], used: usize) -> usize {
 }
 
 fn put_query(query: LinkMetricQuery, text: &mut [u8], used: usize) -> usize {
-    let a = show::put_next_byte(text, used, query.neighbor_type);
+    let a = show::put_next(text, used, query.neighbor_type as u64);
     let neighbor = query.neighbor_mac;
     let b = put_neighbor(neighbor, text, a);
-    show::put_next_byte(text, b, query.requested_metrics)
+    show::put_next(text, b, query.requested_metrics as u64)
 }
 
-fn put_state(state: AssociationState, text: &mut [u8], used: usize) -> usize {
+fn number_of_state(state: AssociationState) -> u64 {
     match state {
-        AssociationState::LeftBss => show::put(text, used, b" 0"),
-        AssociationState::JoinedBss => show::put(text, used, b" 1"),
+        AssociationState::LeftBss => 0,
+        AssociationState::JoinedBss => 1,
     }
 }
 
@@ -95,28 +106,59 @@ fn put_association(client: ClientAssociation, text: &mut [u8], used: usize) -> u
     let state = client.association_state;
     let a = put_address(station, text, used);
     let b = put_address(access_point, text, a);
-    put_state(state, text, b)
+    show::put_next(text, b, number_of_state(state))
 }
 
-fn put_units(units: ByteCounterUnits, text: &mut [u8], used: usize) -> usize {
+fn number_of_units(units: ByteCounterUnits) -> u64 {
     match units {
-        ByteCounterUnits::Bytes => show::put(text, used, b" 0"),
-        ByteCounterUnits::KiB => show::put(text, used, b" 1"),
-        ByteCounterUnits::MiB => show::put(text, used, b" 2"),
-        ByteCounterUnits::Reserved => show::put(text, used, b" 3"),
+        ByteCounterUnits::Bytes => 0,
+        ByteCounterUnits::KiB => 1,
+        ByteCounterUnits::MiB => 2,
+        ByteCounterUnits::Reserved => 3,
     }
 }
 
 fn put_capability(p: Profile2ApCapability, text: &mut [u8], used: usize) -> usize {
-    let a = show::put_next_byte(text, used, p.max_prioritization_rules);
-    let b = show::put_next_byte(text, a, p.reserved);
     let units = p.byte_counter_units;
-    let c = put_units(units, text, b);
-    let d = show::put_next_bool(text, c, p.prioritization);
-    let e = show::put_next_bool(text, d, p.dpp_onboarding);
-    let f = show::put_next_bool(text, e, p.traffic_separation);
-    let g = show::put_next_byte(text, f, p.flags_reserved);
-    show::put_next_byte(text, g, p.max_vids)
+    let a = show::put_next_three(
+        text,
+        used,
+        p.max_prioritization_rules as u64,
+        p.reserved as u64,
+        number_of_units(units),
+    );
+    let b = show::put_next_three(
+        text,
+        a,
+        p.prioritization as u64,
+        p.dpp_onboarding as u64,
+        p.traffic_separation as u64,
+    );
+    let c = show::put_next(text, b, p.flags_reserved as u64);
+    show::put_next(text, c, p.max_vids as u64)
+}
+
+// The code that a record of one number is.
+fn code_of(record: Record) -> Code {
+    match record {
+        Record::SearchedRole(role) => named(role),
+        Record::SupportedRole(role) => named(role),
+        Record::SupportedFreqBand(band) => code_of_band(band),
+        Record::Ieee1905ProfileVersion(version) => code_of_version(version),
+        Record::LinkMetricResultCode(result) => code_of_result(result),
+        Record::MultiApProfile(profile) => code_of_profile(profile),
+        _ => named(0),
+    }
+}
+
+// A record of several fields, or of one number.
+fn put_numbers(record: Record, text: &mut [u8], used: usize) -> usize {
+    match record {
+        Record::LinkMetricQuery(query) => put_query(query, text, used),
+        Record::ClientAssociation(client) => put_association(client, text, used),
+        Record::Profile2ApCapability(p) => put_capability(p, text, used),
+        _ => put_code(code_of(record), text, used),
+    }
 }
 
 // A record's fields, each behind a blank.
@@ -125,15 +167,7 @@ pub fn put_record(record: Record, text: &mut [u8], used: usize) -> usize {
         Record::EndOfMessage => used,
         Record::AlMacAddress(address) => put_address(address, text, used),
         Record::MacAddress(address) => put_address(address, text, used),
-        Record::SearchedRole(role) => show::put_next_byte(text, used, role),
-        Record::SupportedRole(role) => show::put_next_byte(text, used, role),
-        Record::SupportedFreqBand(band) => put_band(band, text, used),
-        Record::Ieee1905ProfileVersion(version) => put_version(version, text, used),
-        Record::LinkMetricResultCode(result) => put_result(result, text, used),
-        Record::LinkMetricQuery(query) => put_query(query, text, used),
-        Record::ClientAssociation(client) => put_association(client, text, used),
-        Record::MultiApProfile(profile) => put_profile(profile, text, used),
-        Record::Profile2ApCapability(p) => put_capability(p, text, used),
+        _ => put_numbers(record, text, used),
     }
 }
 
@@ -149,61 +183,56 @@ fn address_in(line: &[u8], n: usize) -> MacAddr {
     }
 }
 
-// A code with its number, without the `r` in front.
-fn code_of(word: &[u8]) -> u8 {
-    if is_reserved(word) {
-        return parse::byte_of(parse::number(parse::part(word, 1, word.len())));
+fn code_in(line: &[u8], n: usize) -> Code {
+    let word = parse::field(line, n);
+    if parse::byte_at(word, 0) == b'r' {
+        return reserved(parse::byte_of(parse::number(parse::part(word, 1, word.len()))));
     }
-    parse::byte_of(parse::number(word))
+    named(parse::byte_of(parse::number(word)))
 }
 
-fn is_reserved(word: &[u8]) -> bool {
-    parse::byte_at(word, 0) == b'r'
-}
-
-fn band_of(word: &[u8]) -> SupportedFreqBand {
-    let code = code_of(word);
-    if is_reserved(word) {
-        return SupportedFreqBand::Reserved(code);
+fn band_of(code: Code) -> SupportedFreqBand {
+    let number = code.number;
+    if code.reserved {
+        return SupportedFreqBand::Reserved(number);
     }
-    match code {
+    match number {
         0 => SupportedFreqBand::Band_802_11_2_4,
         1 => SupportedFreqBand::Band_802_11_5,
         2 => SupportedFreqBand::Band_802_11_60,
-        _ => SupportedFreqBand::Reserved(code),
+        _ => SupportedFreqBand::Reserved(number),
     }
 }
 
-fn version_of(word: &[u8]) -> Ieee1905ProfileVersion {
-    let code = code_of(word);
-    if is_reserved(word) {
-        return Ieee1905ProfileVersion::Reserved(code);
+fn version_of(code: Code) -> Ieee1905ProfileVersion {
+    let number = code.number;
+    if code.reserved {
+        return Ieee1905ProfileVersion::Reserved(number);
     }
-    match code {
+    match number {
         0 => Ieee1905ProfileVersion::Ieee1905_1,
         1 => Ieee1905ProfileVersion::Ieee1905_1a,
-        _ => Ieee1905ProfileVersion::Reserved(code),
+        _ => Ieee1905ProfileVersion::Reserved(number),
     }
 }
 
-fn result_of(word: &[u8]) -> LinkMetricResultCode {
-    let code = code_of(word);
-    if is_reserved(word) {
-        return LinkMetricResultCode::UnknownCode(code);
+fn result_of(code: Code) -> LinkMetricResultCode {
+    if code.reserved {
+        return LinkMetricResultCode::UnknownCode(code.number);
     }
     LinkMetricResultCode::InvalidNeighbor
 }
 
-fn profile_of(word: &[u8]) -> MultiApProfile {
-    let code = code_of(word);
-    if is_reserved(word) {
-        return MultiApProfile::Reserved(code);
+fn profile_of(code: Code) -> MultiApProfile {
+    let number = code.number;
+    if code.reserved {
+        return MultiApProfile::Reserved(number);
     }
-    match code {
+    match number {
         1 => MultiApProfile::Profile1,
         2 => MultiApProfile::Profile2,
         3 => MultiApProfile::Profile3,
-        _ => MultiApProfile::Reserved(code),
+        _ => MultiApProfile::Reserved(number),
     }
 }
 
@@ -259,21 +288,42 @@ fn capability_in(line: &[u8]) -> Profile2ApCapability {
     }
 }
 
-// The record of a kind whose fields are those of the line from the fourth on.
-pub fn record_in(code: u8, line: &[u8]) -> Given {
+// A record of several fields, those of the line from the fourth on.
+fn several_in(code: u8, line: &[u8]) -> Record {
     match code {
-        0 => Given::Record(Record::EndOfMessage),
-        1 => Given::Record(Record::AlMacAddress(address_in(line, 3))),
-        2 => Given::Record(Record::MacAddress(address_in(line, 3))),
-        13 => Given::Record(Record::SearchedRole(parse::byte_in(line, 3))),
-        15 => Given::Record(Record::SupportedRole(parse::byte_in(line, 3))),
-        16 => Given::Record(Record::SupportedFreqBand(band_of(parse::field(line, 3)))),
-        26 => Given::Record(Record::Ieee1905ProfileVersion(version_of(parse::field(line, 3)))),
-        12 => Given::Record(Record::LinkMetricResultCode(result_of(parse::field(line, 3)))),
-        8 => Given::Record(Record::LinkMetricQuery(query_in(line))),
-        0x92 => Given::Record(Record::ClientAssociation(association_in(line))),
-        0xB3 => Given::Record(Record::MultiApProfile(profile_of(parse::field(line, 3)))),
-        0xB4 => Given::Record(Record::Profile2ApCapability(capability_in(line))),
-        _ => Given::Nothing,
+        8 => Record::LinkMetricQuery(query_in(line)),
+        0x92 => Record::ClientAssociation(association_in(line)),
+        0xB4 => Record::Profile2ApCapability(capability_in(line)),
+        _ => Record::EndOfMessage,
+    }
+}
+
+// A record that is a code.
+fn coded_in(code: u8, line: &[u8]) -> Record {
+    match code {
+        12 => Record::LinkMetricResultCode(result_of(code_in(line, 3))),
+        16 => Record::SupportedFreqBand(band_of(code_in(line, 3))),
+        26 => Record::Ieee1905ProfileVersion(version_of(code_in(line, 3))),
+        0xB3 => Record::MultiApProfile(profile_of(code_in(line, 3))),
+        _ => several_in(code, line),
+    }
+}
+
+// The record of a kind whose fields are those of the line from the fourth on; the one without a field where the code is no record's.
+pub fn record_in(code: u8, line: &[u8]) -> Record {
+    match code {
+        1 => Record::AlMacAddress(address_in(line, 3)),
+        2 => Record::MacAddress(address_in(line, 3)),
+        13 => Record::SearchedRole(parse::byte_in(line, 3)),
+        15 => Record::SupportedRole(parse::byte_in(line, 3)),
+        _ => coded_in(code, line),
+    }
+}
+
+// Whether the code is a record's, so that the line gives one.
+pub fn is_given(code: u8, line: &[u8]) -> bool {
+    match record_in(code, line) {
+        Record::EndOfMessage => code == 0,
+        _ => true,
     }
 }

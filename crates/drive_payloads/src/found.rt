@@ -63,15 +63,15 @@ fn first_from(payload: &[u8], code: u8, from: usize) -> Hit {
 
 pub(crate) fn put_unwalked(refusal: Refusal, at: usize, text: &mut [u8], used: usize) -> usize {
     let a = show::put_refused(text, used, refusal);
-    show::put_next_size(text, a, at)
+    show::put_next(text, a, at as u64)
 }
 
 pub(crate) fn put_hit(hit: Hit, payload: &[u8], text: &mut [u8], used: usize) -> usize {
     match hit {
         Hit::At { place, start, end } => {
             let a = show::put_ok(text, used);
-            let b = show::put_next_size(text, a, place);
-            show::put_next_shown(text, b, parse::part(payload, start, end))
+            let b = show::put_next(text, a, place as u64);
+            show::put_shown(text, b, b' ', parse::part(payload, start, end))
         }
         Hit::Unwalked { refusal, at } => put_unwalked(refusal, at, text, used),
         Hit::Refused(refusal) => show::put_refused(text, used, refusal),
@@ -92,37 +92,35 @@ fn all_hits(payload: &[u8], code: u8) -> Tally {
     let mut from = 0;
     let mut turn = 0;
     while turn < TURNS {
-        match first_from(payload, code, from) {
-            Hit::At { place, start, end } => {
-                all = show::with_part(all.count, all.sum, parse::part(payload, start, end));
-                from = std::num::wrapping_add_usize(place, 1);
-            }
-            Hit::Unwalked { refusal: _, at: _ } => {
-                return all;
-            }
-            Hit::Refused(_) => {
-                return all;
-            }
-        }
+        let hit = first_from(payload, code, from);
+        let Hit::At { place, start, end } = hit else {
+            return all;
+        };
+        all = show::with_part(all.count, all.sum, parse::part(payload, start, end));
+        from = std::num::wrapping_add_usize(place, 1);
         turn += 1;
     }
     all
 }
 
-// D: every readable one.
-pub(crate) fn every(payload: &[u8], code: u8, text: &mut [u8], used: usize) -> usize {
-    match first_from(payload, code, 0) {
+// That none is found is no refusal of all.
+fn is_refused(hit: Hit) -> bool {
+    match hit {
         Hit::At {
             place: _,
             start: _,
             end: _,
-        } => show::put_tally(text, used, all_hits(payload, code)),
-        Hit::Unwalked { refusal, at } => put_unwalked(refusal, at, text, used),
-        Hit::Refused(refusal) => {
-            if numbers::number_of(refusal) == 15 {
-                return show::put_tally(text, used, all_hits(payload, code));
-            }
-            show::put_refused(text, used, refusal)
-        }
+        } => false,
+        Hit::Unwalked { refusal: _, at: _ } => true,
+        Hit::Refused(refusal) => numbers::number_of(refusal) != 15,
     }
+}
+
+// D: every readable one.
+pub(crate) fn every(payload: &[u8], code: u8, text: &mut [u8], used: usize) -> usize {
+    let hit = first_from(payload, code, 0);
+    if is_refused(hit) {
+        return put_hit(hit, payload, text, used);
+    }
+    show::put_tally(text, used, all_hits(payload, code))
 }

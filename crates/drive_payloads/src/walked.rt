@@ -42,11 +42,9 @@ fn first_part(bytes: &[u8]) -> Part {
 }
 
 fn put_tlv(t: Tlv, text: &mut [u8], used: usize) -> usize {
-    let a = show::put_next_byte(text, used, t.tlv_type);
-    let b = show::put(text, a, b":");
-    let c = show::put_number(text, b, t.offset as u64);
-    let d = show::put(text, c, b":");
-    show::put_number(text, d, t.length as u64)
+    let a = show::put_next(text, used, t.tlv_type as u64);
+    let b = show::put_after(text, a, b':', t.offset as u64);
+    show::put_after(text, b, b':', t.length as u64)
 }
 
 // Each TLV with type, offset and length.
@@ -105,11 +103,11 @@ pub(crate) fn walk(data: &[u8], text: &mut [u8], used: usize) -> usize {
     match walking::walk(data) {
         Walked::Count(count) => {
             let a = show::put_ok(text, used);
-            let b = show::put_next_size(text, a, count);
+            let b = show::put_next(text, a, count as u64);
             if count <= 16 {
                 return put_part(first_part(data), text, b);
             }
-            show::put_next_sum(text, b, sum_all(data, count))
+            show::put_sum(text, b, b' ', sum_all(data, count))
         }
         Walked::Refused { refusal, at } => found::put_unwalked(refusal, at, text, used),
     }

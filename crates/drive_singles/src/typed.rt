@@ -1,36 +1,33 @@
-// The commands of the kinds: r, s, f, e and a.
-use crate::framed;
-use drive_fields::Given;
+// The commands of the kinds that read: r, e and a.
 use drive_words::parse;
 use drive_words::show;
 use drive_words::show::Tally;
-use framing::Written;
 use kinds::KindRead;
 use layouts::Located;
 use layouts::Path;
-
-// Where to look next, while there is more to look for.
-struct Onward {
-    path: Path,
-    more: bool,
-}
 
 // More than any value has entries and ends of lists.
 const TURNS: usize = 1000000;
 
 // What stands in front of the list.
-fn put_front(code: u8, data: &[u8], text: &mut [u8], used: usize) -> usize {
+fn front_of(code: u8, data: &[u8]) -> &[u8] {
     if code == 6 || code == 7 {
-        return show::put_next_shown(text, used, parse::part(data, 0, 6));
+        return parse::part(data, 0, 6);
     }
-    show::put(text, used, b" -")
+    parse::part(data, 0, 0)
 }
 
 // How many bytes of a value were read, and how many are left.
 fn put_sizes(consumed: usize, rest: usize, text: &mut [u8], used: usize) -> usize {
     let a = show::put_ok(text, used);
-    let b = show::put_next_size(text, a, consumed);
-    show::put_next_size(text, b, rest)
+    let b = show::put_next(text, a, consumed as u64);
+    show::put_next(text, b, rest as u64)
+}
+
+// The front of a list, and how many entries it has.
+fn put_list(code: u8, data: &[u8], entries: usize, text: &mut [u8], used: usize) -> usize {
+    let a = show::put_shown(text, used, b' ', front_of(code, data));
+    show::put_next(text, a, entries as u64)
 }
 
 // r: a value read.
@@ -50,53 +47,9 @@ pub(crate) fn read(code: u8, data: &[u8], text: &mut [u8], used: usize) -> usize
             rest,
         } => {
             let a = put_sizes(consumed, rest, text, used);
-            let b = put_front(code, data, text, a);
-            show::put_next_size(text, b, entries)
+            put_list(code, data, entries, text, a)
         }
         KindRead::Refused(refusal) => show::put_refused(text, used, refusal),
-    }
-}
-
-// A value written as it was read: a record from the record, a list from its bytes.
-fn write_read(code: u8, data: &[u8], out: &mut [u8]) -> Written {
-    match kinds::read_kind(code, data) {
-        KindRead::Record {
-            record,
-            consumed: _,
-            rest: _,
-        } => record_writing::write_record(record, out),
-        KindRead::List {
-            entries: _,
-            consumed: _,
-            rest: _,
-        } => kinds::write_kind(code, data, out),
-        KindRead::Refused(refusal) => Written::Refused(refusal),
-    }
-}
-
-// s: a value read, and written into so much room.
-pub(crate) fn rewrite(
-    code: u8,
-    asked: usize,
-    data: &[u8],
-    out: &mut [u8],
-    text: &mut [u8],
-    used: usize,
-) -> usize {
-    let room = parse::least(asked, out.len());
-    let written = write_read(code, data, &mut out[0..room]);
-    framed::put_written(written, out, text, used)
-}
-
-// f: a record written from its fields.
-pub(crate) fn write(line: &[u8], out: &mut [u8], text: &mut [u8], used: usize) -> usize {
-    let room = parse::least(parse::size_in(line, 2), out.len());
-    match drive_fields::record_in(parse::byte_in(line, 1), line) {
-        Given::Record(record) => {
-            let written = record_writing::write_record(record, &mut out[0..room]);
-            framed::put_written(written, out, text, used)
-        }
-        Given::Nothing => show::put(text, used, b"bad"),
     }
 }
 
@@ -119,7 +72,7 @@ pub(crate) fn entry(code: u8, numbers: &[u8], data: &[u8], text: &mut [u8], used
     match kinds::locate(code, path, data) {
         Located::Entry { start: _, end: _ } => {
             let a = show::put_ok(text, used);
-            show::put_next_shown(text, a, kinds::entry(code, path, data))
+            show::put_shown(text, a, b' ', kinds::entry(code, path, data))
         }
         Located::Refused(refusal) => show::put_refused(text, used, refusal),
     }
@@ -152,41 +105,28 @@ fn following(p: Path) -> Path {
     }
 }
 
-// Behind an entry that is there come the first one below it and those behind it; where there is none, the one behind the entry above.
-fn next(p: Path, found: bool) -> Onward {
+fn at_depth(p: Path, depth: usize) -> Path {
+    Path {
+        depth,
+        i0: p.i0,
+        i1: p.i1,
+        i2: p.i2,
+    }
+}
+
+// Behind an entry that is there come the first one below it and those behind it; where there is none, the one behind the entry above. Depth 0 is the end.
+fn next(p: Path, found: bool) -> Path {
     let depth = p.depth;
     if found {
         if depth < 3 {
-            return Onward {
-                path: Path {
-                    depth: depth + 1,
-                    i0: p.i0,
-                    i1: p.i1,
-                    i2: p.i2,
-                },
-                more: true,
-            };
+            return at_depth(p, depth + 1);
         }
-        return Onward {
-            path: following(p),
-            more: true,
-        };
+        return following(p);
     }
     if depth < 2 {
-        return Onward {
-            path: p,
-            more: false,
-        };
+        return at_depth(p, 0);
     }
-    Onward {
-        path: following(Path {
-            depth: depth - 1,
-            i0: p.i0,
-            i1: p.i1,
-            i2: p.i2,
-        }),
-        more: true,
-    }
+    following(at_depth(p, depth - 1))
 }
 
 // The checksum goes on over the numbers of an entry.
@@ -229,11 +169,10 @@ fn all_entries(code: u8, data: &[u8]) -> Tally {
         if found {
             all = with_entry(all, p, kinds::entry(code, p, data));
         }
-        let n = next(p, found);
-        if !n.more {
+        p = next(p, found);
+        if p.depth == 0 {
             return all;
         }
-        p = n.path;
         turn += 1;
     }
     all
@@ -243,15 +182,6 @@ fn all_entries(code: u8, data: &[u8]) -> Tally {
 pub(crate) fn entries(code: u8, data: &[u8], text: &mut [u8], used: usize) -> usize {
     match kinds::read_kind(code, data) {
         KindRead::Refused(refusal) => show::put_refused(text, used, refusal),
-        KindRead::Record {
-            record: _,
-            consumed: _,
-            rest: _,
-        } => show::put_tally(text, used, all_entries(code, data)),
-        KindRead::List {
-            entries: _,
-            consumed: _,
-            rest: _,
-        } => show::put_tally(text, used, all_entries(code, data)),
+        _ => show::put_tally(text, used, all_entries(code, data)),
     }
 }

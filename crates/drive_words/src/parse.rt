@@ -1,4 +1,5 @@
 // Reading a command: its fields, numbers, and bytes written as hex pairs and repeats. What is no command is answered somehow; none is ever generated.
+use crate::show;
 ghost use Prim.Native.Nat.{_≤_, _<_};
 ghost use lib.ListN.{length};
 
@@ -142,19 +143,11 @@ pub fn pair(s: &[u8], n: usize) -> u8 {
     0
 }
 
-fn store(data: &mut [u8], n: usize, b: u8) -> usize {
-    if n < data.len() {
-        data[n] = b;
-        return n + 1;
-    }
-    n
-}
-
 fn repeat(data: &mut [u8], n: usize, count: usize, b: u8) -> usize {
     let mut end = n;
     let mut i = 0;
     while i < count {
-        end = store(data, end, b);
+        end = show::put_byte(data, end, b);
         i += 1;
     }
     end
@@ -180,16 +173,26 @@ fn decode(s: &[u8], data: &mut [u8]) -> usize {
             n = repeat(data, n, number(part(s, i + 1, colon)) as usize, b);
             i = colon + 3;
         } else {
-            n = store(data, n, byte_of_pair(s[i], byte_at(s, i + 1)));
+            n = show::put_byte(data, n, byte_of_pair(s[i], byte_at(s, i + 1)));
             i += 2;
         }
     }
     n
 }
 
-// Puts the bytes of field n of a line at the start of data; how many there are.
-pub fn decode_in(line: &[u8], n: usize, data: &mut [u8]) -> usize {
-    decode(field(line, n), data)
+// Which field of a line has its bytes: the last one that its letter asks for, and one that no line has where it asks for no bytes.
+fn field_of_bytes(letter: u8) -> usize {
+    match letter {
+        b't' | b'h' | b'k' | b'g' => 1,
+        b'r' | b'a' | b'd' | b'D' => 2,
+        b'w' | b's' | b'e' | b'l' => 3,
+        _ => 8,
+    }
+}
+
+// Puts the bytes that a line gives at the start of data; how many there are.
+pub fn decode_line(line: &[u8], data: &mut [u8]) -> usize {
+    decode(field(line, field_of_bytes(byte_at(line, 0))), data)
 }
 
 // Where the line ends that starts at `at`, of the first `have` bytes; `have` where its end is not among them.

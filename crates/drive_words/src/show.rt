@@ -1,4 +1,5 @@
 // Writing an answer: words, numbers, bytes and checksums, into a text that goes out in large pieces.
+use crate::parse;
 use libc::STDOUT_FILENO;
 use numbers::Refusal;
 ghost use Prim.Native.Nat.{_≤_};
@@ -25,41 +26,45 @@ pub fn put(text: &mut [u8], used: usize, bytes: &[u8]) -> usize {
     used + i
 }
 
-pub fn put_number(text: &mut [u8], used: usize, n: u64) -> usize {
+pub fn put_byte(text: &mut [u8], used: usize, b: u8) -> usize {
+    if used < text.len() {
+        text[used] = b;
+        return used + 1;
+    }
+    used
+}
+
+fn put_number(text: &mut [u8], used: usize, n: u64) -> usize {
     let mut digits = [0u8; 20];
     let k = io::decimal(n, &mut digits);
     put(text, used, &digits[..k])
 }
 
-// A blank, and the number.
-pub fn put_next(text: &mut [u8], used: usize, n: u64) -> usize {
-    let a = put(text, used, b" ");
+// A number behind the byte that sets it off.
+pub fn put_after(text: &mut [u8], used: usize, before: u8, n: u64) -> usize {
+    let a = put_byte(text, used, before);
     put_number(text, a, n)
 }
 
-pub fn put_next_size(text: &mut [u8], used: usize, n: usize) -> usize {
-    put_next(text, used, n as u64)
+// Numbers, each behind a blank.
+pub fn put_next(text: &mut [u8], used: usize, n: u64) -> usize {
+    put_after(text, used, b' ', n)
 }
 
-pub fn put_next_byte(text: &mut [u8], used: usize, n: u8) -> usize {
-    put_next(text, used, n as u64)
+pub fn put_next_three(text: &mut [u8], used: usize, a: u64, b: u64, c: u64) -> usize {
+    let one = put_next(text, used, a);
+    let two = put_next(text, one, b);
+    put_next(text, two, c)
 }
 
-pub fn put_next_bool(text: &mut [u8], used: usize, is_set: bool) -> usize {
-    if is_set {
-        return put(text, used, b" 1");
-    }
-    put(text, used, b" 0")
-}
-
-pub fn put_hex_number(text: &mut [u8], used: usize, n: u64, width: usize) -> usize {
+pub fn put_hex(text: &mut [u8], used: usize, n: u64, width: usize) -> usize {
     let mut digits = [0u8; 16];
     let k = io::hex(n, width, &mut digits);
     put(text, used, &digits[..k])
 }
 
-pub fn put_pair(text: &mut [u8], used: usize, b: u8) -> usize {
-    put_hex_number(text, used, b as u64, 2)
+fn put_pair(text: &mut [u8], used: usize, b: u8) -> usize {
+    put_hex(text, used, b as u64, 2)
 }
 
 fn put_pairs(text: &mut [u8], used: usize, s: &[u8]) -> usize {
@@ -72,30 +77,28 @@ fn put_pairs(text: &mut [u8], used: usize, s: &[u8]) -> usize {
     end
 }
 
-// A blank, and a checksum.
-pub fn put_next_sum(text: &mut [u8], used: usize, sum: u64) -> usize {
-    let a = put(text, used, b" ");
-    put_hex_number(text, a, sum, 16)
+// A checksum behind the byte that sets it off.
+pub fn put_sum(text: &mut [u8], used: usize, before: u8, sum: u64) -> usize {
+    let a = put_byte(text, used, before);
+    put_hex(text, a, sum, 16)
 }
 
-// Bytes as an answer shows them: up to 64 as hex pairs, more by their length and checksum.
-pub fn put_shown(text: &mut [u8], used: usize, s: &[u8]) -> usize {
+// Many bytes, by their length and checksum.
+fn put_summed(text: &mut [u8], used: usize, s: &[u8]) -> usize {
+    let a = put_after(text, used, b'#', s.len() as u64);
+    put_sum(text, a, b':', sum_of(NOTHING, s))
+}
+
+// Bytes as an answer shows them, behind the byte that sets them off: up to 64 as hex pairs.
+pub fn put_shown(text: &mut [u8], used: usize, before: u8, s: &[u8]) -> usize {
+    let a = put_byte(text, used, before);
     if s.len() == 0 {
-        return put(text, used, b"-");
+        return put_byte(text, a, b'-');
     }
-    if s.len() <= 64 {
-        return put_pairs(text, used, s);
+    if 64 < s.len() {
+        return put_summed(text, a, s);
     }
-    let a = put(text, used, b"#");
-    let b = put_number(text, a, s.len() as u64);
-    let c = put(text, b, b":");
-    put_hex_number(text, c, sum_of(NOTHING, s), 16)
-}
-
-// A blank, and bytes.
-pub fn put_next_shown(text: &mut [u8], used: usize, s: &[u8]) -> usize {
-    let a = put(text, used, b" ");
-    put_shown(text, a, s)
+    put_pairs(text, a, s)
 }
 
 pub fn put_ok(text: &mut [u8], used: usize) -> usize {
@@ -105,7 +108,7 @@ pub fn put_ok(text: &mut [u8], used: usize) -> usize {
 // A refusal by document 01's number.
 pub fn put_refused(text: &mut [u8], used: usize, refusal: Refusal) -> usize {
     let a = put(text, used, b"no");
-    put_next_byte(text, a, numbers::number_of(refusal))
+    put_next(text, a, numbers::number_of(refusal) as u64)
 }
 
 // The checksum goes on over one byte: it is xored in, and the sum multiplied by 2^40 + 435, modulo 2^64.
@@ -160,13 +163,13 @@ pub fn with_part(count: usize, sum: u64, part: &[u8]) -> Tally {
 
 pub fn put_tally(text: &mut [u8], used: usize, all: Tally) -> usize {
     let a = put_ok(text, used);
-    let b = put_next_size(text, a, all.count);
-    put_next_sum(text, b, all.sum)
+    let b = put_next(text, a, all.count as u64);
+    put_sum(text, b, b' ', all.sum)
 }
 
 // Writes the first bytes of the text out.
 pub fn flush(text: &[u8], used: usize) {
-    io::write_all(STDOUT_FILENO, crate::parse::part(text, 0, used));
+    io::write_all(STDOUT_FILENO, parse::part(text, 0, used));
 }
 
 // Room for one more answer: a text that is nearly full is written out first.

@@ -19,8 +19,11 @@ loop-holds c = tt
 first-from-requires : tie.Need-first-from-requires Inv-loop μ-loop
 first-from-requires c κs = search needs
 
-enum-known-place : tie.Need-enum-known-place Inv-loop μ-loop
-enum-known-place c = search needs
+enum-known-hit : tie.Need-enum-known-hit Inv-loop μ-loop
+enum-known-hit c = search needs
+
+returns : tie.Need-returns Inv-loop μ-loop
+returns c = search needs
 
 part-requires : tie.Need-part-requires Inv-loop μ-loop
 part-requires c κs = search needs
@@ -31,18 +34,6 @@ with-part-requires c κs = search needs
 wrapping-add-usize-requires : tie.Need-wrapping-add-usize-requires Inv-loop μ-loop
 wrapping-add-usize-requires c κs = search needs
 
-enum-told : tie.Need-enum-told Inv-loop μ-loop
-enum-told c = search needs
-
-returns : tie.Need-returns Inv-loop μ-loop
-returns c = search needs
-
-enum-told-2 : tie.Need-enum-told-2 Inv-loop μ-loop
-enum-told-2 c = search needs
-
-returns-2 : tie.Need-returns-2 Inv-loop μ-loop
-returns-2 c = search needs
-
 add-turn : tie.Need-add-turn Inv-loop μ-loop
 add-turn c = search needs
 
@@ -52,8 +43,8 @@ loop-less c = search needs
 loop-again : tie.Need-loop-again Inv-loop μ-loop
 loop-again c = tt
 
-returns-3 : tie.Need-returns-3 Inv-loop μ-loop
-returns-3 c = search needs
+returns-2 : tie.Need-returns-2 Inv-loop μ-loop
+returns-2 c = search needs
 
 pub all-hits-spec : {M : Type 1} → statement M
 all-hits-spec =
@@ -64,15 +55,12 @@ all-hits-spec =
     no-parts-requires
     loop-holds
     first-from-requires
-    enum-known-place
+    enum-known-hit
+    returns
     part-requires
     with-part-requires
     wrapping-add-usize-requires
-    enum-told
-    returns
-    enum-told-2
-    returns-2
     add-turn
     loop-less
     loop-again
-    returns-3)
+    returns-2)
