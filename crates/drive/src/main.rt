@@ -3,6 +3,7 @@
 use drive_pushes::Served;
 use drive_words::parse;
 use drive_words::show;
+use drive_words::show::Text;
 use libc::STDIN_FILENO;
 use table::Table;
 ghost use Prim.Native.Nat.{_≤_};
@@ -18,6 +19,13 @@ struct State {
     done: bool,
 }
 
+// The buffers, as arrays: so that nobody has to show that their lengths stay.
+type Input = [u8; 65536];
+
+type Bytes = [u8; 66048];
+
+type Store = [u8; 47744];
+
 // How many bytes of input there are, and whether no more came.
 struct Filled {
     have: usize,
@@ -25,7 +33,7 @@ struct Filled {
 }
 
 // One line answered from the bytes that it gives; where the text then ends.
-fn answer(line: &[u8], bytes: &[u8], out: &mut [u8], text: &mut [u8], used: usize) -> usize {
+fn answer(line: &[u8], bytes: &[u8], out: &mut Bytes, text: &mut Text, used: usize) -> usize {
     let letter = parse::byte_at(line, 0);
     match letter {
         b'k' | b'g' | b'd' | b'D' | b'l' => drive_payloads::answer(letter, line, bytes, text, used),
@@ -58,9 +66,9 @@ fn turn(
     t: Table,
     line: &[u8],
     bytes: &[u8],
-    out: &mut [u8],
-    store: &mut [u8],
-    text: &mut [u8],
+    out: &mut Bytes,
+    store: &mut Store,
+    text: &mut Text,
     before: usize,
 ) -> Served
     requires { ⌜ Made t ⌝ }
@@ -80,11 +88,11 @@ fn turn(
 fn answered(
     s: State,
     end: usize,
-    input: &[u8],
-    data: &mut [u8],
-    out: &mut [u8],
-    store: &mut [u8],
-    text: &mut [u8],
+    input: &Input,
+    data: &mut Bytes,
+    out: &mut Bytes,
+    store: &mut Store,
+    text: &mut Text,
 ) -> State
     requires { ⌜ Made (s .table) ⌝ }
     ensures { λ r. ⌜ Made (r .table) ⌝ }
@@ -105,7 +113,7 @@ fn answered(
 }
 
 // Reads more; at the input's end it writes out what is left.
-fn supplied(s: State, input: &mut [u8], text: &[u8]) -> State
+fn supplied(s: State, input: &mut Input, text: &Text) -> State
     requires { ⌜ Made (s .table) ⌝ }
     ensures { λ r. ⌜ Made (r .table) ⌝ }
 {
@@ -135,11 +143,11 @@ fn supplied(s: State, input: &mut [u8], text: &[u8]) -> State
 // Answers a line, or reads more where no line is there.
 fn step(
     s: State,
-    input: &mut [u8],
-    data: &mut [u8],
-    out: &mut [u8],
-    store: &mut [u8],
-    text: &mut [u8],
+    input: &mut Input,
+    data: &mut Bytes,
+    out: &mut Bytes,
+    store: &mut Store,
+    text: &mut Text,
 ) -> State
     requires { ⌜ Made (s .table) ⌝ }
     ensures { λ r. ⌜ Made (r .table) ⌝ }
@@ -152,7 +160,7 @@ fn step(
 }
 
 // Answers line by line until the input ends. A proved loop has to end, and nothing says that an input does: so it counts its turns.
-fn serve(input: &mut [u8], data: &mut [u8], out: &mut [u8], store: &mut [u8], text: &mut [u8]) {
+fn serve(input: &mut Input, data: &mut Bytes, out: &mut Bytes, store: &mut Store, text: &mut Text) {
     let mut s = start();
     let mut turns = u64::MAX;
     while turns > 0 {

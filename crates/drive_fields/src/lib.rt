@@ -1,6 +1,7 @@
 // The fields of records in commands and answers.
 use drive_words::parse;
 use drive_words::show;
+use drive_words::show::Text;
 use records::AssociationState;
 use records::ByteCounterUnits;
 use records::ClientAssociation;
@@ -34,11 +35,11 @@ fn reserved(number: u8) -> Code {
     }
 }
 
-fn put_address(m: MacAddr, text: &mut [u8], used: usize) -> usize {
+fn put_address(m: MacAddr, text: &mut Text, used: usize) -> usize {
     show::put_shown(text, used, b' ', &[m.b0, m.b1, m.b2, m.b3, m.b4, m.b5])
 }
 
-fn put_code(code: Code, text: &mut [u8], used: usize) -> usize {
+fn put_code(code: Code, text: &mut Text, used: usize) -> usize {
     if code.reserved {
         let a = show::put_byte(text, used, b' ');
         return show::put_after(text, a, b'r', code.number as u64);
@@ -79,14 +80,14 @@ fn code_of_profile(profile: MultiApProfile) -> Code {
     }
 }
 
-fn put_neighbor(neighbor: NeighborMac, text: &mut [u8], used: usize) -> usize {
+fn put_neighbor(neighbor: NeighborMac, text: &mut Text, used: usize) -> usize {
     match neighbor {
         NeighborMac::Address(address) => put_address(address, text, used),
         NeighborMac::None => show::put(text, used, b" -"),
     }
 }
 
-fn put_query(query: LinkMetricQuery, text: &mut [u8], used: usize) -> usize {
+fn put_query(query: LinkMetricQuery, text: &mut Text, used: usize) -> usize {
     let a = show::put_next(text, used, query.neighbor_type as u64);
     let neighbor = query.neighbor_mac;
     let b = put_neighbor(neighbor, text, a);
@@ -100,7 +101,7 @@ fn number_of_state(state: AssociationState) -> u64 {
     }
 }
 
-fn put_association(client: ClientAssociation, text: &mut [u8], used: usize) -> usize {
+fn put_association(client: ClientAssociation, text: &mut Text, used: usize) -> usize {
     let station = client.sta_mac;
     let access_point = client.ap_mac;
     let state = client.association_state;
@@ -118,7 +119,7 @@ fn number_of_units(units: ByteCounterUnits) -> u64 {
     }
 }
 
-fn put_capability(p: Profile2ApCapability, text: &mut [u8], used: usize) -> usize {
+fn put_capability(p: Profile2ApCapability, text: &mut Text, used: usize) -> usize {
     let units = p.byte_counter_units;
     let a = show::put_next_three(
         text,
@@ -152,7 +153,7 @@ fn code_of(record: Record) -> Code {
 }
 
 // A record of several fields, or of one number.
-fn put_numbers(record: Record, text: &mut [u8], used: usize) -> usize {
+fn put_numbers(record: Record, text: &mut Text, used: usize) -> usize {
     match record {
         Record::LinkMetricQuery(query) => put_query(query, text, used),
         Record::ClientAssociation(client) => put_association(client, text, used),
@@ -162,7 +163,7 @@ fn put_numbers(record: Record, text: &mut [u8], used: usize) -> usize {
 }
 
 // A record's fields, each behind a blank.
-pub fn put_record(record: Record, text: &mut [u8], used: usize) -> usize {
+pub fn put_record(record: Record, text: &mut Text, used: usize) -> usize {
     match record {
         Record::EndOfMessage => used,
         Record::AlMacAddress(address) => put_address(address, text, used),

@@ -2,6 +2,7 @@
 use drive_words::parse;
 use drive_words::show;
 use drive_words::show::Tally;
+use drive_words::show::Text;
 use finding::Found;
 use finding::Searched;
 use numbers::Refusal;
@@ -61,17 +62,21 @@ fn first_from(payload: &[u8], code: u8, from: usize) -> Hit {
     }
 }
 
-pub(crate) fn put_unwalked(refusal: Refusal, at: usize, text: &mut [u8], used: usize) -> usize {
+pub(crate) fn put_unwalked(refusal: Refusal, at: usize, text: &mut Text, used: usize) -> usize {
     let a = show::put_refused(text, used, refusal);
     show::put_next(text, a, at as u64)
 }
 
-pub(crate) fn put_hit(hit: Hit, payload: &[u8], text: &mut [u8], used: usize) -> usize {
+fn put_place(place: usize, value: &[u8], text: &mut Text, used: usize) -> usize {
+    let a = show::put_ok(text, used);
+    let b = show::put_next(text, a, place as u64);
+    show::put_shown(text, b, b' ', value)
+}
+
+pub(crate) fn put_hit(hit: Hit, payload: &[u8], text: &mut Text, used: usize) -> usize {
     match hit {
         Hit::At { place, start, end } => {
-            let a = show::put_ok(text, used);
-            let b = show::put_next(text, a, place as u64);
-            show::put_shown(text, b, b' ', parse::part(payload, start, end))
+            put_place(place, parse::part(payload, start, end), text, used)
         }
         Hit::Unwalked { refusal, at } => put_unwalked(refusal, at, text, used),
         Hit::Refused(refusal) => show::put_refused(text, used, refusal),
@@ -79,7 +84,7 @@ pub(crate) fn put_hit(hit: Hit, payload: &[u8], text: &mut [u8], used: usize) ->
 }
 
 // d: the payload walked, then found in it: so a walk's refusal comes before that of an unknown kind.
-pub(crate) fn first(payload: &[u8], code: u8, text: &mut [u8], used: usize) -> usize {
+pub(crate) fn first(payload: &[u8], code: u8, text: &mut Text, used: usize) -> usize {
     match walking::walk(payload) {
         Walked::Count(_) => put_hit(first_from(payload, code, 0), payload, text, used),
         Walked::Refused { refusal, at } => put_unwalked(refusal, at, text, used),
@@ -117,7 +122,7 @@ fn is_refused(hit: Hit) -> bool {
 }
 
 // D: every readable one.
-pub(crate) fn every(payload: &[u8], code: u8, text: &mut [u8], used: usize) -> usize {
+pub(crate) fn every(payload: &[u8], code: u8, text: &mut Text, used: usize) -> usize {
     let hit = first_from(payload, code, 0);
     if is_refused(hit) {
         return put_hit(hit, payload, text, used);

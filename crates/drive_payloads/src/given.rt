@@ -2,6 +2,7 @@
 use crate::found;
 use crate::listing;
 use drive_words::parse;
+use drive_words::show::Text;
 use walking::Tlv;
 
 fn number_of(record: &[u8], n: usize) -> u64 {
@@ -34,7 +35,7 @@ pub(crate) fn first(
     records: &[u8],
     payload: &[u8],
     code: u8,
-    text: &mut [u8],
+    text: &mut Text,
     used: usize,
 ) -> usize {
     let list = list_of(records);

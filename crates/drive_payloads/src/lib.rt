@@ -5,9 +5,10 @@ mod listing;
 mod walked;
 
 use drive_words::parse;
+use drive_words::show::Text;
 
 // One line answered from the payload that it gives; where the text then ends.
-pub fn answer(letter: u8, line: &[u8], payload: &[u8], text: &mut [u8], used: usize) -> usize {
+pub fn answer(letter: u8, line: &[u8], payload: &[u8], text: &mut Text, used: usize) -> usize {
     let code = parse::byte_in(line, 1);
     match letter {
         b'l' => given::first(parse::field(line, 2), payload, code, text, used),

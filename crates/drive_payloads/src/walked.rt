@@ -3,6 +3,7 @@ use crate::found;
 use crate::listing;
 use drive_words::parse;
 use drive_words::show;
+use drive_words::show::Text;
 use walking::Tlv;
 use walking::Walked;
 
@@ -41,14 +42,14 @@ fn first_part(bytes: &[u8]) -> Part {
     all
 }
 
-fn put_tlv(t: Tlv, text: &mut [u8], used: usize) -> usize {
+fn put_tlv(t: Tlv, text: &mut Text, used: usize) -> usize {
     let a = show::put_next(text, used, t.tlv_type as u64);
     let b = show::put_after(text, a, b':', t.offset as u64);
     show::put_after(text, b, b':', t.length as u64)
 }
 
 // Each TLV with type, offset and length.
-fn put_part(p: Part, text: &mut [u8], used: usize) -> usize {
+fn put_part(p: Part, text: &mut Text, used: usize) -> usize {
     let count = parse::least(p.count, 40);
     let mut end = used;
     let mut i = 0;
@@ -98,17 +99,20 @@ fn sum_all(data: &[u8], count: usize) -> u64 {
     sum
 }
 
+// How many TLVs there are, and each of a few, or the checksum over many.
+fn put_all(data: &[u8], count: usize, text: &mut Text, used: usize) -> usize {
+    let a = show::put_ok(text, used);
+    let b = show::put_next(text, a, count as u64);
+    if count <= 16 {
+        return put_part(first_part(data), text, b);
+    }
+    show::put_sum(text, b, b' ', sum_all(data, count))
+}
+
 // k, g: a payload walked to its end, counted and listed.
-pub(crate) fn walk(data: &[u8], text: &mut [u8], used: usize) -> usize {
+pub(crate) fn walk(data: &[u8], text: &mut Text, used: usize) -> usize {
     match walking::walk(data) {
-        Walked::Count(count) => {
-            let a = show::put_ok(text, used);
-            let b = show::put_next(text, a, count as u64);
-            if count <= 16 {
-                return put_part(first_part(data), text, b);
-            }
-            show::put_sum(text, b, b' ', sum_all(data, count))
-        }
+        Walked::Count(count) => put_all(data, count, text, used),
         Walked::Refused { refusal, at } => found::put_unwalked(refusal, at, text, used),
     }
 }

@@ -1,11 +1,12 @@
 // The commands of framing that read: t and h.
 use drive_words::show;
+use drive_words::show::Text;
 use framing::CmduHeader;
 use framing::HeaderRead;
 use framing::Read;
 
 // t: a TLV read, and its value as a part of the bytes.
-pub(crate) fn read(data: &[u8], text: &mut [u8], used: usize) -> usize {
+pub(crate) fn read(data: &[u8], text: &mut Text, used: usize) -> usize {
     match framing::read_tlv(data) {
         Read::Whole {
             tlv_type,
@@ -20,7 +21,7 @@ pub(crate) fn read(data: &[u8], text: &mut [u8], used: usize) -> usize {
     }
 }
 
-fn put_header(h: CmduHeader, text: &mut [u8], used: usize) -> usize {
+fn put_header(h: CmduHeader, text: &mut Text, used: usize) -> usize {
     let a = show::put_next_three(
         text,
         used,
@@ -39,7 +40,7 @@ fn put_header(h: CmduHeader, text: &mut [u8], used: usize) -> usize {
 }
 
 // h: the header of a CMDU.
-pub(crate) fn header(data: &[u8], text: &mut [u8], used: usize) -> usize {
+pub(crate) fn header(data: &[u8], text: &mut Text, used: usize) -> usize {
     match framing::read_cmdu_header(data) {
         HeaderRead::Header(h) => {
             let a = show::put_ok(text, used);

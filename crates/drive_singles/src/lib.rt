@@ -5,9 +5,10 @@ mod written;
 
 use drive_words::parse;
 use drive_words::show;
+use drive_words::show::Text;
 
 // One line answered from the bytes that it gives; where the text then ends. A letter that is no command's is told so.
-pub fn answer_read(letter: u8, line: &[u8], bytes: &[u8], text: &mut [u8], used: usize) -> usize {
+pub fn answer_read(letter: u8, line: &[u8], bytes: &[u8], text: &mut Text, used: usize) -> usize {
     let code = parse::byte_in(line, 1);
     match letter {
         b't' => framed::read(bytes, text, used),
@@ -25,7 +26,7 @@ pub fn answer_written(
     line: &[u8],
     bytes: &[u8],
     out: &mut [u8],
-    text: &mut [u8],
+    text: &mut Text,
     used: usize,
 ) -> usize {
     if written::is_unknown(letter, line) {

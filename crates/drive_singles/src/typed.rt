@@ -2,6 +2,7 @@
 use drive_words::parse;
 use drive_words::show;
 use drive_words::show::Tally;
+use drive_words::show::Text;
 use kinds::KindRead;
 use layouts::Located;
 use layouts::Path;
@@ -18,20 +19,20 @@ fn front_of(code: u8, data: &[u8]) -> &[u8] {
 }
 
 // How many bytes of a value were read, and how many are left.
-fn put_sizes(consumed: usize, rest: usize, text: &mut [u8], used: usize) -> usize {
+fn put_sizes(consumed: usize, rest: usize, text: &mut Text, used: usize) -> usize {
     let a = show::put_ok(text, used);
     let b = show::put_next(text, a, consumed as u64);
     show::put_next(text, b, rest as u64)
 }
 
 // The front of a list, and how many entries it has.
-fn put_list(code: u8, data: &[u8], entries: usize, text: &mut [u8], used: usize) -> usize {
+fn put_list(code: u8, data: &[u8], entries: usize, text: &mut Text, used: usize) -> usize {
     let a = show::put_shown(text, used, b' ', front_of(code, data));
     show::put_next(text, a, entries as u64)
 }
 
 // r: a value read.
-pub(crate) fn read(code: u8, data: &[u8], text: &mut [u8], used: usize) -> usize {
+pub(crate) fn read(code: u8, data: &[u8], text: &mut Text, used: usize) -> usize {
     match kinds::read_kind(code, data) {
         KindRead::Record {
             record,
@@ -67,7 +68,7 @@ fn path_of(numbers: &[u8]) -> Path {
 }
 
 // e: an entry by its numbers.
-pub(crate) fn entry(code: u8, numbers: &[u8], data: &[u8], text: &mut [u8], used: usize) -> usize {
+pub(crate) fn entry(code: u8, numbers: &[u8], data: &[u8], text: &mut Text, used: usize) -> usize {
     let path = path_of(numbers);
     match kinds::locate(code, path, data) {
         Located::Entry { start: _, end: _ } => {
@@ -179,7 +180,7 @@ fn all_entries(code: u8, data: &[u8]) -> Tally {
 }
 
 // a: every entry at every level.
-pub(crate) fn entries(code: u8, data: &[u8], text: &mut [u8], used: usize) -> usize {
+pub(crate) fn entries(code: u8, data: &[u8], text: &mut Text, used: usize) -> usize {
     match kinds::read_kind(code, data) {
         KindRead::Refused(refusal) => show::put_refused(text, used, refusal),
         _ => show::put_tally(text, used, all_entries(code, data)),

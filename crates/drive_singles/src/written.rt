@@ -1,6 +1,7 @@
 // The commands that write: w, s and f.
 use drive_words::parse;
 use drive_words::show;
+use drive_words::show::Text;
 use framing::Written;
 use kinds::KindRead;
 
@@ -40,7 +41,7 @@ pub(crate) fn write(letter: u8, line: &[u8], bytes: &[u8], out: &mut [u8]) -> Wr
 }
 
 // What was written: the bytes at the start of the lent buffer.
-pub(crate) fn put(written: Written, out: &[u8], text: &mut [u8], used: usize) -> usize {
+pub(crate) fn put(written: Written, out: &[u8], text: &mut Text, used: usize) -> usize {
     match written {
         Written::Bytes(size) => {
             let a = show::put_ok(text, used);

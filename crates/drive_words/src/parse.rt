@@ -147,7 +147,7 @@ fn repeat(data: &mut [u8], n: usize, count: usize, b: u8) -> usize {
     let mut end = n;
     let mut i = 0;
     while i < count {
-        end = show::put_byte(data, end, b);
+        end = show::put_one(data, end, b);
         i += 1;
     }
     end
@@ -173,14 +173,14 @@ fn decode(s: &[u8], data: &mut [u8]) -> usize {
             n = repeat(data, n, number(part(s, i + 1, colon)) as usize, b);
             i = colon + 3;
         } else {
-            n = show::put_byte(data, n, byte_of_pair(s[i], byte_at(s, i + 1)));
+            n = show::put_one(data, n, byte_of_pair(s[i], byte_at(s, i + 1)));
             i += 2;
         }
     }
     n
 }
 
-// Which field of a line has its bytes: the last one that its letter asks for, and one that no line has where it asks for no bytes.
+// Which field of a line has its bytes. Where a letter asks for none it makes no difference.
 fn field_of_bytes(letter: u8) -> usize {
     match letter {
         b't' | b'h' | b'k' | b'g' => 1,

@@ -10,64 +10,76 @@ const ROOM: usize = 8192;
 // The FNV-1a checksum of nothing.
 pub const NOTHING: u64 = 0xcbf29ce484222325;
 
-// The bytes go into the text at `used`; where the text then ends. Bytes that have no room are left out: `with_room` sees to it that a line has.
-pub fn put(text: &mut [u8], used: usize, bytes: &[u8]) -> usize {
-    if text.len() < used {
+// What is written of answers and not yet out. An array, and no slice: so that nobody has to show that its length stays.
+pub type Text = [u8; 65536];
+
+// The bytes go into the buffer at `used`; where they end there. Bytes that have no room are left out.
+fn put_all(buffer: &mut [u8], used: usize, bytes: &[u8]) -> usize {
+    if buffer.len() < used {
         return used;
     }
-    if text.len() - used < bytes.len() {
+    if buffer.len() - used < bytes.len() {
         return used;
     }
     let mut i = 0;
     while i < bytes.len() {
-        text[used + i] = bytes[i];
+        buffer[used + i] = bytes[i];
         i += 1;
     }
     used + i
 }
 
-pub fn put_byte(text: &mut [u8], used: usize, b: u8) -> usize {
-    if used < text.len() {
-        text[used] = b;
+// The bytes go into the text at `used`; where the text then ends. `with_room` sees to it that a line has room.
+pub fn put(text: &mut Text, used: usize, bytes: &[u8]) -> usize {
+    put_all(text, used, bytes)
+}
+
+pub(crate) fn put_one(buffer: &mut [u8], used: usize, b: u8) -> usize {
+    if used < buffer.len() {
+        buffer[used] = b;
         return used + 1;
     }
     used
 }
 
-fn put_number(text: &mut [u8], used: usize, n: u64) -> usize {
+pub fn put_byte(text: &mut Text, used: usize, b: u8) -> usize {
+    put_one(text, used, b)
+}
+
+fn put_number(text: &mut Text, used: usize, n: u64) -> usize {
     let mut digits = [0u8; 20];
     let k = io::decimal(n, &mut digits);
     put(text, used, &digits[..k])
 }
 
 // A number behind the byte that sets it off.
-pub fn put_after(text: &mut [u8], used: usize, before: u8, n: u64) -> usize {
+pub fn put_after(text: &mut Text, used: usize, before: u8, n: u64) -> usize {
     let a = put_byte(text, used, before);
     put_number(text, a, n)
 }
 
 // Numbers, each behind a blank.
-pub fn put_next(text: &mut [u8], used: usize, n: u64) -> usize {
+pub fn put_next(text: &mut Text, used: usize, n: u64) -> usize {
     put_after(text, used, b' ', n)
 }
 
-pub fn put_next_three(text: &mut [u8], used: usize, a: u64, b: u64, c: u64) -> usize {
+pub fn put_next_three(text: &mut Text, used: usize, a: u64, b: u64, c: u64) -> usize {
     let one = put_next(text, used, a);
     let two = put_next(text, one, b);
     put_next(text, two, c)
 }
 
-pub fn put_hex(text: &mut [u8], used: usize, n: u64, width: usize) -> usize {
+pub fn put_hex(text: &mut Text, used: usize, n: u64, width: usize) -> usize {
     let mut digits = [0u8; 16];
     let k = io::hex(n, width, &mut digits);
     put(text, used, &digits[..k])
 }
 
-fn put_pair(text: &mut [u8], used: usize, b: u8) -> usize {
+fn put_pair(text: &mut Text, used: usize, b: u8) -> usize {
     put_hex(text, used, b as u64, 2)
 }
 
-fn put_pairs(text: &mut [u8], used: usize, s: &[u8]) -> usize {
+fn put_pairs(text: &mut Text, used: usize, s: &[u8]) -> usize {
     let mut end = used;
     let mut i = 0;
     while i < s.len() {
@@ -78,19 +90,19 @@ fn put_pairs(text: &mut [u8], used: usize, s: &[u8]) -> usize {
 }
 
 // A checksum behind the byte that sets it off.
-pub fn put_sum(text: &mut [u8], used: usize, before: u8, sum: u64) -> usize {
+pub fn put_sum(text: &mut Text, used: usize, before: u8, sum: u64) -> usize {
     let a = put_byte(text, used, before);
     put_hex(text, a, sum, 16)
 }
 
 // Many bytes, by their length and checksum.
-fn put_summed(text: &mut [u8], used: usize, s: &[u8]) -> usize {
+fn put_summed(text: &mut Text, used: usize, s: &[u8]) -> usize {
     let a = put_after(text, used, b'#', s.len() as u64);
     put_sum(text, a, b':', sum_of(NOTHING, s))
 }
 
 // Bytes as an answer shows them, behind the byte that sets them off: up to 64 as hex pairs.
-pub fn put_shown(text: &mut [u8], used: usize, before: u8, s: &[u8]) -> usize {
+pub fn put_shown(text: &mut Text, used: usize, before: u8, s: &[u8]) -> usize {
     let a = put_byte(text, used, before);
     if s.len() == 0 {
         return put_byte(text, a, b'-');
@@ -101,12 +113,12 @@ pub fn put_shown(text: &mut [u8], used: usize, before: u8, s: &[u8]) -> usize {
     put_pairs(text, a, s)
 }
 
-pub fn put_ok(text: &mut [u8], used: usize) -> usize {
+pub fn put_ok(text: &mut Text, used: usize) -> usize {
     put(text, used, b"ok")
 }
 
 // A refusal by document 01's number.
-pub fn put_refused(text: &mut [u8], used: usize, refusal: Refusal) -> usize {
+pub fn put_refused(text: &mut Text, used: usize, refusal: Refusal) -> usize {
     let a = put(text, used, b"no");
     put_next(text, a, numbers::number_of(refusal) as u64)
 }
@@ -161,19 +173,19 @@ pub fn with_part(count: usize, sum: u64, part: &[u8]) -> Tally {
     }
 }
 
-pub fn put_tally(text: &mut [u8], used: usize, all: Tally) -> usize {
+pub fn put_tally(text: &mut Text, used: usize, all: Tally) -> usize {
     let a = put_ok(text, used);
     let b = put_next(text, a, all.count as u64);
     put_sum(text, b, b' ', all.sum)
 }
 
 // Writes the first bytes of the text out.
-pub fn flush(text: &[u8], used: usize) {
+pub fn flush(text: &Text, used: usize) {
     io::write_all(STDOUT_FILENO, parse::part(text, 0, used));
 }
 
 // Room for one more answer: a text that is nearly full is written out first.
-pub fn with_room(text: &[u8], used: usize) -> usize {
+pub fn with_room(text: &Text, used: usize) -> usize {
     if used <= text.len() {
         if ROOM <= text.len() - used {
             return used;

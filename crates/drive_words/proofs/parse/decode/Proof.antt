@@ -84,8 +84,8 @@ byte-at-requires-4 c κs = search needs
 byte-of-pair-requires-2 : tie.Need-byte-of-pair-requires-2 Inv-loop μ-loop
 byte-of-pair-requires-2 c κs = search needs
 
-put-byte-requires : tie.Need-put-byte-requires Inv-loop μ-loop
-put-byte-requires c κs = search needs
+put-one-requires : tie.Need-put-one-requires Inv-loop μ-loop
+put-one-requires c κs = search needs
 
 add-i-2 : tie.Need-add-i-2 Inv-loop μ-loop
 add-i-2 c = search needs
@@ -132,7 +132,7 @@ decode-spec =
     add-byte-at-3
     byte-at-requires-4
     byte-of-pair-requires-2
-    put-byte-requires
+    put-one-requires
     add-i-2
     loop-less-2
     loop-again-2
