@@ -21,12 +21,8 @@ fn rewrite(code: u8, bytes: &[u8], out: &mut [u8]) -> Written {
             consumed: _,
             rest: _,
         } => record_writing::write_record(record, out),
-        KindRead::List {
-            entries: _,
-            consumed: _,
-            rest: _,
-        } => kinds::write_kind(code, bytes, out),
         KindRead::Refused(refusal) => Written::Refused(refusal),
+        _ => kinds::write_kind(code, bytes, out),
     }
 }
 

@@ -112,7 +112,9 @@ pub fn byte_of(n: u64) -> u8
     (n % 256) as u8
 }
 
-pub fn u16_of(n: u64) -> u16 {
+pub fn u16_of(n: u64) -> u16
+    ensures { λ r. ⌜ r < 65536 ⌝ }
+{
     (n % 65536) as u16
 }
 

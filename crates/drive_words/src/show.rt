@@ -58,11 +58,12 @@ pub fn put_after(text: &mut Text, used: usize, before: u8, n: u64) -> usize {
     put_number(text, a, n)
 }
 
-// Numbers, each behind a blank.
+// A number behind a blank.
 pub fn put_next(text: &mut Text, used: usize, n: u64) -> usize {
     put_after(text, used, b' ', n)
 }
 
+// Three numbers, each behind a blank.
 pub fn put_next_three(text: &mut Text, used: usize, a: u64, b: u64, c: u64) -> usize {
     let one = put_next(text, used, a);
     let two = put_next(text, one, b);
