@@ -1,6 +1,6 @@
 // The hot calls for C: each is a thin shell over the layer's own call, and gives its answer in document 01's numbers. `refusal` is 0 where nothing is refused.
-use finding::Placed;
 use kinds::KindSize;
+use placing::Placed;
 use pushing::Arrival;
 use pushing::Pushed;
 use sweeping::Counts;
@@ -10,7 +10,8 @@ use walking::Walked;
 ghost use mathlib.Core.Path.{_≡_};
 ghost use Rattle.walking.specs.Walk.{walkedOf, walkOf, counted, listed, filled};
 ghost use Rattle.kinds.specs.Kinds.{readKind};
-ghost use Rattle.finding.specs.Finding.{placedOf, placeIn, findFrom};
+ghost use Rattle.finding.specs.Finding.{findFrom};
+ghost use Rattle.placing.specs.Placing.{placedOf, placeIn};
 ghost use Rattle.table.specs.Rows.{freshTable};
 ghost use lib.ListN.{length};
 ghost use Rattle.pushing.specs.Push.{pushedOf, way};
@@ -145,7 +146,7 @@ fn found_numbers(placed: Placed) -> AshlarFound
 pub extern "C" fn ashlar_find(list: &[Tlv], payload: &[u8], code: u8, from: usize) -> AshlarFound
     ensures { λ r. ⌜ r ≡ foundNumbers (placeIn (findFrom code (now (list .entry)) (now (payload .entry)) from)) ⌝ }
 {
-    let placed = finding::find_place(list, payload, code, from);
+    let placed = placing::find_place(list, payload, code, from);
     found_numbers(placed)
 }
 

@@ -14,11 +14,9 @@ use Rattle.kinds.specs.Kinds.{Held, one, list}
 use Rattle.walking.specs.declared.Tlv.{Tlv}
 use Rattle.finding.specs.declared.Found.{Found}
 use Rattle.finding.specs.declared.Found.the-variants as Found
-use Rattle.finding.specs.declared.Placed.{Placed}
-use Rattle.finding.specs.declared.Placed.the-variants as Placed
 use Rattle.finding.specs.declared.Searched.{Searched}
 use Rattle.finding.specs.declared.Searched.the-variants as Searched
-use Rattle.finding.specs.Finding.{Hit, foundOf, placedOf, searchedOf, placeIn, findFrom, findInPayload}
+use Rattle.finding.specs.Finding.{Hit, foundOf, searchedOf, findFrom, findInPayload}
 
 -- what was found is one, part by part
 record Same (i i′ : ℕ) (t t′ : Tlv) (h h′ : Held) (c c′ n n′ : ℕ) : Type 0 where
@@ -63,15 +61,6 @@ found-one (Found.Refused f) (Found.Refused f′) e = ap Found.Refused (firm Hit 
 
 pub find-firm : (code : ℕ) (tlvs : List Tlv) (payload : List ℕ) (from : ℕ) (a b : Found) → foundOf a ≡ findFrom code tlvs payload from → foundOf b ≡ findFrom code tlvs payload from → a ≡ b
 find-firm code tlvs payload from a b p q = found-one a b (p ∙ sym q)
-
-placed-one : (a b : Placed) → placedOf a ≡ placedOf b → a ≡ b
-placed-one (Placed.At i) (Placed.At i′) e = let p : i ≡ i′ = cc in rw p
-placed-one (Placed.At i) (Placed.Refused f) e = never _ _ _ e
-placed-one (Placed.Refused f) (Placed.At i) e = never _ _ _ (sym e)
-placed-one (Placed.Refused f) (Placed.Refused f′) e = ap Placed.Refused (firm ℕ f f′ e)
-
-pub find-place-firm : (code : ℕ) (tlvs : List Tlv) (payload : List ℕ) (from : ℕ) (a b : Placed) → placedOf a ≡ placeIn (findFrom code tlvs payload from) → placedOf b ≡ placeIn (findFrom code tlvs payload from) → a ≡ b
-find-place-firm code tlvs payload from a b p q = placed-one a b (p ∙ sym q)
 
 -- a walk's refusal is none of `find`'s answers: beside a number stand always so many values
 abbrev sized : ℕ → ℕ

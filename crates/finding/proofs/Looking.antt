@@ -14,8 +14,7 @@ use Rattle.kinds.specs.Kinds.{Typed, readKind}
 use Rattle.kinds.proofs.Laws.{record-given}
 use Rattle.kinds.proofs.RecordsFirst.{given-first}
 use Rattle.walking.specs.declared.Tlv.{Tlv}
-use Rattle.finding.specs.Finding.{isGiven, isKind, valueOf, readsAs, thereOr}
-use Rattle.finding.specs.Leaves.{isCandidate, readsRecord}
+use Rattle.finding.specs.Finding.{isGiven, isKind, isCandidate, readsRecord, valueOf, readsAs, thereOr}
 use Rattle.finding.proofs.Among.{reads-a-kind}
 
 -- the value as the code takes it, from where it starts to where it ends

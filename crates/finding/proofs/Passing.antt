@@ -11,8 +11,7 @@ use Rattle.numbers.specs.Numbers.{Answer, gives, refuses}
 use Rattle.kinds.specs.Kinds.{Typed}
 use Rattle.walking.specs.declared.Tlv.{Tlv}
 use Rattle.walking.specs.Walk.{noTlv}
-use Rattle.finding.specs.Finding.{Hit, isGiven, isKind, readsAs, thereOr, placeIn, firstOf, findFrom}
-use Rattle.finding.specs.Leaves.{isCandidate}
+use Rattle.finding.specs.Finding.{Hit, isGiven, isKind, readsAs, thereOr, isCandidate, firstOf, findFrom}
 use Rattle.finding.proofs.Looking.{miss, of-a-kind}
 
 -- what a look at a record answers: it, or 15
@@ -72,16 +71,9 @@ module _ (code : ℕ) (payload : List ℕ) (ys : List Tlv) (from : ℕ) where
         let z : drop i ys ≡ [] = drop-of-length-le ys l in
         e ∙ ap (λ (x : Answer Hit). cond (isKind code) x (refuses 16 [])) (sym (first-nil code payload i) ∙ ap (firstOf code payload i) (sym z) ∙ f .same)
 
-    -- the same by single tests: the record is no candidate, or it reads, or what is found from it on is asked for
+    -- the same by a test of the record, and what is found from it on
     pub passed-over : i < length ys → isCandidate code (length payload) (getD ys i noTlv) ≡ false → Passed code payload ys from (i + 1)
     passed-over l e = goes-on l (refuses 15 []) (miss code payload (getD ys i noTlv) i e) refl
-
-    pub reads-at : i < length ys → isGiven (readsAs code payload (getD ys i noTlv)) ≡ true → gives i ≡ placeIn (findFrom code ys payload from)
-    reads-at l = by-reading (readsAs code payload (getD ys i noTlv)) refl
-      where
-        by-reading : (x : Answer Typed) → x ≡ readsAs code payload (getD ys i noTlv) → isGiven x ≡ true → gives i ≡ placeIn (findFrom code ys payload from)
-        by-reading (gives r) e h = ap placeIn (found l (gives (record { place = i; tlv = getD ys i noTlv; reading = r })) (ap (λ (x : Answer Typed). thereOr x i (getD ys i noTlv) (refuses 15 [])) e) refl)
-        by-reading (refuses n vs) e h = let z : _≡_ {A = ℕ} 0 1 = cc in absurd (omega arith)
 
     pub from-here : findFrom code ys payload i ≡ findFrom code ys payload from
     unfolding findFrom

@@ -9,15 +9,13 @@ use lib.ListN.{length, take, drop}
 use Rattle.numbers.specs.Numbers.{Answer, gives, refuses, told, number, values}
 use Rattle.records.specs.declared.Record.{Record}
 use Rattle.records.specs.Kinds.{kinds}
-use Rattle.records.specs.Reading.{withCode}
+use Rattle.records.specs.Reading.{withCode, readRecord}
 use Rattle.layouts.specs.Layouts.{layoutOf}
 use Rattle.kinds.specs.Kinds.{Typed, one, list, readKind}
 use Rattle.walking.specs.declared.Tlv.{Tlv}
 use Rattle.walking.specs.Walk.{walkOf}
 use Rattle.finding.specs.declared.Found.{Found}
 use Rattle.finding.specs.declared.Found.the-variants as Found
-use Rattle.finding.specs.declared.Placed.{Placed}
-use Rattle.finding.specs.declared.Placed.the-variants as Placed
 use Rattle.finding.specs.declared.Searched.{Searched}
 use Rattle.finding.specs.declared.Searched.the-variants as Searched
 
@@ -45,6 +43,13 @@ isKind code = cond (isGiven (layoutOf code)) true (isGiven (withCode code kinds)
 abbrev pub valueOf : List ℕ → Tlv → List ℕ
 valueOf payload t = take (t .length) (drop (t .offset + 3) payload)
 
+-- the two tests of a record by themselves: it has the code and lies inside a payload of this size; and its value reads as a record
+abbrev pub isCandidate : ℕ → ℕ → Tlv → Bool
+isCandidate code size t = cond (eqb (t .«tlv_type») code) (leb (t .offset + 3 + t .length) size) false
+
+abbrev pub readsRecord : ℕ → List ℕ → Tlv → Bool
+readsRecord code payload t = cond (isCandidate code (length payload) t) (isGiven (readRecord code (valueOf payload t))) false
+
 unfoldable pub readsAs : ℕ → List ℕ → Tlv → Answer Typed
 readsAs code payload t =
     cond (eqb (t .«tlv_type») code)
@@ -64,15 +69,6 @@ firstOf code payload place (t ∷ ts) = thereOr (readsAs code payload t) place t
 -- the first record of the kind at place `from` of the list or behind it: "Order elsewhere: 16, then" the rest
 unfoldable pub findFrom : ℕ → List Tlv → List ℕ → ℕ → Answer Hit
 findFrom code tlvs payload from = cond (isKind code) (firstOf code payload from (drop from tlvs)) (refuses 16 [])
-
--- the place alone
-abbrev pub placedOf : Placed → Answer ℕ
-placedOf (Placed.At i) = gives i
-placedOf (Placed.Refused r) = told r
-
-abbrev pub placeIn : Answer Hit → Answer ℕ
-placeIn (gives h) = gives (h .place)
-placeIn (refuses n vs) = refuses n vs
 
 -- the same over the TLVs of a payload: 16, then the walk's refusal with its offset
 abbrev pub searchedOf : Searched → Answer Hit

@@ -12,11 +12,10 @@ ghost use lib.Dec.{ltb};
 ghost use Prim.Native.Nat.{_+_, _≤_};
 ghost use lib.ListN.{length, drop};
 ghost use mathlib.Core.List.{[]};
-ghost use Rattle.numbers.specs.Numbers.{gives, refuses};
+ghost use Rattle.numbers.specs.Numbers.{refuses};
 ghost use Rattle.walking.specs.Walk.{walkOf};
 ghost use Rattle.kinds.specs.Kinds.{kindReadOf};
-ghost use Rattle.finding.specs.Finding.{foundOf, placedOf, searchedOf, isGiven, isKind, valueOf, readsAs, thereOr, placeIn, firstOf, findFrom, findInPayload};
-ghost use Rattle.finding.specs.Leaves.{isCandidate, readsRecord};
+ghost use Rattle.finding.specs.Finding.{foundOf, searchedOf, isGiven, isKind, isCandidate, readsRecord, valueOf, readsAs, thereOr, firstOf, findFrom, findInPayload};
 
 // The record that was found, its place in the list, from 0, and what its value reads as: a record, or a list of so many entries.
 pub enum Found {
@@ -34,12 +33,6 @@ pub enum Found {
         consumed: usize,
         rest: usize,
     },
-    Refused(Refusal),
-}
-
-// The place alone.
-pub enum Placed {
-    At(usize),
     Refused(Refusal),
 }
 
@@ -83,7 +76,7 @@ fn hit_of(read: KindRead, t: Tlv, place: usize) -> Found
 // Has the record the code, and does it lie inside a payload of this size? Its type is looked at first and its offset last, so that a record of another kind
 // costs no more than its type: the compiler makes one test of the type's and the offset's where little stands between them. No sum can wrap: what is left of
 // the payload is compared, never an end that the record claims.
-fn is_candidate(t: Tlv, size: usize, code: u8) -> bool
+pub fn is_candidate(t: Tlv, size: usize, code: u8) -> bool
     ensures { λ r. ⌜ r ≡ isCandidate code size t ⌝ }
 {
     let tlv_type = t.tlv_type;
@@ -198,7 +191,7 @@ pub fn find(list: &[Tlv], payload: &[u8], code: u8, from: usize) -> Found
 }
 
 // Does the record read as one of a record kind? Its bytes are measured, nothing is built of them.
-fn reads_as_record(t: Tlv, payload: &[u8], code: u8) -> bool
+pub fn reads_as_record(t: Tlv, payload: &[u8], code: u8) -> bool
     ensures { λ r. ⌜ r ≡ readsRecord code (now (payload .entry)) t ⌝ }
 {
     if is_candidate(t, payload.len(), code) {
@@ -209,61 +202,6 @@ fn reads_as_record(t: Tlv, payload: &[u8], code: u8) -> bool
     } else {
         false
     }
-}
-
-fn placed_of(found: Found) -> Placed
-    ensures { λ r. ⌜ placedOf r ≡ placeIn (foundOf found) ⌝ }
-{
-    match found {
-        Found::Record {
-            place,
-            tlv: _,
-            record: _,
-            consumed: _,
-            rest: _,
-        } => Placed::At(place),
-        Found::List {
-            place,
-            tlv: _,
-            entries: _,
-            consumed: _,
-            rest: _,
-        } => Placed::At(place),
-        Found::Refused(refusal) => Placed::Refused(refusal),
-    }
-}
-
-fn placed_at(place: usize) -> Placed
-    ensures { λ r. ⌜ placedOf r ≡ gives place ⌝ }
-{
-    Placed::At(place)
-}
-
-// The place alone of what `find` finds, by `find` itself.
-fn place_by_find(list: &[Tlv], payload: &[u8], code: u8, from: usize) -> Placed
-    ensures { λ r. ⌜ placedOf r ≡ placeIn (findFrom code (now (list .entry)) (now (payload .entry)) from) ⌝ }
-{
-    let found = find(list, payload, code, from);
-    placed_of(found)
-}
-
-// The place alone of what `find` finds. The first record with the code is measured without a call, so that a search that it settles saves no registers and
-// builds nothing; what it doesn't settle is `find`'s to say, and so is what is refused.
-pub fn find_place(list: &[Tlv], payload: &[u8], code: u8, from: usize) -> Placed
-    ensures { λ r. ⌜ placedOf r ≡ placeIn (findFrom code (now (list .entry)) (now (payload .entry)) from) ⌝ }
-{
-    let mut place = from;
-    while place < list.len() {
-        let t = list[place];
-        if is_candidate(t, payload.len(), code) {
-            if reads_as_record(t, payload, code) {
-                return placed_at(place);
-            }
-            return place_by_find(list, payload, code, place);
-        }
-        place += 1;
-    }
-    place_by_find(list, payload, code, place)
 }
 
 // A look at a record, if its place does not come before `from`.

@@ -39,14 +39,15 @@ use denote.Triple.Walked.{says, Stays, stay-none-slice, stay-none, walkOf, goes-
 use denote.Exit.{yes}
 use Rattle.walking.specs.declared.Tlv.{Tlv}
 use Rattle.walking.proofs.Tlv as T
-use Rattle.finding.specs.declared.Placed.{Placed}
-use Rattle.finding.specs.Finding.{placedOf, placeIn, findFrom}
-use Rattle.finding.proofs.Placed as S
-use Rattle.finding.proofs.Placed.Laws as S′
-use Rattle.finding.proofs.find_place as finds
-use Rattle.finding.proofs.find_place.Symbol as finds-def
-use Rattle.finding.proofs.find_place.Symbol.{name as #finds}
-use Rattle.finding.proofs.find_place.Met as finds-thm
+use Rattle.finding.specs.Finding.{findFrom}
+use Rattle.placing.specs.declared.Placed.{Placed}
+use Rattle.placing.specs.Placing.{placedOf, placeIn}
+use Rattle.placing.proofs.Placed as S
+use Rattle.placing.proofs.Placed.Laws as S′
+use Rattle.placing.proofs.find_place as finds
+use Rattle.placing.proofs.find_place.Symbol as finds-def
+use Rattle.placing.proofs.find_place.Symbol.{name as #finds}
+use Rattle.placing.proofs.find_place.Met as finds-thm
 use Rattle.ashlar.specs.declared.AshlarFound.{AshlarFound}
 use Rattle.ashlar.specs.Numbers.{foundNumbers}
 use Rattle.ashlar.proofs.AshlarFound as N
@@ -191,5 +192,5 @@ ashlar-find-spec 𝓤 H 𝓜 𝓖 𝓡 =
     entered 𝓤 H (tripleOf 𝓤 H (𝓖 .A) f.signature (f.spec 𝓤 H (𝓖 .A) (𝓜 .mem) (𝓡 .run)))
     (tables 𝓤 H 𝓜 𝓡 code.env .C) (tables 𝓤 H 𝓜 𝓡 code.env .Λ) #f code.function (code.unfolded 𝓤 H 𝓜 𝓡)
     (f-meets 𝓤 H (𝓖 .A) (givenOf 𝓤 H 𝓜 𝓖) (𝓜 .mem) (𝓡 .run) (tablesOf 𝓤 H 𝓜 (tables 𝓤 H 𝓜 𝓡 code.env))
-    (cited 𝓤 H (Find 𝓤 H (𝓖 .A) (𝓜 .mem) (𝓡 .run)) 𝓜 𝓡 code.env #finds finds-def.routine code.calls-finding·find-place (finds-thm.met 𝓤 H 𝓜 𝓖 𝓡))
+    (cited 𝓤 H (Find 𝓤 H (𝓖 .A) (𝓜 .mem) (𝓡 .run)) 𝓜 𝓡 code.env #finds finds-def.routine code.calls-placing·find-place (finds-thm.met 𝓤 H 𝓜 𝓖 𝓡))
     (cited 𝓤 H (Num 𝓤 H (𝓖 .A) (𝓜 .mem) (𝓡 .run)) 𝓜 𝓡 code.env #num num-def.routine code.calls-ashlar·found-numbers (num-thm.met 𝓤 H 𝓜 𝓖 𝓡)))

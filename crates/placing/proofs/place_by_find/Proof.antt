@@ -38,25 +38,26 @@ use denote.Triple.Walked.{says, Stays, stay-none-slice, stay-none, walkOf, goes-
 use denote.Exit.{yes}
 use Rattle.walking.specs.declared.Tlv.{Tlv}
 use Rattle.walking.proofs.Tlv as T
 use Rattle.finding.specs.declared.Found.{Found}
-use Rattle.finding.specs.declared.Placed.{Placed}
-use Rattle.finding.specs.Finding.{foundOf, placedOf, placeIn, findFrom}
+use Rattle.placing.specs.declared.Placed.{Placed}
+use Rattle.finding.specs.Finding.{foundOf, findFrom}
+use Rattle.placing.specs.Placing.{placedOf, placeIn}
 use Rattle.finding.proofs.Found as S
 use Rattle.finding.proofs.Found.Laws as S′
-use Rattle.finding.proofs.Placed as N
-use Rattle.finding.proofs.Placed.Laws as N′
+use Rattle.placing.proofs.Placed as N
+use Rattle.placing.proofs.Placed.Laws as N′
 use Rattle.finding.proofs.find as finds
 use Rattle.finding.proofs.find.Symbol as finds-def
 use Rattle.finding.proofs.find.Symbol.{name as #finds}
 use Rattle.finding.proofs.find.Met as finds-thm
-use Rattle.finding.proofs.placed_of as num
-use Rattle.finding.proofs.placed_of.Symbol as num-def
-use Rattle.finding.proofs.placed_of.Symbol.{name as #num}
-use Rattle.finding.proofs.placed_of.Met as num-thm
-use Rattle.finding.proofs.place_by_find.Key.{name as #f}
-use Rattle.finding.proofs.place_by_find as f
-use Rattle.finding.proofs.place_by_find.Statement as stated
-use Rattle.finding.proofs.place_by_find.Code as code
+use Rattle.placing.proofs.placed_of as num
+use Rattle.placing.proofs.placed_of.Symbol as num-def
+use Rattle.placing.proofs.placed_of.Symbol.{name as #num}
+use Rattle.placing.proofs.placed_of.Met as num-thm
+use Rattle.placing.proofs.place_by_find.Key.{name as #f}
+use Rattle.placing.proofs.place_by_find as f
+use Rattle.placing.proofs.place_by_find.Statement as stated
+use Rattle.placing.proofs.place_by_find.Code as code
 
 abbrev R : RattleType
 R = T.the-row
@@ -190,4 +191,4 @@ place-by-find-spec 𝓤 H 𝓜 𝓖 𝓡 =
     (tables 𝓤 H 𝓜 𝓡 code.env .C) (tables 𝓤 H 𝓜 𝓡 code.env .Λ) #f code.function (code.unfolded 𝓤 H 𝓜 𝓡)
     (f-meets 𝓤 H (𝓖 .A) (givenOf 𝓤 H 𝓜 𝓖) (𝓜 .mem) (𝓡 .run) (tablesOf 𝓤 H 𝓜 (tables 𝓤 H 𝓜 𝓡 code.env))
     (cited 𝓤 H (Find 𝓤 H (𝓖 .A) (𝓜 .mem) (𝓡 .run)) 𝓜 𝓡 code.env #finds finds-def.routine code.calls-finding·find (finds-thm.met 𝓤 H 𝓜 𝓖 𝓡))
-    (cited 𝓤 H (Num 𝓤 H (𝓖 .A) (𝓜 .mem) (𝓡 .run)) 𝓜 𝓡 code.env #num num-def.routine code.calls-finding·placed-of (num-thm.met 𝓤 H 𝓜 𝓖 𝓡)))
+    (cited 𝓤 H (Num 𝓤 H (𝓖 .A) (𝓜 .mem) (𝓡 .run)) 𝓜 𝓡 code.env #num num-def.routine code.calls-placing·placed-of (num-thm.met 𝓤 H 𝓜 𝓖 𝓡)))

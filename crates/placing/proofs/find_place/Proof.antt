@@ -1,4 +1,4 @@
--- `finding::find_place` meets its contract: a walk of its MIR, by hand, with a loop. At the loop's head the records from `from` up to i are passed. A turn leaves the loop where i is the list's length, and asks `place_by_find` what to refuse; else it reads the record at i and asks `is_candidate` of it. Of a candidate it asks `reads_as_record`, and gives its place or what `place_by_find` says from there on; else it goes on.
+-- `find_place` meets its contract: a walk of its MIR, by hand, with a loop. At the loop's head the records from `from` up to i are passed. A turn leaves the loop where i is the list's length, and asks `place_by_find` what to refuse; else it reads the record at i and asks `is_candidate` of it. Of a candidate it asks `reads_as_record`, and gives its place or what `place_by_find` says from there on; else it goes on.
 -- Assumes nothing.
 use mathlib.Core.Path.{_≡_, refl, sym, _∙_, ap, subst}
 use mathlib.Core.Bool.{Bool, true}
@@ -56,35 +56,36 @@ use Rattle.walking.proofs.Tlv as T
 use Rattle.walking.proofs.Tlv.Laws as T′
 use Rattle.walking.proofs.Elem.{R, mach, vals, tells, copies, makes, scaled}
 use Rattle.walking.proofs.Body.{tyOf, after}
-use Rattle.finding.specs.Finding.{placedOf, placeIn, findFrom}
-use Rattle.finding.specs.Leaves.{isCandidate, readsRecord}
-use Rattle.finding.specs.declared.Placed.{Placed}
-use Rattle.finding.proofs.Placed as S
-use Rattle.finding.proofs.Placed.Laws as S′
+use Rattle.finding.specs.Finding.{isCandidate, readsRecord, findFrom}
+use Rattle.placing.specs.Placing.{placedOf, placeIn}
+use Rattle.placing.specs.declared.Placed.{Placed}
+use Rattle.placing.proofs.Placed as S
+use Rattle.placing.proofs.Placed.Laws as S′
 use Rattle.finding.proofs.Branch.{holds, fails}
 use Rattle.finding.proofs.Looking.{read-as-record}
-use Rattle.finding.proofs.Passing.{Passed, begins, passed-over, reads-at, from-here}
+use Rattle.finding.proofs.Passing.{Passed, begins, passed-over, from-here}
+use Rattle.placing.proofs.At.{reads-at}
 use Rattle.finding.proofs.is_candidate as tested
 use Rattle.finding.proofs.is_candidate.Symbol as tested-def
 use Rattle.finding.proofs.is_candidate.Symbol.{name as #finding·is-candidate}
 use Rattle.finding.proofs.is_candidate.Met as tested-thm
 use Rattle.finding.proofs.reads_as_record as read
 use Rattle.finding.proofs.reads_as_record.Symbol as read-def
 use Rattle.finding.proofs.reads_as_record.Symbol.{name as #finding·reads-as-record}
 use Rattle.finding.proofs.reads_as_record.Met as read-thm
-use Rattle.finding.proofs.placed_at as told
-use Rattle.finding.proofs.placed_at.Symbol as told-def
-use Rattle.finding.proofs.placed_at.Symbol.{name as #finding·placed-at}
-use Rattle.finding.proofs.placed_at.Met as told-thm
-use Rattle.finding.proofs.place_by_find as rest
-use Rattle.finding.proofs.place_by_find.Symbol as rest-def
-use Rattle.finding.proofs.place_by_find.Symbol.{name as #finding·place-by-find}
-use Rattle.finding.proofs.place_by_find.Met as rest-thm
-use Rattle.finding.proofs.find_place.Key.{name as #finding·find-place}
-use Rattle.finding.proofs.find_place as f
-use Rattle.finding.proofs.find_place.Statement as stated
-use Rattle.finding.proofs.find_place.Code as code
-use Rattle.finding.proofs.find_place.Code.Mir as mir
+use Rattle.placing.proofs.placed_at as told
+use Rattle.placing.proofs.placed_at.Symbol as told-def
+use Rattle.placing.proofs.placed_at.Symbol.{name as #placing·placed-at}
+use Rattle.placing.proofs.placed_at.Met as told-thm
+use Rattle.placing.proofs.place_by_find as rest
+use Rattle.placing.proofs.place_by_find.Symbol as rest-def
+use Rattle.placing.proofs.place_by_find.Symbol.{name as #placing·place-by-find}
+use Rattle.placing.proofs.place_by_find.Met as rest-thm
+use Rattle.placing.proofs.find_place.Key.{name as #placing·find-place}
+use Rattle.placing.proofs.find_place as f
+use Rattle.placing.proofs.find_place.Statement as stated
+use Rattle.placing.proofs.find_place.Code as code
+use Rattle.placing.proofs.find_place.Code.Mir as mir
 
 -- an answer's machine value
 abbrev pval : Placed → Val
@@ -232,7 +233,7 @@ module _ {M : Type 1} (𝓤 : URA M) (H : Heap 𝓤) (A : Atoms 𝓤) (W : Given
     said-rest : (z : Placed) → ent 𝓤 (ensured 𝓤 H A rest.ended (rest.clauses 𝓤 H A mem run) κs (list, (pay, (kind, (i, tt)))) tt z) (fact 𝓤 (Rests z))
     said-rest z = exE 𝓤 _ (λ ws. snd∗ 𝓤 (sem 𝓤 H A (lasts rest.ended κs (list, (pay, (kind, (i, tt)))) ws)) (fact 𝓤 (Rests z)))
 
-  module _ (𝓣 : Tables 𝓤 H) (known : Triple 𝓤 (𝓣 .C #finding·is-candidate) (TestC 𝓤 H A mem run)) (known′ : Triple 𝓤 (𝓣 .C #finding·reads-as-record) (ReadC 𝓤 H A mem run)) (known″ : Triple 𝓤 (𝓣 .C #finding·placed-at) (AtC 𝓤 H A mem run)) (known‴ : Triple 𝓤 (𝓣 .C #finding·place-by-find) (RestC 𝓤 H A mem run)) (gn : Room R n) (gp : Room u8 size) (gk : kind < 2 ^ 8) (gf : i₀ < 2 ^ 64) (l₀ l₁ l₂ l₃ l₄ l₅ l₆ l₇ l₈ l₉ l₁₀ l₁₁ l₁₂ : ℕ) where
+  module _ (𝓣 : Tables 𝓤 H) (known : Triple 𝓤 (𝓣 .C #finding·is-candidate) (TestC 𝓤 H A mem run)) (known′ : Triple 𝓤 (𝓣 .C #finding·reads-as-record) (ReadC 𝓤 H A mem run)) (known″ : Triple 𝓤 (𝓣 .C #placing·placed-at) (AtC 𝓤 H A mem run)) (known‴ : Triple 𝓤 (𝓣 .C #placing·place-by-find) (RestC 𝓤 H A mem run)) (gn : Room R n) (gp : Room u8 size) (gk : kind < 2 ^ 8) (gf : i₀ < 2 ^ 64) (l₀ l₁ l₂ l₃ l₄ l₅ l₆ l₇ l₈ l₉ l₁₀ l₁₁ l₁₂ : ℕ) where
     abbrev C : Calls 𝓤 H
     C = 𝓣 .C
 
@@ -364,7 +365,7 @@ module _ {M : Type 1} (𝓤 : URA M) (H : Heap 𝓤) (A : Atoms 𝓤) (W : Given
         again ! ≺ I i (i + 1) (omega (arith, l))))))))))
         (λ ge. jumps ! $ exec ! C Λ E mir.t-3 (atRet E Post) $ forget ! 3 refl $ forget ! 4 refl $ asks i (p .1) (p .0) (atRet E Post) refl))
 
-  walk : (𝓣 : Tables 𝓤 H) → Triple 𝓤 (𝓣 .C #finding·is-candidate) (TestC 𝓤 H A mem run) → Triple 𝓤 (𝓣 .C #finding·reads-as-record) (ReadC 𝓤 H A mem run) → Triple 𝓤 (𝓣 .C #finding·placed-at) (AtC 𝓤 H A mem run) → Triple 𝓤 (𝓣 .C #finding·place-by-find) (RestC 𝓤 H A mem run) → Room R n → Room u8 size → kind < 2 ^ 8 → i₀ < 2 ^ 64
+  walk : (𝓣 : Tables 𝓤 H) → Triple 𝓤 (𝓣 .C #finding·is-candidate) (TestC 𝓤 H A mem run) → Triple 𝓤 (𝓣 .C #finding·reads-as-record) (ReadC 𝓤 H A mem run) → Triple 𝓤 (𝓣 .C #placing·placed-at) (AtC 𝓤 H A mem run) → Triple 𝓤 (𝓣 .C #placing·place-by-find) (RestC 𝓤 H A mem run) → Room R n → Room u8 size → kind < 2 ^ 8 → i₀ < 2 ^ 64
       → ent 𝓤 (onEntry 𝓤 H A f.signature κs (q, (q′, tt)) x at) (WpFn 𝓤 H (𝓣 .C) (𝓣 .Λ) code.function (s ∷ sp ∷ vint w8 kind ∷ vint w64 i₀ ∷ []) Post)
   walk 𝓣 known known′ known″ known‴ gn gp gk gf =
       qed W ((‵ (flft κ q) ⊛ (‵ (flft κ′ q′) ⊛ ‵ ftrue)) ∷ ‵ (owns (ShrSlice (named 0) κ R ∷ ShrSlice (named 1) κ′ u8 ∷ u8 ∷ usize ∷ []) x at) ∷ []) ∵ enter ! (𝓣 .C) (𝓣 .Λ) code.function (s ∷ sp ∷ vint w8 kind ∷ vint w64 i₀ ∷ []) _ $
@@ -379,13 +380,13 @@ module _ {M : Type 1} (𝓤 : URA M) (H : Heap 𝓤) (A : Atoms 𝓤) (W : Given
       loops ! 𝓣 (≺ 𝓣 known known′ known″ known‴ gn gp gk gf l₀ l₁ l₂ l₃ l₄ l₅ l₆ l₇ l₈ l₉ l₁₀ l₁₁ l₁₂) (wf 𝓣 known known′ known″ known‴ gn gp gk gf l₀ l₁ l₂ l₃ l₄ l₅ l₆ l₇ l₈ l₉ l₁₀ l₁₁ l₁₂) (I 𝓣 known known′ known″ known‴ gn gp gk gf l₀ l₁ l₂ l₃ l₄ l₅ l₆ l₇ l₈ l₉ l₁₀ l₁₁ l₁₂) (turn 𝓣 known known′ known″ known‴ gn gp gk gf l₀ l₁ l₂ l₃ l₄ l₅ l₆ l₇ l₈ l₉ l₁₀ l₁₁ l₁₂) i₀)))))))))))))
 
 module _ {M : Type 1} (𝓤 : URA M) (H : Heap 𝓤) (A : Atoms 𝓤) (W : Given 𝓤 H A) (mem : Memory → SProp 𝓤) (run : Routine → Fun 𝓤) where
-  find-place-walks : (𝓣 : Tables 𝓤 H) → Triple 𝓤 (𝓣 .C #finding·is-candidate) (TestC 𝓤 H A mem run) → Triple 𝓤 (𝓣 .C #finding·reads-as-record) (ReadC 𝓤 H A mem run) → Triple 𝓤 (𝓣 .C #finding·placed-at) (AtC 𝓤 H A mem run) → Triple 𝓤 (𝓣 .C #finding·place-by-find) (RestC 𝓤 H A mem run) → Walks 𝓤 H A f.ended stayed (WpFn 𝓤 H (𝓣 .C) (𝓣 .Λ) code.function) (f.clauses 𝓤 H A mem run)
+  find-place-walks : (𝓣 : Tables 𝓤 H) → Triple 𝓤 (𝓣 .C #finding·is-candidate) (TestC 𝓤 H A mem run) → Triple 𝓤 (𝓣 .C #finding·reads-as-record) (ReadC 𝓤 H A mem run) → Triple 𝓤 (𝓣 .C #placing·placed-at) (AtC 𝓤 H A mem run) → Triple 𝓤 (𝓣 .C #placing·place-by-find) (RestC 𝓤 H A mem run) → Walks 𝓤 H A f.ended stayed (WpFn 𝓤 H (𝓣 .C) (𝓣 .Λ) code.function) (f.clauses 𝓤 H A mem run)
   find-place-walks 𝓣 known known′ known″ known‴ = walked 𝓤 H A f.ended stayed (f.clauses 𝓤 H A mem run) (WpFn 𝓤 H (𝓣 .C) (𝓣 .Λ) code.function) (λ κs. (slice-vals, (slice-vals, (uint-vals w8, (uint-vals w64, tt))))) (λ κs. (shr-slice-tells (named 0) (κs .0) R, (shr-slice-tells (named 1) (κs .1 .0) u8, (uint-tells w8, (uint-tells w64, tt)))))
       (λ κs qs bounds a g are. via 𝓤 _ (fst∗ 𝓤 _ (emp 𝓤))
       (walk 𝓤 H A W mem run (κs .0) (κs .1 .0) (qs .0) (qs .1 .0) (a .0 .ptr .0) (a .0 .ptr .1) (a .0 .name) (a .0 .now) (a .1 .0) (a .1 .1 .0) (a .1 .1 .1 .0) 𝓣 known known′ known″ known‴ (are .0 .0 .1) (are .1 .0 .0 .1) (are .1 .1 .0 .1) (are .1 .1 .1 .0 .1)))
 
 find-place-meets : {M : Type 1} (𝓤 : URA M) (H : Heap 𝓤) (A : Atoms 𝓤) → Given 𝓤 H A → (mem : Memory → SProp 𝓤) (run : Routine → Fun 𝓤) (𝓣 : Tables 𝓤 H)
-    → Triple 𝓤 (𝓣 .C #finding·is-candidate) (TestC 𝓤 H A mem run) → Triple 𝓤 (𝓣 .C #finding·reads-as-record) (ReadC 𝓤 H A mem run) → Triple 𝓤 (𝓣 .C #finding·placed-at) (AtC 𝓤 H A mem run) → Triple 𝓤 (𝓣 .C #finding·place-by-find) (RestC 𝓤 H A mem run) → Meets 𝓤 H A f.signature (WpFn 𝓤 H (𝓣 .C) (𝓣 .Λ) code.function) (f.spec 𝓤 H A mem run)
+    → Triple 𝓤 (𝓣 .C #finding·is-candidate) (TestC 𝓤 H A mem run) → Triple 𝓤 (𝓣 .C #finding·reads-as-record) (ReadC 𝓤 H A mem run) → Triple 𝓤 (𝓣 .C #placing·placed-at) (AtC 𝓤 H A mem run) → Triple 𝓤 (𝓣 .C #placing·place-by-find) (RestC 𝓤 H A mem run) → Meets 𝓤 H A f.signature (WpFn 𝓤 H (𝓣 .C) (𝓣 .Λ) code.function) (f.spec 𝓤 H A mem run)
 find-place-meets 𝓤 H A W mem run 𝓣 known known′ known″ known‴ =
     walk-meets 𝓤 H A f.ended stayed W (goes-none-slice 𝓤 H A W 2 (0 ∷ []) tt (plain (λ _. R)) yes, (goes-none-slice 𝓤 H A W 2 (1 ∷ []) tt (plain (λ _. u8)) yes, (goes-none 𝓤 H A W 2 (λ _. u8) yes (λ κs x f. refl), (goes-none 𝓤 H A W 2 (λ _. usize) yes (λ κs x f. refl), tt)))) (f.clauses 𝓤 H A mem run)
     (WpFn 𝓤 H (𝓣 .C) (𝓣 .Λ) code.function) (WpFn-mono 𝓤 H (W .laws) 𝓣 code.function) (find-place-walks 𝓤 H A W mem run 𝓣 known known′ known″ known‴)
@@ -394,9 +395,9 @@ pub find-place-spec : {M : Type 1} → stated.statement M
 unfolding code.routine tablesOf
 find-place-spec 𝓤 H 𝓜 𝓖 𝓡 =
     entered 𝓤 H (tripleOf 𝓤 H (𝓖 .A) f.signature (f.spec 𝓤 H (𝓖 .A) (𝓜 .mem) (𝓡 .run)))
-    (tables 𝓤 H 𝓜 𝓡 code.env .C) (tables 𝓤 H 𝓜 𝓡 code.env .Λ) #finding·find-place code.function (code.unfolded 𝓤 H 𝓜 𝓡)
+    (tables 𝓤 H 𝓜 𝓡 code.env .C) (tables 𝓤 H 𝓜 𝓡 code.env .Λ) #placing·find-place code.function (code.unfolded 𝓤 H 𝓜 𝓡)
     (find-place-meets 𝓤 H (𝓖 .A) (givenOf 𝓤 H 𝓜 𝓖) (𝓜 .mem) (𝓡 .run) (tablesOf 𝓤 H 𝓜 (tables 𝓤 H 𝓜 𝓡 code.env))
     (cited 𝓤 H (TestC 𝓤 H (𝓖 .A) (𝓜 .mem) (𝓡 .run)) 𝓜 𝓡 code.env #finding·is-candidate tested-def.routine code.calls-finding·is-candidate (tested-thm.met 𝓤 H 𝓜 𝓖 𝓡))
     (cited 𝓤 H (ReadC 𝓤 H (𝓖 .A) (𝓜 .mem) (𝓡 .run)) 𝓜 𝓡 code.env #finding·reads-as-record read-def.routine code.calls-finding·reads-as-record (read-thm.met 𝓤 H 𝓜 𝓖 𝓡))
-    (cited 𝓤 H (AtC 𝓤 H (𝓖 .A) (𝓜 .mem) (𝓡 .run)) 𝓜 𝓡 code.env #finding·placed-at told-def.routine code.calls-finding·placed-at (told-thm.met 𝓤 H 𝓜 𝓖 𝓡))
-    (cited 𝓤 H (RestC 𝓤 H (𝓖 .A) (𝓜 .mem) (𝓡 .run)) 𝓜 𝓡 code.env #finding·place-by-find rest-def.routine code.calls-finding·place-by-find (rest-thm.met 𝓤 H 𝓜 𝓖 𝓡)))
+    (cited 𝓤 H (AtC 𝓤 H (𝓖 .A) (𝓜 .mem) (𝓡 .run)) 𝓜 𝓡 code.env #placing·placed-at told-def.routine code.calls-placing·placed-at (told-thm.met 𝓤 H 𝓜 𝓖 𝓡))
+    (cited 𝓤 H (RestC 𝓤 H (𝓖 .A) (𝓜 .mem) (𝓡 .run)) 𝓜 𝓡 code.env #placing·place-by-find rest-def.routine code.calls-placing·place-by-find (rest-thm.met 𝓤 H 𝓜 𝓖 𝓡)))

@@ -1,8 +1,8 @@
 -- `placed_of` meets its contract, answer by answer.
 use mathlib.Core.Path.{sym}
 use borrow.Author.Needs.{needs}
-use Rattle.finding.proofs.placed_of.Statement.{statement}
-use Rattle.finding.proofs.placed_of.Tie as tie
+use Rattle.placing.proofs.placed_of.Statement.{statement}
+use Rattle.placing.proofs.placed_of.Tie as tie
 
 enum-known-found : tie.Need-enum-known-found
 enum-known-found c = search needs
