@@ -1,10 +1,15 @@
 // Answers the commands on standard input, a line each, through the library's public calls (oracle/COMMANDS.md). It is held against the original
 // by oracle/run, and against a kept list of the original's answers whenever it is checked.
-use drive_pushes::Served;
-use drive_words::parse;
-use drive_words::show;
-use drive_words::show::Text;
+mod fields;
+mod parse;
+mod payloads;
+mod pushes;
+mod show;
+mod singles;
+
 use libc::STDIN_FILENO;
+use pushes::Served;
+use show::Text;
 use table::Table;
 ghost use Prim.Native.Nat.{_≤_};
 ghost use Rattle.pushing.specs.Made.{Made};
@@ -36,9 +41,9 @@ struct Filled {
 fn answer(line: &[u8], bytes: &[u8], out: &mut Bytes, text: &mut Text, used: usize) -> usize {
     let letter = parse::byte_at(line, 0);
     match letter {
-        b'k' | b'g' | b'd' | b'D' | b'l' => drive_payloads::answer(letter, line, bytes, text, used),
-        b'w' | b's' | b'f' => drive_singles::answer_written(letter, line, bytes, out, text, used),
-        _ => drive_singles::answer_read(letter, line, bytes, text, used),
+        b'k' | b'g' | b'd' | b'D' | b'l' => payloads::answer(letter, line, bytes, text, used),
+        b'w' | b's' | b'f' => singles::answer_written(letter, line, bytes, out, text, used),
+        _ => singles::answer_read(letter, line, bytes, text, used),
     }
 }
 
@@ -76,7 +81,7 @@ fn turn(
 {
     let used = show::with_room(text, before);
     if is_of_table(parse::byte_at(line, 0)) {
-        return drive_pushes::answer(t, line, bytes, out, store, text, used);
+        return pushes::answer(t, line, bytes, out, store, text, used);
     }
     Served {
         table: t,
@@ -176,7 +181,7 @@ fn serve(input: &mut Input, data: &mut Bytes, out: &mut Bytes, store: &mut Store
 fn start() -> State
     ensures { λ r. ⌜ Made (r .table) ⌝ }
 {
-    let t = drive_pushes::made_fresh();
+    let t = pushes::made_fresh();
     State {
         table: t,
         used: 0,

@@ -42,36 +42,25 @@ module _ (code : ℕ) (payload : List ℕ) (t : Tlv) where
       by-tests true e = leb-true (t .offset + 3 + t .length) (length payload) e
       by-tests false e = let z : _≡_ {A = ℕ} 0 1 = cc in absurd (omega arith)
 
-  as-tested : (a b : Bool) (x : Answer Typed) → cond a b false ≡ true → x ≡ cond a (cond b x (refuses 15 [])) (refuses 15 [])
-  as-tested true true x e = refl
-  as-tested true false x e = let z : _≡_ {A = ℕ} 0 1 = cc in absurd (omega arith)
-  as-tested false b x e = let z : _≡_ {A = ℕ} 0 1 = cc in absurd (omega arith)
-
   pub reads : isCandidate code (length payload) t ≡ true → readKind code (valueOf payload t) ≡ readsAs code payload t
   unfolding readsAs
-  reads e = as-tested (eqb (t .«tlv_type») code) (leb (t .offset + 3 + t .length) (length payload)) _ e
-
-  by-refused : (a b : Bool) (x : Answer Typed) → cond a b false ≡ false → refuses 15 [] ≡ cond a (cond b x (refuses 15 [])) (refuses 15 [])
-  by-refused true true x e = let z : _≡_ {A = ℕ} 0 1 = cc in absurd (omega arith)
-  by-refused true false x e = refl
-  by-refused false b x e = refl
+  reads e = ap (λ (b : Bool). cond b (readKind code (valueOf payload t)) (refuses 15 [])) (sym e)
 
   pub no-candidate : isCandidate code (length payload) t ≡ false → refuses 15 [] ≡ readsAs code payload t
   unfolding readsAs
-  no-candidate e = by-refused (eqb (t .«tlv_type») code) (leb (t .offset + 3 + t .length) (length payload)) _ e
+  no-candidate e = ap (λ (b : Bool). cond b (readKind code (valueOf payload t)) (refuses 15 [])) (sym e)
 
   pub miss : (place : ℕ) → isCandidate code (length payload) t ≡ false → refuses 15 [] ≡ thereOr (readsAs code payload t) place t (refuses 15 [])
   miss place e = rw (← no-candidate e)
 
   -- what a record reads as is what its value reads as
-  by-tests : (a b : Bool) (x : Answer Typed) (r : Typed) → gives r ≡ cond a (cond b x (refuses 15 [])) (refuses 15 []) → gives r ≡ x
-  by-tests true true x r e = e
-  by-tests true false x r e = never _ _ _ e
-  by-tests false b x r e = never _ _ _ e
+  by-test : (b : Bool) (x : Answer Typed) (r : Typed) → gives r ≡ cond b x (refuses 15 []) → gives r ≡ x
+  by-test true x r e = e
+  by-test false x r e = never _ _ _ e
 
   pub value-reads : (r : Typed) → gives r ≡ readsAs code payload t → gives r ≡ readKind code (valueOf payload t)
   unfolding readsAs
-  value-reads r e = by-tests (eqb (t .«tlv_type») code) (leb (t .offset + 3 + t .length) (length payload)) (readKind code (valueOf payload t)) r e
+  value-reads r e = by-test (isCandidate code (length payload) t) (readKind code (valueOf payload t)) r e
 
   pub of-a-kind : (r : Typed) → gives r ≡ readsAs code payload t → true ≡ isKind code
   of-a-kind r e = reads-a-kind code (valueOf payload t) r (value-reads r e)

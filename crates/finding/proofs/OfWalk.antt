@@ -32,6 +32,10 @@ module _ (p : List ℕ) where
   stands (more k c) zero h = refl
   stands (more k c) (suc i) h = stands c i (omega arith)
 
+  by-code : (b : Bool) (x : Answer Typed) → cond (cond b true false) x (refuses 15 []) ≡ cond b x (refuses 15 [])
+  by-code true x = refl
+  by-code false x = refl
+
   here : (code at : ℕ) → Inside p (recordAt p at) → readsAs code p (recordAt p at) ≡ tlvAs code (readTlv (drop at p)) (drop at p)
   unfolding readsAs
   here code at i =
@@ -41,7 +45,8 @@ module _ (p : List ℕ) where
       let e = whole s n d (omega (arith, i .head, length-drop at p)) (omega (arith, i .all, length-drop at p)) in
       let z : at + 0 ≡ at = omega arith in
       let b : getD s 0 0 ≡ getD p at 0 = getD-drop at p 0 0 ∙ ap (λ (k : ℕ). getD p k 0) z in
-      ap (λ (b : Bool). cond (eqb (getD p at 0) code) (cond b (readKind code (take n (drop (at + 3) p))) (refuses 15 [])) (refuses 15 [])) (le-leb (at + 3 + n) (length p) (i .all))
+      ap (λ (b : Bool). cond (cond (eqb (getD p at 0) code) b false) (readKind code (take n (drop (at + 3) p))) (refuses 15 [])) (le-leb (at + 3 + n) (length p) (i .all))
+      ∙ by-code (eqb (getD p at 0) code) (readKind code (take n (drop (at + 3) p)))
       ∙ ap (λ (l : List ℕ). cond (eqb (getD p at 0) code) (readKind code (take n l)) (refuses 15 [])) (sym (drop-drop 3 at p))
       ∙ ap (λ (k : ℕ). cond (eqb k code) (readKind code (take n (drop 3 s))) (refuses 15 [])) (sym b)
       ∙ ap (λ (x : Answer TlvRead). tlvAs code x s) e

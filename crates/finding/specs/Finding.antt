@@ -39,22 +39,20 @@ isGiven (refuses n vs) = false
 abbrev pub isKind : ℕ → Bool
 isKind code = cond (isGiven (layoutOf code)) true (isGiven (withCode code kinds))
 
--- a record's value, and what it reads as: nothing, unless the record has the code and lies inside the payload. The sum is one of whole numbers.
-abbrev pub valueOf : List ℕ → Tlv → List ℕ
-valueOf payload t = take (t .length) (drop (t .offset + 3) payload)
-
--- the two tests of a record by themselves: it has the code and lies inside a payload of this size; and its value reads as a record
+-- a record that has the code and lies inside a payload of this size. The sum is one of whole numbers.
 abbrev pub isCandidate : ℕ → ℕ → Tlv → Bool
 isCandidate code size t = cond (eqb (t .«tlv_type») code) (leb (t .offset + 3 + t .length) size) false
 
-abbrev pub readsRecord : ℕ → List ℕ → Tlv → Bool
-readsRecord code payload t = cond (isCandidate code (length payload) t) (isGiven (readRecord code (valueOf payload t))) false
+-- a record's value, and what it reads as: nothing, unless the record is such a one
+abbrev pub valueOf : List ℕ → Tlv → List ℕ
+valueOf payload t = take (t .length) (drop (t .offset + 3) payload)
 
 unfoldable pub readsAs : ℕ → List ℕ → Tlv → Answer Typed
-readsAs code payload t =
-    cond (eqb (t .«tlv_type») code)
-    (cond (leb (t .offset + 3 + t .length) (length payload)) (readKind code (valueOf payload t)) (refuses 15 []))
-    (refuses 15 [])
+readsAs code payload t = cond (isCandidate code (length payload) t) (readKind code (valueOf payload t)) (refuses 15 [])
+
+-- whether it reads as a record
+abbrev pub readsRecord : ℕ → List ℕ → Tlv → Bool
+readsRecord code payload t = cond (isCandidate code (length payload) t) (isGiven (readRecord code (valueOf payload t))) false
 
 -- the record t at a place, if it reads as said; or what is found behind it
 abbrev pub thereOr : Answer Typed → ℕ → Tlv → Answer Hit → Answer Hit

@@ -1,0 +1,222 @@
+// Reading a command: its fields, numbers, and bytes written as hex pairs and repeats. What is no command is answered somehow; none is ever generated.
+use crate::show;
+ghost use Prim.Native.Nat.{_≤_, _<_};
+ghost use lib.ListN.{length};
+
+// More than a line ever has.
+const LONGEST: usize = 1000000;
+
+// Where the first `b` from `from` on stands; the end where there is none.
+pub(crate) fn place_of(s: &[u8], from: usize, b: u8) -> usize
+    ensures { λ r. ⌜ r ≤ length (now (s .entry)) ⌝ }
+{
+    let mut i = from;
+    while i < s.len() {
+        if s[i] == b {
+            return i;
+        }
+        i += 1;
+    }
+    s.len()
+}
+
+// From a to e; nothing where that is no part of s.
+pub(crate) fn part(s: &[u8], a: usize, e: usize) -> &[u8] {
+    if e <= s.len() {
+        if a <= e {
+            return &s[a..e];
+        }
+    }
+    &s[..0]
+}
+
+// The lesser of two, which the second bounds.
+pub(crate) fn least(a: usize, b: usize) -> usize
+    ensures { λ r. ⌜ r ≤ b ⌝ }
+{
+    if a < b { a } else { b }
+}
+
+// The byte at i, 0 past the end.
+pub(crate) fn byte_at(s: &[u8], i: usize) -> u8 {
+    if i < s.len() { s[i] } else { 0 }
+}
+
+// Behind the next separator.
+fn behind(s: &[u8], separator: u8, at: usize) -> usize {
+    let end = place_of(s, at, separator);
+    if end < s.len() { end + 1 } else { end }
+}
+
+// Piece number n, from 0, of what is separated so.
+pub(crate) fn piece(s: &[u8], separator: u8, n: usize) -> &[u8] {
+    let mut at = 0;
+    let mut i = 0;
+    while i < n {
+        at = behind(s, separator, at);
+        i += 1;
+    }
+    part(s, at, place_of(s, at, separator))
+}
+
+// How many pieces there are; `-` stands for none.
+pub(crate) fn pieces(s: &[u8], separator: u8) -> usize {
+    if byte_at(s, 0) == b'-' {
+        return 0;
+    }
+    let mut count: usize = 1;
+    let mut i = 0;
+    while i < s.len() {
+        if s[i] == separator {
+            count = std::num::wrapping_add_usize(count, 1);
+        }
+        i += 1;
+    }
+    count
+}
+
+// Field number n of a line, from 0.
+pub(crate) fn field(line: &[u8], n: usize) -> &[u8] {
+    piece(line, b' ', n)
+}
+
+fn with_digit(n: u64, digit: u8) -> u64 {
+    if n <= 1844674407370955161 {
+        return std::num::wrapping_add_u64(n * 10, std::num::wrapping_sub_u8(digit, b'0') as u64);
+    }
+    n
+}
+
+pub(crate) fn number(s: &[u8]) -> u64 {
+    let mut n = 0;
+    let mut i = 0;
+    while i < s.len() {
+        n = with_digit(n, s[i]);
+        i += 1;
+    }
+    n
+}
+
+// The number in field n.
+pub(crate) fn number_in(line: &[u8], n: usize) -> u64 {
+    number(field(line, n))
+}
+
+pub(crate) fn size_in(line: &[u8], n: usize) -> usize {
+    number_in(line, n) as usize
+}
+
+pub(crate) fn byte_of(n: u64) -> u8
+    ensures { λ r. ⌜ r < 256 ⌝ }
+{
+    (n % 256) as u8
+}
+
+pub(crate) fn u16_of(n: u64) -> u16
+    ensures { λ r. ⌜ r < 65536 ⌝ }
+{
+    (n % 65536) as u16
+}
+
+pub(crate) fn byte_in(line: &[u8], n: usize) -> u8
+    ensures { λ r. ⌜ r < 256 ⌝ }
+{
+    byte_of(number_in(line, n))
+}
+
+fn digit(c: u8) -> u8 {
+    if c < b'a' {
+        std::num::wrapping_sub_u8(c, b'0') % 16
+    } else {
+        (c - 87) % 16
+    }
+}
+
+// The byte of two hex digits.
+fn byte_of_pair(high: u8, low: u8) -> u8 {
+    digit(high) % 16 * 16 + digit(low) % 16
+}
+
+// The byte of the hex pair number n, from 0.
+pub(crate) fn pair(s: &[u8], n: usize) -> u8 {
+    if n < LONGEST {
+        return byte_of_pair(byte_at(s, n * 2), byte_at(s, n * 2 + 1));
+    }
+    0
+}
+
+fn repeat(data: &mut [u8], n: usize, count: usize, b: u8) -> usize {
+    let mut end = n;
+    let mut i = 0;
+    while i < count {
+        end = show::put_one(data, end, b);
+        i += 1;
+    }
+    end
+}
+
+// Puts the bytes of a field at the start of data: `-` for none, hex pairs, and repeats `*COUNT:PAIR`. How many there are.
+fn decode(s: &[u8], data: &mut [u8]) -> usize {
+    let mut n = 0;
+    if LONGEST < s.len() {
+        return n;
+    }
+    if byte_at(s, 0) == b'-' {
+        return n;
+    }
+    let mut i = 0;
+    while i < s.len() {
+        if s[i] == b'*' {
+            let colon = place_of(s, i, b':');
+            if colon <= i {
+                return n;
+            }
+            let b = byte_of_pair(byte_at(s, colon + 1), byte_at(s, colon + 2));
+            n = repeat(data, n, number(part(s, i + 1, colon)) as usize, b);
+            i = colon + 3;
+        } else {
+            n = show::put_one(data, n, byte_of_pair(s[i], byte_at(s, i + 1)));
+            i += 2;
+        }
+    }
+    n
+}
+
+// Which field of a line has its bytes. Where a letter asks for none it makes no difference.
+fn field_of_bytes(letter: u8) -> usize {
+    match letter {
+        b't' | b'h' | b'k' | b'g' => 1,
+        b'r' | b'a' | b'd' | b'D' => 2,
+        b'w' | b's' | b'e' | b'l' => 3,
+        _ => 8,
+    }
+}
+
+// Puts the bytes that a line gives at the start of data; how many there are.
+pub(crate) fn decode_line(line: &[u8], data: &mut [u8]) -> usize {
+    decode(field(line, field_of_bytes(byte_at(line, 0))), data)
+}
+
+// Where the line ends that starts at `at`, of the first `have` bytes; `have` where its end is not among them.
+pub(crate) fn line_end(input: &[u8], at: usize, have: usize) -> usize {
+    place_of(part(input, 0, have), at, b'\n')
+}
+
+// Moves the bytes from a to e to the start; how many they are.
+pub(crate) fn moved(s: &mut [u8], a: usize, e: usize) -> usize
+    ensures { λ r. ⌜ r ≤ length (now (s .entry)) ⌝ }
+{
+    if s.len() < e {
+        return 0;
+    }
+    if e < a {
+        return 0;
+    }
+    let n = e - a;
+    let mut i = 0;
+    while i < n {
+        s[i] = s[a + i];
+        i += 1;
+    }
+    n
+}

@@ -1,0 +1,131 @@
+// The commands of finding: d and D.
+use crate::parse;
+use crate::show;
+use crate::show::Tally;
+use crate::show::Text;
+use finding::Found;
+use finding::Searched;
+use numbers::Refusal;
+use walking::Walked;
+
+// A found TLV: its place among the payload's, and where the bytes that were read of its value start and end.
+pub(crate) enum Hit {
+    At {
+        place: usize,
+        start: usize,
+        end: usize,
+    },
+    Unwalked {
+        refusal: Refusal,
+        at: usize,
+    },
+    Refused(Refusal),
+}
+
+// More than a payload has TLVs.
+const TURNS: usize = 30000;
+
+fn hit_at(place: usize, offset: usize, consumed: usize) -> Hit {
+    let start = std::num::wrapping_add_usize(offset, 3);
+    Hit::At {
+        place,
+        start,
+        end: std::num::wrapping_add_usize(start, consumed),
+    }
+}
+
+pub(crate) fn hit_of(found: Found) -> Hit {
+    match found {
+        Found::Record {
+            place,
+            tlv,
+            record: _,
+            consumed,
+            rest: _,
+        } => hit_at(place, tlv.offset, consumed),
+        Found::List {
+            place,
+            tlv,
+            entries: _,
+            consumed,
+            rest: _,
+        } => hit_at(place, tlv.offset, consumed),
+        Found::Refused(refusal) => Hit::Refused(refusal),
+    }
+}
+
+// The first readable TLV of the kind, from this place on.
+fn first_from(payload: &[u8], code: u8, from: usize) -> Hit {
+    match finding::find_in_payload(payload, code, from) {
+        Searched::Answered(found) => hit_of(found),
+        Searched::Unwalked { refusal, at } => Hit::Unwalked { refusal, at },
+    }
+}
+
+pub(crate) fn put_unwalked(refusal: Refusal, at: usize, text: &mut Text, used: usize) -> usize {
+    let a = show::put_refused(text, used, refusal);
+    show::put_next(text, a, at as u64)
+}
+
+fn put_place(place: usize, value: &[u8], text: &mut Text, used: usize) -> usize {
+    let a = show::put_ok(text, used);
+    let b = show::put_next(text, a, place as u64);
+    show::put_shown(text, b, b' ', value)
+}
+
+pub(crate) fn put_hit(hit: Hit, payload: &[u8], text: &mut Text, used: usize) -> usize {
+    match hit {
+        Hit::At { place, start, end } => {
+            put_place(place, parse::part(payload, start, end), text, used)
+        }
+        Hit::Unwalked { refusal, at } => put_unwalked(refusal, at, text, used),
+        Hit::Refused(refusal) => show::put_refused(text, used, refusal),
+    }
+}
+
+// d: the payload walked, then found in it: so a walk's refusal comes before that of an unknown kind.
+pub(crate) fn first(payload: &[u8], code: u8, text: &mut Text, used: usize) -> usize {
+    match walking::walk(payload) {
+        Walked::Count(_) => put_hit(first_from(payload, code, 0), payload, text, used),
+        Walked::Refused { refusal, at } => put_unwalked(refusal, at, text, used),
+    }
+}
+
+// One after the other, each behind the one before.
+fn all_hits(payload: &[u8], code: u8) -> Tally {
+    let mut all = show::no_parts();
+    let mut from = 0;
+    let mut turn = 0;
+    while turn < TURNS {
+        let hit = first_from(payload, code, from);
+        let Hit::At { place, start, end } = hit else {
+            return all;
+        };
+        all = show::with_part(all.count, all.sum, parse::part(payload, start, end));
+        from = std::num::wrapping_add_usize(place, 1);
+        turn += 1;
+    }
+    all
+}
+
+// That none is found is no refusal of all.
+fn is_refused(hit: Hit) -> bool {
+    match hit {
+        Hit::At {
+            place: _,
+            start: _,
+            end: _,
+        } => false,
+        Hit::Unwalked { refusal: _, at: _ } => true,
+        Hit::Refused(refusal) => numbers::number_of(refusal) != 15,
+    }
+}
+
+// D: every readable one.
+pub(crate) fn every(payload: &[u8], code: u8, text: &mut Text, used: usize) -> usize {
+    let hit = first_from(payload, code, 0);
+    if is_refused(hit) {
+        return put_hit(hit, payload, text, used);
+    }
+    show::put_tally(text, used, all_hits(payload, code))
+}

@@ -1,0 +1,118 @@
+// The commands of the walk: k and g.
+use crate::parse;
+use crate::payloads::found;
+use crate::payloads::listing;
+use crate::show;
+use crate::show::Text;
+use walking::Tlv;
+use walking::Walked;
+
+// The TLVs of a payload from one on, 40 at most, and where those end.
+struct Part {
+    tlvs: [Tlv; 40],
+    count: usize,
+    end: usize,
+}
+
+// The TLVs of these bytes, of which there are 40 at most.
+fn part_of(bytes: &[u8]) -> Part {
+    let listed = listing::walk_and_find(listing::empty(), bytes, bytes, 0);
+    let tlvs = listed.tlvs;
+    let walked = listed.walked;
+    match walked {
+        Walked::Count(count) => Part {
+            tlvs,
+            count,
+            end: bytes.len(),
+        },
+        Walked::Refused { refusal: _, at } => Part {
+            tlvs,
+            count: 0,
+            end: at,
+        },
+    }
+}
+
+// The first 40 TLVs of these bytes, or all: a list that is too short is refused with the offset of the first TLV without a place.
+fn first_part(bytes: &[u8]) -> Part {
+    let all = part_of(bytes);
+    if all.end < bytes.len() {
+        return part_of(parse::part(bytes, 0, all.end));
+    }
+    all
+}
+
+fn put_tlv(t: Tlv, text: &mut Text, used: usize) -> usize {
+    let a = show::put_next(text, used, t.tlv_type as u64);
+    let b = show::put_after(text, a, b':', t.offset as u64);
+    show::put_after(text, b, b':', t.length as u64)
+}
+
+// Each TLV with type, offset and length.
+fn put_part(p: Part, text: &mut Text, used: usize) -> usize {
+    let count = parse::least(p.count, 40);
+    let mut end = used;
+    let mut i = 0;
+    while i < count {
+        let t = p.tlvs[i];
+        end = put_tlv(t, text, end);
+        i += 1;
+    }
+    end
+}
+
+fn sum_tlv(sum: u64, t: Tlv, from: usize) -> u64 {
+    let offset = std::num::wrapping_add_usize(from, t.offset);
+    show::sum_two(
+        show::sum_four(show::sum_byte(sum, t.tlv_type), offset),
+        t.length as usize,
+    )
+}
+
+// The checksum goes on over the TLVs of a part that starts at `from`.
+fn sum_part(sum: u64, p: Part, from: usize) -> u64 {
+    let count = parse::least(p.count, 40);
+    let mut all = sum;
+    let mut i = 0;
+    while i < count {
+        let t = p.tlvs[i];
+        all = sum_tlv(all, t, from);
+        i += 1;
+    }
+    all
+}
+
+// The checksum over all TLVs, of which there are so many.
+fn sum_all(data: &[u8], count: usize) -> u64 {
+    let mut sum = show::NOTHING;
+    let mut from = 0;
+    let mut i = 0;
+    while i < count {
+        let p = first_part(parse::part(data, from, data.len()));
+        sum = sum_part(sum, p, from);
+        from = std::num::wrapping_add_usize(from, p.end);
+        if p.count < 40 {
+            return sum;
+        }
+        i += 1;
+    }
+    sum
+}
+
+// How many TLVs there are, and each of a few, or the checksum over many.
+fn put_all(data: &[u8], count: usize, text: &mut Text, used: usize) -> usize {
+    let a = show::put_ok(text, used);
+    let b = show::put_next(text, a, count as u64);
+    if count <= 16 {
+        return put_part(first_part(data), text, b);
+    }
+    show::put_sum(text, b, b' ', sum_all(data, count))
+}
+
+// k, g: a payload walked to its end, counted and listed.
+pub(crate) fn walk(data: &[u8], text: &mut Text, used: usize) -> usize {
+    match walking::walk(data) {
+        Walked::Count(count) => put_all(data, count, text, used),
+        Walked::Refused { refusal, at } => found::put_unwalked(refusal, at, text, used),
+    }
+}
