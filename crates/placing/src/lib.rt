@@ -48,8 +48,8 @@ fn place_by_find(list: &[Tlv], payload: &[u8], code: u8, from: usize) -> Placed
     placed_of(found)
 }
 
-// The place alone of what `find` finds. The first record with the code is measured without a call, so that a search that it settles saves no registers and
-// builds nothing; what it doesn't settle is `find`'s to say, and so is what is refused.
+// The place alone of what `find` finds. The first record with the code is measured without a call, so that a search that it settles saves few registers and
+// builds nothing; what it doesn't settle is `find`'s to say, and so is what is refused. That is asked in two places, so that the compiler leaves it a call.
 pub fn find_place(list: &[Tlv], payload: &[u8], code: u8, from: usize) -> Placed
     ensures { λ r. ⌜ placedOf r ≡ placeIn (findFrom code (now (list .entry)) (now (payload .entry)) from) ⌝ }
 {
