@@ -37,7 +37,7 @@ header-one (HeaderRead.Refused r) (HeaderRead.Refused r′) e = ap HeaderRead.Re
 pub read-tlv-firm : (s : List ℕ) (a b : Read) → readOf a ≡ readTlv s → readOf b ≡ readTlv s → a ≡ b
 read-tlv-firm s a b p q = read-one a b (p ∙ sym q)
 
--- a writing call: the answer; what the buffer holds is an equation by itself, as a part that is returned is (numbers' equal-firm)
+-- a writing call: the answer; what the buffer holds is an equation by itself, as a part that is returned is (numbers' by-equation)
 pub write-firm : (defined : Answer ℕ) (a b : Written) → writtenOf a ≡ defined → writtenOf b ≡ defined → a ≡ b
 write-firm defined a b p q = written-one a b (p ∙ sym q)
 

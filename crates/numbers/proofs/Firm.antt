@@ -4,6 +4,7 @@ use mathlib.Core.List.{List, [], _∷_}
 use Prim.Native.Nat.{ℕ}
 use native.Mathlib.Omega.{arith}
 use lib.ListN.{getD}
+use Rattle.numbers.specs.Firmness.{Firm}
 use Rattle.numbers.specs.Numbers.{gives, refuses, told, number, values, carried}
 use Rattle.numbers.specs.declared.Refusal.{Refusal}
 use Rattle.numbers.specs.declared.Refusal.the-variants.{TooFewBytes, RunsPastEnd, CutShort, LeftOver, BadValue, NoEntry, NoRoom, ValueTooLong, NeverRead, TableFull, StoreTooSmall, PayloadTooLong, OutputTooSmall, ListTooShort, NotFound, UnknownKind}
@@ -40,6 +41,14 @@ firm A a b e = firm-numbered a b (cc) (cc)
 pub never : {A B : Type 0} (a : A) (n : ℕ) (vs : List ℕ) → gives a ≡ refuses n vs → B
 never a n vs e = let z : _≡_ {A = ℕ} 0 1 = cc in absurd (omega arith)
 
--- a number, a part that is returned, a list or a table that was lent: two that a contract says to equal one definition are one
-pub equal-firm : {A : Type 0} (defined a b : A) → a ≡ defined → b ≡ defined → a ≡ b
-equal-firm defined a b p q = p ∙ sym q
+-- what a contract says by an equation: a number, a part that is returned, a list or a table that was lent
+pub by-equation : {A : Type 0} (defined : A) → Firm (λ a. a ≡ defined)
+by-equation defined a b p q = p ∙ sym q
+
+-- an answer that is told in document 01's words, if no two are told alike
+pub by-telling : {A B : Type 0} (tell : A → B) → ((a b : A) → tell a ≡ tell b → a ≡ b) → (defined : B) → Firm (λ a. tell a ≡ defined)
+by-telling tell one defined a b p q = one a b (p ∙ sym q)
+
+-- an answer together with what was lent
+pub both : {A B : Type 0} (P : A → Type 0) (Q : B → Type 0) → Firm P → Firm Q → Firm {A = A × B} (λ o. P (o .0) × Q (o .1))
+both P Q f g a b p q = rw (f (a .0) (b .0) (p .0) (q .0), g (a .1) (b .1) (p .1) (q .1))

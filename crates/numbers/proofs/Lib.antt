@@ -1,1 +1,3 @@
 pub mod Firm
+pub mod Answers
+pub mod Claims

@@ -1,4 +1,5 @@
 -- Document 01, "Numbers given back": the number of each refusal, and the values that it carries.
+use mathlib.Core.Bool.{Bool, true, false}
 use mathlib.Core.List.{List, [], _∷_}
 use Prim.Native.Nat.{ℕ}
 use lib.ListN.{getD}
@@ -9,6 +10,20 @@ use Rattle.numbers.specs.declared.Refusal.the-variants.{TooFewBytes, Run
 pub data Answer (A : Type 0) : Type 0 where
   gives : A → Answer A
   refuses : ℕ → List ℕ → Answer A
+
+-- what follows an answer that is no refusal
+abbrev pub andThen : {A B : Type 0} → Answer A → (A → Answer B) → Answer B
+andThen (gives a) f = f a
+andThen (refuses n vs) f = refuses n vs
+
+-- what is given, in other words; a refusal stays
+abbrev pub mapped : {A B : Type 0} → (A → B) → Answer A → Answer B
+mapped f (gives a) = gives (f a)
+mapped f (refuses n vs) = refuses n vs
+
+abbrev pub isGiven : {A : Type 0} → Answer A → Bool
+isGiven (gives a) = true
+isGiven (refuses n vs) = false
 
 -- The number of each refusal and its values: "All but 13 and these [the walk's, which carry an offset] carry no other number."
 abbrev pub numbered : Refusal → ℕ × List ℕ

@@ -1,10 +1,10 @@
--- Any two answers that the contract of a writing call allows coincide, and so do the buffers that it leaves. `code_of` and `size_of` answer a number that equals the definition's (numbers' equal-firm).
+-- Any two answers that the contract of a writing call allows coincide, and so do the buffers that it leaves. `code_of` and `size_of` answer a number that equals the definition's (numbers' by-equation).
 use mathlib.Core.Path.{_≡_}
 use mathlib.Core.List.{List}
 use Prim.Native.Nat.{ℕ}
 use lib.ListN.{length}
 use Rattle.numbers.specs.Numbers.{Answer}
-use Rattle.numbers.proofs.Firm.{equal-firm}
+use Rattle.numbers.proofs.Firm.{by-equation}
 use Rattle.framing.specs.declared.Written.{Written}
 use Rattle.framing.specs.Tlv.{writtenOf, leaves, tlvBytes}
 use Rattle.framing.proofs.Firm.{write-firm}
@@ -15,7 +15,7 @@ use Rattle.record_writing.specs.Writing.{valueSize, recordSize}
 
 -- what `write_value` or `write_record` may leave: an answer and a buffer
 both : (a b : Written) (x y : List ℕ) (answer : Answer ℕ) (after : List ℕ) → writtenOf a ≡ answer → x ≡ after → writtenOf b ≡ answer → y ≡ after → (a ≡ b) × (x ≡ y)
-both a b x y answer after e e′ f f′ = (write-firm answer a b e f, equal-firm after x y e′ f′)
+both a b x y answer after e e′ f f′ = (write-firm answer a b e f, by-equation after x y e′ f′)
 
 module _ (a b : Written) (x y : List ℕ) (r : Record) (out : List ℕ) where
   pub write-value-firm : writtenOf a ≡ valueSize r (length out) → x ≡ leaves (valueSize r (length out)) (bytesOf r) out → writtenOf b ≡ valueSize r (length out) → y ≡ leaves (valueSize r (length out)) (bytesOf r) out → (a ≡ b) × (x ≡ y)

@@ -19,6 +19,6 @@ one (Refused r at) (Refused r′ at′) e =
     let a : at ≡ at′ = cc in
     rw (firm-numbered r r′ n v, a)
 
--- `walk` and `walk_into`: the answer; what the list holds is an equation by itself (numbers' equal-firm)
+-- `walk` and `walk_into`: the answer; what the list holds is an equation by itself (numbers' by-equation)
 pub walk-firm : (defined : Answer ℕ) (a b : Walked) → walkedOf a ≡ defined → walkedOf b ≡ defined → a ≡ b
 walk-firm defined a b p q = one a b (p ∙ sym q)
