@@ -1,9 +1,9 @@
 -- The counted layouts: document 01, "The 21 kinds", written as its table writes them.
-use mathlib.Core.Bool.{cond}
+use mathlib.Core.Bool.{Bool, cond}
 use mathlib.Core.List.{List, [], _∷_}
 use Prim.Native.Nat.{ℕ, _+_}
 use lib.Dec.{eqb}
-use Rattle.numbers.specs.Numbers.{Answer, gives, refuses}
+use Rattle.numbers.specs.Numbers.{Answer, gives, refuses, isGiven}
 
 -- "c1 and c2 are counts in one byte or two, big-endian"; a list without a count goes to the end.
 pub data Counting : Type 0 where
@@ -76,3 +76,6 @@ lineOf n (l ∷ ls) = cond (eqb n (l .code)) (gives (l .kind)) (lineOf n ls)
 
 unfoldable pub layoutOf : ℕ → Answer Kind
 layoutOf n = lineOf n table
+
+unfoldable pub isList : ℕ → Bool
+isList n = isGiven (layoutOf n)

@@ -6,6 +6,7 @@ mod rows;
 
 use numbers::Refusal;
 ghost use mathlib.Core.Path.{_≡_};
+ghost use Rattle.layouts.specs.Layouts.{isList};
 ghost use Rattle.layouts.specs.Reading.{readingOf, readValue};
 ghost use Rattle.layouts.specs.Access.{numbersOf, locatedOf, locateEntry, partOf, countedOf, countEntries};
 
@@ -37,6 +38,16 @@ pub enum Located {
 pub enum Counted {
     Entries(usize),
     Refused(Refusal),
+}
+
+// Whether the kind with this code is one of these.
+pub fn is_list(code: u8) -> bool
+    ensures { λ r. ⌜ r ≡ isList code ⌝ }
+{
+    match rows::row_of(code) {
+        rows::KindRow::List(_) => true,
+        rows::KindRow::Refused(_) => false,
+    }
 }
 
 // The value of the list kind with this code at the start of s.
