@@ -12,10 +12,12 @@ ghost use Rattle.sweeping.specs.Sweep.{swept, sweptAs};
 ghost use Rattle.pushing.specs.Show.{shown};
 ghost use Rattle.pushing.specs.Made.{Made};
 ghost use Rattle.reassembler.specs.Keys.{keyOf};
+ghost use Rattle.reassembler.specs.Showing.{shownFrom};
 
 // The message of an answer: of a single fragment it is the payload, of others the output's first bytes. The slices are those that push was given.
 pub fn show<'a>(answer: Pushed, payload: &'a [u8], out: &'a [u8]) -> &'a [u8]
     ensures { λ r. ⌜ now r ≡ shown (pushedOf answer) (now (payload .entry)) (now (out .entry)) ⌝ }
+    ensures place { λ r. ⌜ r .ptr ≡ shownFrom (pushedOf answer) (payload .entry) (out .entry) .ptr ⌝ }
 {
     match answer {
         Pushed::Single(n) => {

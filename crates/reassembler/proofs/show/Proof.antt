@@ -1,5 +1,5 @@
--- Each arm is a case of `shown`.
-use mathlib.Core.Path.{sym}
+-- Each arm is a case of `shown` and of `shownFrom`.
+use mathlib.Core.Path.{refl, sym}
 use lib.Seq.{length-take-le}
 use borrow.Author.Tests.{le-leb, lt-leb}
 use borrow.Author.Needs.{needs}
@@ -13,7 +13,7 @@ slice-aggregate-result : tie.Need-slice-aggregate-result
 slice-aggregate-result c = sym (length-take-le _ _ (c .before .if1 .taken))
 
 returns : tie.Need-returns
-returns c = rw (c .before .before .before .answer .given .1, le-leb _ _ (c .before .if1 .taken))
+returns c = rw (c .before .before .before .answer .given .1, le-leb _ _ (c .before .if1 .taken)) (refl, refl)
 
 slice-aggregate-result-2 : tie.Need-slice-aggregate-result-2
 slice-aggregate-result-2 c = search needs
@@ -25,7 +25,7 @@ slice-aggregate-result-3 : tie.Need-slice-aggregate-result-3
 slice-aggregate-result-3 c = sym (length-take-le _ _ (c .before .if2 .taken))
 
 returns-2 : tie.Need-returns-2
-returns-2 c = rw (c .before .before .before .answer2 .given .1, le-leb _ _ (c .before .if2 .taken))
+returns-2 c = rw (c .before .before .before .answer2 .given .1, le-leb _ _ (c .before .if2 .taken)) (refl, refl)
 
 slice-aggregate-result-4 : tie.Need-slice-aggregate-result-4
 slice-aggregate-result-4 c = search needs
@@ -67,10 +67,10 @@ slice-aggregate-result-10 : tie.Need-slice-aggregate-result-10
 slice-aggregate-result-10 c = search needs
 
 returns-3 : tie.Need-returns-3
-returns-3 c = rw (c .before .before .before .answer .given .1, lt-leb _ _ (c .before .if1 .left))
+returns-3 c = rw (c .before .before .before .answer .given .1, lt-leb _ _ (c .before .if1 .left)) (refl, refl)
 
 returns-4 : tie.Need-returns-4
-returns-4 c = rw (c .before .before .before .answer2 .given .1, lt-leb _ _ (c .before .if2 .left))
+returns-4 c = rw (c .before .before .before .answer2 .given .1, lt-leb _ _ (c .before .if2 .left)) (refl, refl)
 
 returns-5 : tie.Need-returns-5
 returns-5 c = search needs
