@@ -1,10 +1,10 @@
 -- What reading a typed value gives: the record and the bytes consumed, or a refusal. The rest is what the value has behind the consumed bytes.
-use mathlib.Core.Bool.{cond}
+use mathlib.Core.Bool.{Bool, cond}
 use mathlib.Core.List.{List, [], _∷_}
 use Prim.Native.Nat.{ℕ, _-_}
 use lib.Dec.{eqb, ltb}
 use lib.ListN.{length}
-use Rattle.numbers.specs.Numbers.{Answer, gives, refuses, told}
+use Rattle.numbers.specs.Numbers.{Answer, gives, refuses, told, isGiven}
 use Rattle.records.specs.declared.Kind.{Kind}
 use Rattle.records.specs.declared.rows.KnownKind.{KnownKind}
 use Rattle.records.specs.declared.Record.{Record}
@@ -34,6 +34,10 @@ readKind k s =
 abbrev pub withCode : ℕ → List Kind → Answer Kind
 withCode c [] = refuses 16 []
 withCode c (k ∷ ks) = cond (eqb c (codeOf k)) (gives k) (withCode c ks)
+
+-- whether a code is a record's
+abbrev pub isRecord : ℕ → Bool
+isRecord c = isGiven (withCode c kinds)
 
 -- what each answer of `kind_of` says
 abbrev pub knownOf : KnownKind → Answer Kind

@@ -7,7 +7,7 @@ mod rows;
 
 ghost use mathlib.Core.Path.{_≡_};
 ghost use Rattle.records.specs.Values.{bandOf, versionOf, resultOf, profileOf, stateOf, unitsOf};
-ghost use Rattle.records.specs.Reading.{readOf, readRecord, measuredOf, sizeOf};
+ghost use Rattle.records.specs.Reading.{readOf, readRecord, measuredOf, sizeOf, isRecord};
 
 pub struct MacAddr {
     pub b0: u8,
@@ -220,5 +220,15 @@ pub fn measure(code: u8, s: &[u8]) -> Measured
     match rows::kind_of(code) {
         KnownKind::Is(kind) => reading::measure_kind(kind, s),
         KnownKind::None => Measured::Refused(Refusal::UnknownKind),
+    }
+}
+
+// Whether a code is a record's.
+pub fn is_record(code: u8) -> bool
+    ensures { λ r. ⌜ r ≡ isRecord code ⌝ }
+{
+    match rows::kind_of(code) {
+        KnownKind::Is(_) => true,
+        KnownKind::None => false,
     }
 }
