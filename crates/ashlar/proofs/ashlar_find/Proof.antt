@@ -1,4 +1,4 @@
--- `ashlar_find` meets its contract: a walk of its MIR, by hand: a call of `find_place`, to which copies of the two shared slices go, and one of `found_numbers`, on plain
+-- `ashlar_find` meets its contract: a walk of its MIR, by hand: a call of `find`, to which copies of the two shared slices go, and one of `found_numbers`, on plain
 -- parameters. Assumes nothing.
 use mathlib.Core.Path.{_≡_, refl, sym, _∙_, ap}
 use Prim.Native.Nat.{ℕ, _<_, _^_}
@@ -39,15 +39,14 @@ use denote.Triple.Walked.{says, Stays, stay-none-slice, stay-none, walkOf, goes-
 use denote.Exit.{yes}
 use Rattle.walking.specs.declared.Tlv.{Tlv}
 use Rattle.walking.proofs.Tlv as T
-use Rattle.finding.specs.Finding.{findFrom}
-use Rattle.placing.specs.declared.Placed.{Placed}
-use Rattle.placing.specs.Placing.{placedOf, placeIn}
-use Rattle.placing.proofs.Placed as S
-use Rattle.placing.proofs.Placed.Laws as S′
-use Rattle.placing.proofs.find_place as finds
-use Rattle.placing.proofs.find_place.Symbol as finds-def
-use Rattle.placing.proofs.find_place.Symbol.{name as #finds}
-use Rattle.placing.proofs.find_place.Met as finds-thm
+use Rattle.finding.specs.declared.Found.{Found}
+use Rattle.finding.specs.Finding.{foundOf, findFrom}
+use Rattle.finding.proofs.Found as S
+use Rattle.finding.proofs.Found.Laws as S′
+use Rattle.finding.proofs.find as finds
+use Rattle.finding.proofs.find.Symbol as finds-def
+use Rattle.finding.proofs.find.Symbol.{name as #finds}
+use Rattle.finding.proofs.find.Met as finds-thm
 use Rattle.ashlar.specs.declared.AshlarFound.{AshlarFound}
 use Rattle.ashlar.specs.Numbers.{foundNumbers}
 use Rattle.ashlar.proofs.AshlarFound as N
@@ -106,7 +105,7 @@ module _ {M : Type 1} (𝓤 : URA M) (H : Heap 𝓤) (A : Atoms 𝓤) (W : Given
   abbrev Pay : Fml
   Pay = ShrSlice (named 1) κ′ u8 .own pay (sp ∷ [])
 
-  -- the call of `find_place`
+  -- the call of `find`
   abbrev to-find : Find 𝓤 H A mem run .Ghost
   to-find = ((κs, (q, (q′, tt)), tt, x, at), tt)
 
@@ -117,21 +116,21 @@ module _ {M : Type 1} (𝓤 : URA M) (H : Heap 𝓤) (A : Atoms 𝓤) (W : Given
       nothing ! $ owned ! usize (Is usize) (uint-makes 𝓤 H A W w64) i₀ _ (refl, gf) $ fjoin ! $ owned ! u8 (Is u8) (uint-makes 𝓤 H A W w8) kind _ (refl, gk) $ fjoin ! $
       move ! (3 ∷ 0 ∷ []) $ fjoin ! $ move ! (2 ∷ 0 ∷ []) $ fjoin ! $ move ! (1 ∷ 0 ∷ []) $ join ! $ frame ! $ done !
 
-  abbrev Said : Placed → Type 0
-  Said r = placedOf r ≡ placeIn (findFrom kind ys (now pay) i₀)
+  abbrev Said : Found → Type 0
+  Said r = foundOf r ≡ findFrom kind ys (now pay) i₀
 
   -- the call of `found_numbers` at an answer r
-  module _ (r : Placed) (u : Val) where
+  module _ (r : Found) (u : Val) where
     abbrev to-num : Num 𝓤 H A mem run .Ghost
     to-num = ((tt, tt, tt, (r, tt), (u ∷ [], tt)), tt)
 
     handed : Is S.the-row r (u ∷ []) → ent 𝓤 (⋆ 𝓤 H A []) (Num 𝓤 H A mem run .pre to-num)
     handed is = qed W [] ∵ nothing ! $ owned ! S.the-row (Is S.the-row) (EL.makes S.the-type S′.the-plain 𝓤 H A) r _ is $ fjoin ! $ nothing ! $ join ! $ frame ! $ done !
 
-  abbrev Told : Placed → AshlarFound → Type 0
-  Told r z = z ≡ foundNumbers (placedOf r)
+  abbrev Told : Found → AshlarFound → Type 0
+  Told r z = z ≡ foundNumbers (foundOf r)
 
-  exits : (r : Placed) (z : AshlarFound) (w : Val) → Said r → Told r z
+  exits : (r : Found) (z : AshlarFound) (w : Val) → Said r → Told r z
       → ent 𝓤 (⋆ 𝓤 H A ((‵ (flft κ q) ⊛ (‵ (flft κ′ q′) ⊛ ‵ ftrue)) ∷ ‵ Own ∷ ‵ Pay ∷ ‵ (N.the-row .own z (w ∷ [])) ∷ [])) (Post w)
   exits r z w e e′ =
       qed W ((‵ (flft κ q) ⊛ (‵ (flft κ′ q′) ⊛ ‵ ftrue)) ∷ ‵ Own ∷ ‵ Pay ∷ ‵ (N.the-row .own z (w ∷ [])) ∷ []) ∵
@@ -155,7 +154,7 @@ module _ {M : Type 1} (𝓤 : URA M) (H : Heap 𝓤) (A : Atoms 𝓤) (W : Given
         move ! (5 ∷ 4 ∷ 0 ∷ 2 ∷ []) $ join ! $ use3 W (raw (Find 𝓤 H A mem run .pre to-find)) gives $
         -- [pre; list; payload; _5 (3); _4 (5); _3 (7); _2 (9); _1 (11); _0 (13); …]
         calls-at ! fm (Find 𝓤 H A mem run) known to-find (and-then ! (load ! (from ! (stop !)) (look ! 11 refl)) (and-then ! (load ! (from ! (stop !)) (look ! 9 refl)) (and-then ! (load ! (from ! (stop !)) (look ! 7 refl)) (and-then ! (load ! (from ! (stop !)) (look ! 5 refl)) (no-more !))))) (λ u.
-        use1 W (later (some (λ (r : Placed). ((‵ (flft κ q) ⊛ (‵ (flft κ′ q′) ⊛ ‵ ftrue)) ⊛ ‵ (S.the-row .own r (u ∷ []))) ⊛ raw (ensured 𝓤 H A finds.ended (finds.clauses 𝓤 H A mem run) κs x tt r)))) (id⊢ 𝓤 _) $ await ! tt $ pick ! (λ r.
+        use1 W (later (some (λ (r : Found). ((‵ (flft κ q) ⊛ (‵ (flft κ′ q′) ⊛ ‵ ftrue)) ⊛ ‵ (S.the-row .own r (u ∷ []))) ⊛ raw (ensured 𝓤 H A finds.ended (finds.clauses 𝓤 H A mem run) κs x tt r)))) (id⊢ 𝓤 _) $ await ! tt $ pick ! (λ r.
         split ! $ move ! (1 ∷ []) $ use1 W (some (λ (ws : Unit {0} × (Unit {0} × (Unit {0} × (Unit {0} × Unit {0})))). ‵ (lasts finds.ended κs x ws) ⊛ raw (fact 𝓤 (Said r)))) (id⊢ 𝓤 _) $ pick ! (λ ws.
         split ! $ move ! (1 ∷ []) $ heard ! (Said r) (λ e. drop ! $
         split ! $ move ! (1 ∷ []) $ peeks ! S.the-row (Is S.the-row) (shows 𝓤 H A S.the-row) r (u ∷ []) (λ is.
@@ -192,5 +191,5 @@ ashlar-find-spec 𝓤 H 𝓜 𝓖 𝓡 =
     entered 𝓤 H (tripleOf 𝓤 H (𝓖 .A) f.signature (f.spec 𝓤 H (𝓖 .A) (𝓜 .mem) (𝓡 .run)))
     (tables 𝓤 H 𝓜 𝓡 code.env .C) (tables 𝓤 H 𝓜 𝓡 code.env .Λ) #f code.function (code.unfolded 𝓤 H 𝓜 𝓡)
     (f-meets 𝓤 H (𝓖 .A) (givenOf 𝓤 H 𝓜 𝓖) (𝓜 .mem) (𝓡 .run) (tablesOf 𝓤 H 𝓜 (tables 𝓤 H 𝓜 𝓡 code.env))
-    (cited 𝓤 H (Find 𝓤 H (𝓖 .A) (𝓜 .mem) (𝓡 .run)) 𝓜 𝓡 code.env #finds finds-def.routine code.calls-placing·find-place (finds-thm.met 𝓤 H 𝓜 𝓖 𝓡))
+    (cited 𝓤 H (Find 𝓤 H (𝓖 .A) (𝓜 .mem) (𝓡 .run)) 𝓜 𝓡 code.env #finds finds-def.routine code.calls-finding·find (finds-thm.met 𝓤 H 𝓜 𝓖 𝓡))
     (cited 𝓤 H (Num 𝓤 H (𝓖 .A) (𝓜 .mem) (𝓡 .run)) 𝓜 𝓡 code.env #num num-def.routine code.calls-ashlar·found-numbers (num-thm.met 𝓤 H 𝓜 𝓖 𝓡)))
