@@ -3,15 +3,18 @@ use mathlib.Core.Path.{_≡_, refl, sym, ap, _∙_}
 use mathlib.Core.List.{List, [], _∷_}
 use Prim.Native.Nat.{ℕ}
 use native.Mathlib.Omega.{arith}
-use lib.ListN.{getD}
+use lib.ListN.{length, getD, List·getD-map}
 use Rattle.numbers.specs.Firmness.{Firm}
 use Rattle.numbers.specs.Numbers.{gives, refuses, told, number, values, carried}
 use Rattle.numbers.specs.declared.Refusal.{Refusal}
 use Rattle.numbers.specs.declared.Refusal.the-variants.{TooFewBytes, RunsPastEnd, CutShort, LeftOver, BadValue, NoEntry, NoRoom, ValueTooLong, NeverRead, TableFull, StoreTooSmall, PayloadTooLong, OutputTooSmall, ListTooShort, NotFound, UnknownKind}
 
--- the case with the number n and the value v
+-- the cases by their numbers, with the value v, and the case with the number n
+abbrev cases : ℕ → List Refusal
+cases v = UnknownKind ∷ TooFewBytes ∷ RunsPastEnd ∷ CutShort ∷ LeftOver ∷ BadValue ∷ NoEntry ∷ NoRoom ∷ ValueTooLong ∷ NeverRead ∷ TableFull ∷ StoreTooSmall ∷ PayloadTooLong ∷ OutputTooSmall v ∷ ListTooShort ∷ NotFound ∷ UnknownKind ∷ []
+
 abbrev caseOf : ℕ → ℕ → Refusal
-caseOf n v = getD (UnknownKind ∷ TooFewBytes ∷ RunsPastEnd ∷ CutShort ∷ LeftOver ∷ BadValue ∷ NoEntry ∷ NoRoom ∷ ValueTooLong ∷ NeverRead ∷ TableFull ∷ StoreTooSmall ∷ PayloadTooLong ∷ OutputTooSmall v ∷ ListTooShort ∷ NotFound ∷ UnknownKind ∷ []) n UnknownKind
+caseOf n v = getD (cases v) n UnknownKind
 
 back : (r : Refusal) → caseOf (number r) (carried r) ≡ r
 back TooFewBytes = refl
@@ -30,6 +33,16 @@ back (OutputTooSmall n) = refl
 back ListTooShort = refl
 back NotFound = refl
 back UnknownKind = refl
+
+-- beside a number stand always so many values
+pub so-many : (a b : Refusal) → number a ≡ number b → length (values a) ≡ length (values b)
+so-many a b e = of-case a ∙ rw e (sym (of-case b))
+  where
+    size : Refusal → ℕ
+    size r = length (values r)
+
+    of-case : (r : Refusal) → length (values r) ≡ size (caseOf (number r) 0)
+    of-case r = ap size (sym (back r)) ∙ sym (List·getD-map size (cases (carried r)) (number r) UnknownKind) ∙ List·getD-map size (cases 0) (number r) UnknownKind
 
 pub firm-numbered : (a b : Refusal) → number a ≡ number b → values a ≡ values b → a ≡ b
 firm-numbered a b e e′ = sym (back a) ∙ rw (e, e′) (back b)
