@@ -68,7 +68,7 @@ kept-free t store p (went-refuse n values) e = let no : _≡_ {A = ℕ} 0 1 = cc
 kept-free t store p (went-replace i h₁ h₂ q h) e = let no : _≡_ {A = ℕ} 0 1 = cc in absurd (omega arith)
 kept-free t store p (went-keep i h₁ h₂ h₃ l q h k) e = omega arith
 kept-free t store p (went-open i r h₁ h₂ h₃ l q h k q₂ h₄) e = omega arith
-kept-free t store p (went-end ending h₁ h₂ h₃ l q) e = let no : _≡_ {A = ℕ} 0 1 = cc in absurd (omega arith)
+kept-free t store p (went-end h bytes h₁ h₂ h₃ l q) e = let no : _≡_ {A = ℕ} 0 1 = cc in absurd (omega arith)
 
 -- only this key holds anything
 abbrev pub Lone : ℕ → State → Type 0
@@ -118,7 +118,7 @@ module _ (long : ℕ) (c : ℕ) where
       by-way (replace i) = refl
       by-way (keepAt i) = refl
       by-way (openAt i row) = refl
-      by-way (end e) = refl
+      by-way (end h bytes) = refl
 
   push-echoed : (z z′ : State) (p : Push) → p .arrival .key ≡ c → Good long z → Good long z′ → Lone c z′ → holding c z ≡ holding c z′ → isAccepted z (push p) ≡ true → isAccepted z′ (push p) ≡ true
   push-echoed z z′ p is g g′ lone same acc = by-outcome (outcome long z′ p g′)

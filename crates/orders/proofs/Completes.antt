@@ -84,7 +84,7 @@ kept-fewer t s store p (went-keep i h₁ h₂ h₃ l q h k) e =
 kept-fewer t s store p (went-open i r h₁ h₂ h₃ l q h k q₂ h₄) e =
     let new = placeFor r (p .arrival .fragment) (length (p .payload)) in
     one-fewer t (withPlace (withKey t r (p .arrival .key) (p .arrival .time)) i new) i (put-elsewhere (withKey t r (p .arrival .key) (p .arrival .time)) i new) 32
-kept-fewer t s store p (went-end ending h₁ h₂ h₃ l q) e = let no : _≡_ {A = ℕ} 0 1 = cc in absurd (omega arith)
+kept-fewer t s store p (went-end h bytes h₁ h₂ h₃ l q) e = let no : _≡_ {A = ℕ} 0 1 = cc in absurd (omega arith)
 
 module _ (m : Message) (long : ℕ) (store : 47744 ≤ long) (bring : ℕ → Push) (brings : (k : ℕ) → k ≤ m .final → Brings m k (bring k)) where
   -- the numbers still to come: each once, none of them there, and with those there all below the final one

@@ -1,6 +1,6 @@
 -- A message cut into fragments, pushed in any order that ends with the last one, completes: each push adds its piece to what the key holds, and the last joins them all.
 use mathlib.Core.Path.{_≡_, refl, sym, ap, _∙_, subst}
-use mathlib.Core.List.{List}
+use mathlib.Core.List.{List, []}
 use mathlib.Core.Bool.{Bool, true, false, cond, _||_, or-true, or-false}
 use Prim.Native.Nat.{ℕ, suc, min, _-_, _≤_}
 use native.Mathlib.Omega.{arith}
@@ -9,10 +9,10 @@ use lib.ListN.{length}
 use lib.Seq.{take-length}
 use borrow.Author.Tests.{eqb-true, eqb-false, eq-eqb, ne-eqb, ltb-true, ltb-false, lt-ltb, le-ltb, le-leb}
 use Rattle.numbers.specs.Numbers.{gives}
-use Rattle.pushing.specs.Joining.{Held, nothing, kept, heldOf, isKept, Joining, message}
-use Rattle.pushing.specs.Push.{Way, keepAt, end, singleEnd, joinedEnd, lastWay, single, joined, answerBy}
+use Rattle.pushing.specs.Joining.{Held, nothing, kept, heldOf, isKept}
+use Rattle.pushing.specs.Push.{Way, keepAt, end, messageWay, single, joined, answerBy}
 use Rattle.pushing.specs.Show.{startOf}
-use Rattle.pushing.proofs.Ways.{last-single, last-joined}
+use Rattle.pushing.proofs.Ways.{last-single, last-joined, start-over}
 use Rattle.orders.specs.Runs.{Push, push, pushed, finishedBy, Holding, holdsNothing}
 use Rattle.orders.specs.Messages.{Message, pieces, whole, Brings, completed}
 use Rattle.orders.proofs.Telling.{ownJoining, ownWay, own-keep, own-last, byOwn, withNew, tell, answer}
@@ -72,19 +72,19 @@ module _ (m : Message) (long : ℕ) (store : 47744 ≤ long) where
         by-order false e true f = sym (lt-ltb j (suc (m .final)) (omega (arith, eqb-true (m .final) j f)))
         by-order false e false f = sym (le-ltb j (suc (m .final)) (omega (arith, ltb-false j (m .final) e, eqb-false (m .final) j f)))
 
-    joins-all : ownJoining v p ≡ message (suc (m .final)) (whole m)
+    joins-all : ownJoining v p ≡ messageWay (suc (m .final)) (whole m) (p .room)
     joins-all =
         joins (heldOf (p .arrival .fragment) (p .payload)) (withNew v p .fragments) (heldAt m) (suc (m .final)) (omega (arith, m .few))
         (λ k l. all k ∙ ap (λ (c : Bool). cond c (kept (heldAt m k)) nothing) (up-to k ∙ lt-ltb k (suc (m .final)) l))
         (λ k l. all k ∙ ap (λ (c : Bool). cond c (kept (heldAt m k)) nothing) (up-to k ∙ le-ltb k (suc (m .final)) l))
         (λ k l. (sym (b .version), sym (b .message-type)))
-        (m .piece) (λ k l. refl) (omega arith) (ap (λ (k : ℕ). eqb k (m .final)) (last-is (m .final)) ∙ eq-eqb (m .final) (m .final) refl)
+        (m .piece) (λ k l. refl) (omega arith) (ap (λ (k : ℕ). eqb k (m .final)) (last-is (m .final)) ∙ eq-eqb (m .final) (m .final) refl) (p .room)
       where
         last-is : (n : ℕ) → suc n - 1 ≡ n
         last-is n = omega arith
 
-    goes : ownWay long v p ≡ lastWay (message (suc (m .final)) (whole m)) (p .room)
-    goes = own-last long v p (h₁ (m .final) p b v not-yet) (h₂ (m .final) p b v not-yet) (h₃ (m .final) p b v not-yet) (b .last ∙ eq-eqb (m .final) (m .final) refl) ∙ ap (λ (j : Joining). lastWay j (p .room)) joins-all
+    goes : ownWay long v p ≡ messageWay (suc (m .final)) (whole m) (p .room)
+    goes = own-last long v p (h₁ (m .final) p b v not-yet) (h₂ (m .final) p b v not-yet) (h₃ (m .final) p b v not-yet) (b .last ∙ eq-eqb (m .final) (m .final) refl) ∙ joins-all
 
     -- alone it is the payload itself
     only : m .final ≡ 0 → p .payload ≡ whole m
@@ -96,7 +96,7 @@ module _ (m : Message) (long : ℕ) (store : 47744 ≤ long) where
       where
         by-count : (c : Bool) → eqb (m .final) 0 ≡ c → (answer long v (push p) ≡ pushed (gives (cond c (single (length (whole m))) (joined (length (whole m))))) (whole m)) × (tell long v (push p) ≡ holdsNothing)
         by-count true e =
-            let is : ownWay long v p ≡ end (singleEnd (length (whole m))) = goes ∙ last-single (suc (m .final)) (whole m) (p .room) (omega (arith, eqb-true (m .final) 0 e)) in
+            let is : ownWay long v p ≡ end (single (length (whole m))) [] = goes ∙ last-single (suc (m .final)) (whole m) (p .room) (omega (arith, eqb-true (m .final) 0 e)) in
             let same = only (eqb-true (m .final) 0 e) in
             let bytes : startOf (length (whole m)) (p .payload) ≡ whole m = ap (startOf (length (whole m))) same ∙ rw (le-leb (length (whole m)) (length (whole m)) (omega arith)) (take-length (whole m)) in (
               ap (λ (w : Way). pushed (answerBy w) (finishedBy w (p .payload))) is ∙ ap (pushed (gives (single (length (whole m))))) bytes,
@@ -104,5 +104,5 @@ module _ (m : Message) (long : ℕ) (store : 47744 ≤ long) where
             )
         by-count false e =
             let some : 1 ≤ m .final = omega (arith, eqb-false (m .final) 0 e) in
-            let is : ownWay long v p ≡ end (joinedEnd (whole m)) = goes ∙ last-joined (suc (m .final)) (whole m) (p .room) (omega arith) (room some) in
-            (ap (λ (w : Way). pushed (answerBy w) (finishedBy w (p .payload))) is, ap (λ (w : Way). byOwn w v p) is)
+            let is : ownWay long v p ≡ end (joined (length (whole m))) (whole m) = goes ∙ last-joined (suc (m .final)) (whole m) (p .room) (omega arith) (room some) in
+            (ap (λ (w : Way). pushed (answerBy w) (finishedBy w (p .payload))) is ∙ ap (pushed (gives (joined (length (whole m))))) (start-over (whole m) []), ap (λ (w : Way). byOwn w v p) is)

@@ -49,7 +49,7 @@ module _ (z : State) (p : Push) (s : Sound (z .table)) where
   front-same (went-replace i h₁ h₂ e h) = written i h h₁ h₂
   front-same (went-keep i h₁ h₂ h₃ l e h k) = written i h h₁ h₂
   front-same (went-open i r h₁ h₂ h₃ l e h k e₂ h₄) = written i h h₁ h₂
-  front-same (went-end ending h₁ h₂ h₃ l e) = refl
+  front-same (went-end h bytes h₁ h₂ h₃ l e) = refl
 
   pub stored-long : {w : Way} → Goes w → length (afterWay w z p .store) ≡ length (z .store)
   stored-long {w} g =
@@ -66,7 +66,7 @@ module _ (z : State) (p : Push) (s : Sound (z .table)) where
   held-by (replace i) n e = ap (λ (k : Kept). cond (eqb n number) (kept (heldOf (a .fragment) (p .payload))) k) e
   held-by (keepAt i) n e = ap (λ (k : Kept). cond (eqb n number) (kept (heldOf (a .fragment) (p .payload))) k) e
   held-by (openAt i r) n e = ap (λ (k : Kept). cond (eqb n number) (kept (heldOf (a .fragment) (p .payload))) k) e
-  held-by (end ending) n e = refl
+  held-by (end h bytes) n e = refl
 
   there : row < 16 → firstTime t (a .key) ≡ sinceOr (firstTime t (a .key)) (a .time)
   unfolding firstTime
@@ -79,7 +79,7 @@ module _ (z : State) (p : Push) (s : Sound (z .table)) where
       there (used-row t s row (s .owned i row own))
   first-by (went-keep i h₁ h₂ h₃ l e h k) = there k
   first-by (went-open i r h₁ h₂ h₃ l e h k e₂ h₄) = ap (λ (f : Since). sinceOr f (a .time)) (sym (absent-since t s (a .key) k))
-  first-by (went-end ending h₁ h₂ h₃ l e) = refl
+  first-by (went-end h bytes h₁ h₂ h₃ l e) = refl
 
   -- the table's promises are of the part of the store that is lent: what is behind it does not matter
   abbrev t′ : Table

@@ -10,8 +10,8 @@ use borrow.Author.Tests.{eqb-true, eqb-false, eq-eqb, ne-eqb, le-leb, lt-leb, lt
 use Rattle.numbers.specs.Numbers.{gives}
 use Rattle.table.specs.Search.{lowest}
 use Rattle.table.specs.Rows.{freshTable}
-use Rattle.pushing.specs.Joining.{Held, nothing, kept, Fragments, heldOf, isKept, unlike, inconsistentWith, andNew, Joining, missingFragments, joining}
-use Rattle.pushing.specs.Push.{Way, end, missingEnd, lastWay, waiting, missing, joined, answerBy}
+use Rattle.pushing.specs.Joining.{Held, nothing, kept, Fragments, heldOf, isKept, unlike, inconsistentWith, andNew}
+use Rattle.pushing.specs.Push.{Way, end, joinWay, waiting, missing, joined, answerBy}
 use Rattle.sweeping.specs.Sweep.{noneMarkedLast, lackOf}
 use Rattle.sweeping.proofs.Sweeping.{lack-mark}
 use Rattle.table.proofs.Sound.{fresh-sound}
@@ -28,10 +28,6 @@ use Rattle.orders.proofs.Counting.{counts-add-up}
 use Rattle.orders.proofs.Alone.{fresh-holds}
 use Rattle.orders.proofs.Joined.{none-passes, misses}
 use Rattle.orders.proofs.Completes.{fresh-completes}
-
-way-missing : (room : ℕ) → lastWay missingFragments room ≡ end missingEnd
-unfolding lastWay
-way-missing room = refl
 
 -- a fresh table is not full
 fresh-not-full : (key : ℕ) → Full freshTable key → ⊥
@@ -77,20 +73,17 @@ module _ (store : List ℕ) (long : 47744 ≤ length store) (p : Push) (lent : 4
     unfolding inconsistentWith
     consistent = none-passes (λ k. unlike new (fs k)) 256 (λ k l. alike k)
 
-    misses-zero : joining new fs ≡ missingFragments
+    misses-zero : joinWay new fs (p .room) ≡ end missing []
     misses-zero = misses new fs 1 0 consistent (omega arith)
         (ap (λ (b : Bool). cond b (kept new) nothing) (ne-eqb 0 (p .arrival .fragment .number) (λ e. omega arith))) (omega arith)
-        (ap (λ (b : Bool). isKept (cond b (kept new) nothing)) (eq-eqb 1 (p .arrival .fragment .number) (sym number)))
+        (ap (λ (b : Bool). isKept (cond b (kept new) nothing)) (eq-eqb 1 (p .arrival .fragment .number) (sym number))) (p .room)
 
     pub last-one-alone : tells z (push p) ≡ pushed (gives missing) []
     last-one-alone =
-        let is : ownWay (length store) holdsNothing p ≡ end missingEnd = own-last (length store) holdsNothing p enough small refl last ∙ missing-way in
+        let is : ownWay (length store) holdsNothing p ≡ end missing [] = own-last (length store) holdsNothing p enough small refl last ∙ misses-zero in
         own-told (length store) z g p roomy
         ∙ ap (λ (v : Holding). answer (length store) v (push p)) fresh-key
         ∙ ap (λ (w : Way). pushed (answerBy w) (finishedBy w (p .payload))) is
-      where
-        missing-way : lastWay (ownJoining holdsNothing p) (p .room) ≡ end missingEnd
-        missing-way = ap (λ (j : Joining). lastWay j (p .room)) misses-zero ∙ way-missing (p .room)
 
   -- a first fragment, and a sweep after 2,999 and after 3,000
   module _ (more : p .arrival .fragment .last ≡ false) where

@@ -1,13 +1,14 @@
 -- The joining rule where nothing is missing: fragments 0 to n-1 of one version and type, the highest marked last, are a message.
 use mathlib.Core.Path.{_≡_, refl, sym, ap, _∙_, subst}
-use mathlib.Core.List.{List}
+use mathlib.Core.List.{List, []}
 use mathlib.Core.Bool.{Bool, true, false, not, _&&_, false≢true}
 use Prim.Native.Nat.{ℕ, zero, suc, _-_, _≤_, _<_}
 use native.Mathlib.Omega.{arith}
 use lib.Dec.{ltb}
 use borrow.Author.Tests.{ltb-true, ltb-false, lt-ltb, le-ltb, eq-eqb}
 use Rattle.table.specs.Search.{lowest, some}
-use Rattle.pushing.specs.Joining.{Held, Kept, nothing, kept, Fragments, isKept, isLast, unlike, inconsistentWith, reach, gapped, payloads, missingFragments, message, joining}
+use Rattle.pushing.specs.Joining.{Held, Kept, nothing, kept, Fragments, isKept, isLast, unlike, inconsistentWith, reach, gapped, payloads}
+use Rattle.pushing.specs.Push.{end, missing, messageWay, joinWay}
 use Rattle.table.proofs.Search.{lowest-before, lowest-is, lowest-none}
 use Rattle.pushing.proofs.Pieces.{some-at}
 use Rattle.orders.specs.Messages.{pieces}
@@ -46,16 +47,16 @@ module _ (new : Held) (fs : Fragments) (h : ℕ → Held) (n : ℕ) (in-byte : n
   payloads-are piece same zero l = refl
   payloads-are piece same (suc m) l = rw (payloads-are piece same m (omega arith), there m (omega arith), same m (omega arith))
 
-  pub joins : (piece : ℕ → List ℕ) → ((k : ℕ) → k < n → h k .payload ≡ piece k) → 1 ≤ n → h (n - 1) .last ≡ true → joining new fs ≡ message n (pieces piece n)
-  unfolding joining
-  joins piece same l last =
+  pub joins : (piece : ℕ → List ℕ) → ((k : ℕ) → k < n → h k .payload ≡ piece k) → 1 ≤ n → h (n - 1) .last ≡ true → (room : ℕ) → joinWay new fs room ≡ messageWay n (pieces piece n) room
+  unfolding joinWay
+  joins piece same l last room =
       let marked : isLast (fs (reach fs - 1)) ≡ true = ap (λ (k : ℕ). isLast (fs (k - 1))) reaches ∙ ap isLast (there (n - 1) (omega arith)) ∙ last in
       rw (consistent, no-gap, marked, reaches, payloads-are piece same n (omega arith))
 
 -- and where one is missing: a number that is there, beyond one that is not
-pub misses : (new : Held) (fs : Fragments) (k low : ℕ) → inconsistentWith new fs ≡ false → k < 256 → fs low ≡ nothing → low < k → isKept (fs k) ≡ true → joining new fs ≡ missingFragments
-unfolding joining gapped reach
-misses new fs k low same in-byte none below there =
+pub misses : (new : Held) (fs : Fragments) (k low : ℕ) → inconsistentWith new fs ≡ false → k < 256 → fs low ≡ nothing → low < k → isKept (fs k) ≡ true → (room : ℕ) → joinWay new fs room ≡ end missing []
+unfolding joinWay gapped reach
+misses new fs k low same in-byte none below there room =
     let test : ℕ → Bool = λ j. not (isKept (fs j)) in
     let at-low : lowest test 256 ≤ low = not-beyond test low (ap (λ (x : Kept). not (isKept x)) none) in
     let gap : (isKept (fs k) && ltb (lowest test 256) k) ≡ true = rw (there, lt-ltb (lowest test 256) k (omega arith)) in

@@ -24,7 +24,7 @@ refused-same z p test (refuse n values) h = ap (λ (l : List ℕ). record { tabl
 refused-same z p test (replace i) h = absurd (false≢true h)
 refused-same z p test (keepAt i) h = absurd (false≢true h)
 refused-same z p test (openAt i row) h = absurd (false≢true h)
-refused-same z p test (end e) h = absurd (false≢true h)
+refused-same z p test (end x bytes) h = absurd (false≢true h)
 
 pub refused-nothing : (test : ℕ → Bool) (z : State) (e : Call) → not (refusedBy test (tells z e)) ≡ false → after z e ≡ z
 refused-nothing test z (push p) h = refused-same z p test (wayOf z p) (sym (refused-is test (finishedBy (wayOf z p) (p .payload)) (wayOf z p)) ∙ not-false _ h)
@@ -114,7 +114,7 @@ accepted-room z (push p) h = has-room z p ∙ by-way (wayOf z p) (sym (ap not (r
     by-way (replace i) k = refl
     by-way (keepAt i) k = refl
     by-way (openAt i row) k = refl
-    by-way (end e) k = refl
+    by-way (end x bytes) k = refl
 
 pub local-accepted : (long : ℕ) → Y.Local after tells holding isOwn isSweep (tell long) (answer long) isAccepted (Good long)
 local-accepted long = local long isAccepted accepted-room (refused-nothing (λ n. true)) (λ z time. refl)

@@ -1,6 +1,6 @@
 -- What one push does to each key's holding.
 use mathlib.Core.Path.{_≡_, refl, sym, ap, _∙_, subst}
-use mathlib.Core.List.{List, [], _∷_}
+use mathlib.Core.List.{List, []}
 use mathlib.Core.Bool.{Bool, true, false, cond, not, false≢true}
 use Prim.Native.Nat.{ℕ, min, _≤_, _<_}
 use lib.Dec.{ltb, leb}
@@ -9,10 +9,10 @@ use borrow.Author.Tests.{leb-true, leb-false, ltb-true, ltb-false, le-ltb}
 use Rattle.table.specs.declared.Table.{Table}
 use Rattle.pushing.specs.declared.Arrival.{Arrival}
 use Rattle.table.specs.Rows.{rowOf, spareRow, placeOf, lowestFree}
-use Rattle.pushing.specs.Joining.{Fragments, Joining, inconsistentMetadata, missingFragments, missingLastFragment, message, isKept, heldOf, heldIn, andNew, joining}
-use Rattle.pushing.specs.Push.{Way, refuse, replace, keepAt, openAt, end, singleEnd, joinedEnd, lastWay, keepWay, joinedWith, answerBy}
+use Rattle.pushing.specs.Joining.{Held, Fragments, isKept, heldOf, heldIn, andNew}
+use Rattle.pushing.specs.Push.{Way, refuse, replace, keepAt, openAt, end, joinWay, keepWay, joinedWith, answerBy}
 use Rattle.pushing.specs.Made.{Made}
-use Rattle.pushing.proofs.Ways.{keep-full, keep-there, keep-keys, keep-new, way-11, way-12, way-replace, way-last, way-keep}
+use Rattle.pushing.proofs.Ways.{by-ends, keep-full, keep-there, keep-keys, keep-new, way-11, way-12, way-replace, way-last, way-keep}
 use Rattle.table.proofs.Sound.{Sound}
 use Rattle.pushing.proofs.Sound.{sound}
 use Rattle.orders.specs.Runs.{State, Push, finishedBy, part, wayOf, Holding, holding, forRoom}
@@ -33,31 +33,19 @@ held-lent z s lent long row = λ i n. (sym (held-front (z .table) s (take lent (
 abbrev pub roomBy : Way → Bool
 roomBy w = not (refusedWay forRoom w)
 
-last-shape : (j : Joining) (room : ℕ) → shape (lastWay j room) ≡ lastWay j room
-unfolding lastWay
-last-shape inconsistentMetadata room = refl
-last-shape missingFragments room = refl
-last-shape missingLastFragment room = refl
-last-shape (message n bytes) room = by-tests (leb n 1) (ltb room (length bytes))
-  where
-    by-tests : (x y : Bool) → shape (cond x (end (singleEnd (length bytes))) (cond y (refuse 13 (length bytes ∷ [])) (end (joinedEnd bytes)))) ≡ cond x (end (singleEnd (length bytes))) (cond y (refuse 13 (length bytes ∷ [])) (end (joinedEnd bytes)))
-    by-tests true y = refl
-    by-tests false true = refl
-    by-tests false false = refl
-
 pub same-answer : (w : Way) → answerBy (shape w) ≡ answerBy w
 same-answer (refuse n values) = refl
 same-answer (replace i) = refl
 same-answer (keepAt i) = refl
 same-answer (openAt i row) = refl
-same-answer (end e) = refl
+same-answer (end h bytes) = refl
 
 pub same-finished : (w : Way) (payload : List ℕ) → finishedBy (shape w) payload ≡ finishedBy w payload
 same-finished (refuse n values) payload = refl
 same-finished (replace i) payload = refl
 same-finished (keepAt i) payload = refl
 same-finished (openAt i row) payload = refl
-same-finished (end e) payload = refl
+same-finished (end h bytes) payload = refl
 
 -- no place for a fragment, or no row for its key
 pub data Full (t : Table) (key : ℕ) : Type 0 where
@@ -98,8 +86,11 @@ module _ (long : ℕ) (z : State) (p : Push) (g : Good long z) where
     min-long : 47744 ≤ min (p .lent) long
     min-long = subst (λ (n : ℕ). 47744 ≤ n) part-long h₁
 
-    joined-same : joinedWith t (part z p) row (a .fragment) (p .payload) ≡ ownJoining v p
-    joined-same = ap (λ (fs : Fragments). joining (heldOf (a .fragment) (p .payload)) (andNew fs (a .fragment .number) (heldOf (a .fragment) (p .payload)))) (held-lent z s (p .lent) h₁ row)
+    abbrev new : Held
+    new = heldOf (a .fragment) (p .payload)
+
+    joined-same : joinedWith t (part z p) row (a .fragment) (p .payload) (p .room) ≡ ownJoining v p
+    joined-same = ap (λ (fs : Fragments). joinWay new (andNew fs (a .fragment .number) new) (p .room)) (held-lent z s (p .lent) h₁ row)
 
     by-keep : wayOf z p ≡ keepWay (lowestFree t) (spareRow t) row → ownWay long v p ≡ keepAt 0 → a .fragment .last ≡ false → (x : Bool) → leb 32 (lowestFree t) ≡ x → (y : Bool) → ltb row 16 ≡ y → (w : Bool) → leb 16 (spareRow t) ≡ w → Outcome long z p
     by-keep is own l true e y f w q = full (is ∙ keep-full (lowestFree t) (spareRow t) row (lowestFree t) refl (leb-true _ _ e)) own l (no-place (leb-true _ _ e))
@@ -110,8 +101,8 @@ module _ (long : ℕ) (z : State) (p : Push) (g : Good long z) where
     by-mark : 32 ≤ place → (b : Bool) → a .fragment .last ≡ b → Outcome long z p
     by-mark h₃ true e = as-told (
         ap shape (way-last t (part z p) a (p .payload) (p .room) h₁ h₂ h₃ e)
-        ∙ last-shape (joinedWith t (part z p) row (a .fragment) (p .payload)) (p .room)
-        ∙ ap (λ (j : Joining). lastWay j (p .room)) joined-same
+        ∙ by-ends (λ (w : Way). shape w ≡ w) refl refl refl (λ n. refl) (λ n. refl) (λ bytes. refl) new (andNew (heldIn t (part z p) row) (a .fragment .number) new) (p .room)
+        ∙ joined-same
         ∙ sym (own-last long v p min-long h₂ (kept-is ∙ le-ltb _ _ h₃) e))
     by-mark h₃ false e =
         by-keep (way-keep t (part z p) a (p .payload) (p .room) h₁ h₂ h₃ e) (own-keep long v p min-long h₂ (kept-is ∙ le-ltb _ _ h₃) e) e
@@ -140,27 +131,15 @@ module _ (long : ℕ) (z : State) (p : Push) (g : Good long z) where
       by-outcome (full e own l f) = absurd (false≢true (sym (ap roomBy e) ∙ h))
 
 -- and the way that a holding tells is never refused for room
-last-room : (j : Joining) (room : ℕ) → roomBy (lastWay j room) ≡ true
-unfolding lastWay
-last-room inconsistentMetadata room = refl
-last-room missingFragments room = refl
-last-room missingLastFragment room = refl
-last-room (message n bytes) room = by-tests (leb n 1) (ltb room (length bytes))
-  where
-    by-tests : (x y : Bool) → roomBy (cond x (end (singleEnd (length bytes))) (cond y (refuse 13 (length bytes ∷ [])) (end (joinedEnd bytes)))) ≡ true
-    by-tests true y = refl
-    by-tests false true = refl
-    by-tests false false = refl
-
 pub own-room : (long : ℕ) (v : Holding) (p : Push) → roomBy (ownWay long v p) ≡ true
 unfolding ownWay
 own-room long v p = by-tests (ltb (min (p .lent) long) 47744) (ltb 1492 (length (p .payload))) (isKept (v .fragments (p .arrival .fragment .number))) (p .arrival .fragment .last)
   where
-    by-tests : (w x y l : Bool) → roomBy (cond w (refuse 11 []) (cond x (refuse 12 []) (cond y (replace 0) (cond l (lastWay (ownJoining v p) (p .room)) (keepAt 0))))) ≡ true
+    by-tests : (w x y l : Bool) → roomBy (cond w (refuse 11 []) (cond x (refuse 12 []) (cond y (replace 0) (cond l (ownJoining v p) (keepAt 0))))) ≡ true
     by-tests true x y l = refl
     by-tests false true y l = refl
     by-tests false false true l = refl
-    by-tests false false false true = last-room (ownJoining v p) (p .room)
+    by-tests false false false true = by-ends (λ (w : Way). roomBy w ≡ true) refl refl refl (λ n. refl) (λ n. refl) (λ bytes. refl) (heldOf (p .arrival .fragment) (p .payload)) (andNew (v .fragments) (p .arrival .fragment .number) (heldOf (p .arrival .fragment) (p .payload))) (p .room)
     by-tests false false false false = refl
 
 room-shape : (w : Way) → roomBy (shape w) ≡ roomBy w
@@ -168,7 +147,7 @@ room-shape (refuse n values) = refl
 room-shape (replace i) = refl
 room-shape (keepAt i) = refl
 room-shape (openAt i row) = refl
-room-shape (end e) = refl
+room-shape (end h bytes) = refl
 
 -- a push has room unless it is not marked last and the table is full for it: a full table takes a last fragment, single or not
 pub room-unless : (long : ℕ) (z : State) (p : Push) → Good long z → (p .arrival .fragment .last ≡ false → Full (z .table) (p .arrival .key) → ⊥) → roomBy (wayOf z p) ≡ true

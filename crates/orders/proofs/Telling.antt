@@ -6,8 +6,8 @@ use Prim.Native.Nat.{ℕ, min, _≤_, _<_}
 use lib.Dec.{ltb}
 use lib.ListN.{length}
 use borrow.Author.Tests.{lt-ltb, le-ltb}
-use Rattle.pushing.specs.Joining.{Since, never, since, isKept, heldOf, andNew, Joining, joining}
-use Rattle.pushing.specs.Push.{Way, refuse, replace, keepAt, openAt, end, inconsistentEnd, missingEnd, missingLastEnd, singleEnd, joinedEnd, lastWay, answerBy}
+use Rattle.pushing.specs.Joining.{Since, never, since, isKept, heldOf, andNew}
+use Rattle.pushing.specs.Push.{Way, refuse, replace, keepAt, openAt, end, joinWay, answerBy}
 use Rattle.orders.specs.Runs.{Push, Call, push, sweep, Told, pushed, counted, finishedBy, refusedBy, Holding, holdsNothing}
 use Rattle.orders.specs.Shares.{due, noneDropped}
 
@@ -17,7 +17,7 @@ shape (refuse n values) = refuse n values
 shape (replace i) = replace 0
 shape (keepAt i) = keepAt 0
 shape (openAt i row) = keepAt 0
-shape (end e) = end e
+shape (end h message) = end h message
 
 -- whether a way is a refusal by some number
 abbrev pub refusedWay : (ℕ → Bool) → Way → Bool
@@ -25,22 +25,18 @@ refusedWay test (refuse n values) = test n
 refusedWay test (replace i) = false
 refusedWay test (keepAt i) = false
 refusedWay test (openAt i row) = false
-refusedWay test (end e) = false
+refusedWay test (end h message) = false
 
 pub refused-is : (test : ℕ → Bool) (bytes : List ℕ) (w : Way) → refusedBy test (pushed (answerBy w) bytes) ≡ refusedWay test w
 refused-is test bytes (refuse n values) = refl
 refused-is test bytes (replace i) = refl
 refused-is test bytes (keepAt i) = refl
 refused-is test bytes (openAt i row) = refl
-refused-is test bytes (end inconsistentEnd) = refl
-refused-is test bytes (end missingEnd) = refl
-refused-is test bytes (end missingLastEnd) = refl
-refused-is test bytes (end (singleEnd n)) = refl
-refused-is test bytes (end (joinedEnd message)) = refl
+refused-is test bytes (end h message) = refl
 
--- the joining of a push's fragment with those that its key holds
-abbrev pub ownJoining : Holding → Push → Joining
-ownJoining v p = joining (heldOf (p .arrival .fragment) (p .payload)) (andNew (v .fragments) (p .arrival .fragment .number) (heldOf (p .arrival .fragment) (p .payload)))
+-- a push's fragment joined with those that its key holds
+abbrev pub ownJoining : Holding → Push → Way
+ownJoining v p = joinWay (heldOf (p .arrival .fragment) (p .payload)) (andNew (v .fragments) (p .arrival .fragment .number) (heldOf (p .arrival .fragment) (p .payload))) (p .room)
 
 -- the way of a push, from what its key holds; long is the store's length
 unfoldable pub ownWay : ℕ → Holding → Push → Way
@@ -49,7 +45,7 @@ ownWay long v p =
     (cond (ltb 1492 (length (p .payload))) (refuse 12 [])
     (cond (isKept (v .fragments (p .arrival .fragment .number))) (replace 0)
     (cond (p .arrival .fragment .last)
-    (lastWay (ownJoining v p) (p .room))
+    (ownJoining v p)
     (keepAt 0))))
 
 module _ (long : ℕ) (v : Holding) (p : Push) where
@@ -68,7 +64,7 @@ module _ (long : ℕ) (v : Holding) (p : Push) where
       own-replace h = rw (le-ltb _ _ h₁, le-ltb _ _ h₂, h)
 
       module _ (h₃ : isKept (v .fragments (p .arrival .fragment .number)) ≡ false) where
-        pub own-last : p .arrival .fragment .last ≡ true → ownWay long v p ≡ lastWay (ownJoining v p) (p .room)
+        pub own-last : p .arrival .fragment .last ≡ true → ownWay long v p ≡ ownJoining v p
         unfolding ownWay
         own-last h = rw (le-ltb _ _ h₁, le-ltb _ _ h₂, h₃, h)
 
@@ -88,7 +84,7 @@ byOwn (refuse n values) v p = v
 byOwn (replace i) v p = withNew v p
 byOwn (keepAt i) v p = withNew v p
 byOwn (openAt i row) v p = withNew v p
-byOwn (end e) v p = holdsNothing
+byOwn (end h message) v p = holdsNothing
 
 -- a sweep drops a holding whose time has come
 abbrev pub tell : ℕ → Holding → Call → Holding

@@ -55,7 +55,7 @@ push-tidy t s y store a payload room (went-replace i h₁ h₂ e h) = put-tidy t
 push-tidy t s y store a payload room (went-keep i h₁ h₂ h₃ l e h k) = put-tidy t s y i (rowOf t (a .key)) (placeFor (rowOf t (a .key)) (a .fragment) (length payload)) h refl
 push-tidy t s y store a payload room (went-open i r h₁ h₂ h₃ l e h k e₂ h₄) =
     put-tidy (withKey t r (a .key) (a .time)) (open-sound t s r (a .key) (a .time) h₄ k) (open-tidy t s y r (a .key) (a .time) h₄) i r (placeFor r (a .fragment) (length payload)) h refl
-push-tidy t s y store a payload room (went-end ending h₁ h₂ h₃ l e) = by-row (ltb (rowOf t (a .key)) 16) refl
+push-tidy t s y store a payload room (went-end h bytes h₁ h₂ h₃ l e) = by-row (ltb (rowOf t (a .key)) 16) refl
   where
     by-row : (b : Bool) → ltb (rowOf t (a .key)) 16 ≡ b → Tidy (cond b (without t (rowOf t (a .key))) t)
     by-row true q = drop-tidy t s y (rowOf t (a .key)) (ltb-true _ _ q)

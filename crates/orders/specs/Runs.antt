@@ -10,9 +10,9 @@ use Rattle.pushing.specs.declared.Arrival.{Arrival}
 use Rattle.sweeping.specs.declared.Counts.{Counts}
 use Rattle.table.specs.Rows.{freshTable}
 use Rattle.pushing.specs.Joining.{nothing, Fragments, Since, never, heldBy, firstTime}
-use Rattle.pushing.specs.Push.{Heard, Way, refuse, replace, keepAt, openAt, end, inconsistentEnd, missingEnd, missingLastEnd, singleEnd, joinedEnd, way, tableBy, storeBy, answerBy}
+use Rattle.pushing.specs.Push.{Heard, Way, way, tableBy, storeBy, outputBy, answerBy}
 use Rattle.sweeping.specs.Sweep.{swept}
-use Rattle.pushing.specs.Show.{startOf}
+use Rattle.pushing.specs.Show.{shown}
 use Rattle.orders.specs.Machine.{those, run, remaining, heard, every}
 
 pub record State : Type 0 where
@@ -38,17 +38,9 @@ pub data Told : Type 0 where
   pushed : Answer Heard → List ℕ → Told
   counted : Counts → Told
 
--- the finished bytes: what the showing call shows of the payload and of the output that was lent (see `finished-shown`)
+-- the finished bytes: what the showing call shows of the payload and of an output, whatever it held (see `finished-shown`): here, of an empty one
 abbrev pub finishedBy : Way → List ℕ → List ℕ
-finishedBy (refuse n values) payload = []
-finishedBy (replace i) payload = []
-finishedBy (keepAt i) payload = []
-finishedBy (openAt i row) payload = []
-finishedBy (end inconsistentEnd) payload = []
-finishedBy (end missingEnd) payload = []
-finishedBy (end missingLastEnd) payload = []
-finishedBy (end (singleEnd n)) payload = startOf n payload
-finishedBy (end (joinedEnd bytes)) payload = bytes
+finishedBy w payload = shown (answerBy w) payload (outputBy w [])
 
 -- the part of the store that a push lends: its first bytes
 abbrev pub part : State → Push → List ℕ

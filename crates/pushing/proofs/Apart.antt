@@ -227,7 +227,7 @@ module _ (t : Table) (s : Sound t) (store : List ℕ) (a : Arrival) (payload : L
       let same = put-same t s store payload (rowOf t key) i p h h₁ h₂ (λ f. omega arith) (λ f. ne (omega arith)) in
       untouched-by key t (withPlace (withKey t row (a .key) (a .time)) i p) store (paste store (i * 1492) payload (length payload)) (opened-row row h₄ spare)
       (λ q. getD-set-other (t .firsts) row (rowOf t key) (a .time) 0 ne) (record { stays = same .stays; bytes = same .bytes; none = same .none })
-  push-apart (went-end ending h₁ h₂ h₃ l e) = by-row (ltb own 16) refl
+  push-apart (went-end heard bytes h₁ h₂ h₃ l e) = by-row (ltb own 16) refl
     where
       by-row : (b : Bool) → ltb own 16 ≡ b → Untouched key t (cond b (without t own) t) store store
       by-row true q = drop-untouched t s own (ltb-true _ _ q) store key (λ same. other (sym (row-holds t (a .key) (ltb-true _ _ q) .1) ∙ same))

@@ -13,9 +13,8 @@ use Rattle.pushing.specs.declared.choose.Change.{Change}
 use Rattle.pushing.specs.declared.choose.Change.the-variants.{Stay, PutAt, DropKey}
 use Rattle.pushing.specs.declared.choose.Chosen.{Chosen}
 use Rattle.table.specs.Rows.{ownerOf, rowOf, withPlace, without, droppedKey}
-use Rattle.pushing.specs.Joining.{Joining}
-use Rattle.pushing.specs.Push.{Way, end, keepWay, lastWay, joinedWith, wayBy, way, placeFor, tableBy, storeBy, outputBy, answerBy, Goes}
-use Rattle.pushing.specs.Leaves.{lowestFreeIn, spareRowIn, numberedIn, joiningIn, changeBy, Chooses, opened}
+use Rattle.pushing.specs.Push.{Way, end, keepWay, joinedWith, wayBy, way, placeFor, tableBy, storeBy, outputBy, answerBy, Goes}
+use Rattle.pushing.specs.Leaves.{lowestFreeIn, spareRowIn, numberedIn, joinWayIn, changeBy, Chooses, opened}
 use Rattle.pushing.proofs.Ways.{same-joins, Went, went, went-refuse, went-replace, went-keep, went-open, went-end}
 use Rattle.table.proofs.Sound.{Sound, used-row, place-holds}
 use Rattle.pushing.proofs.Pieces.{placesOf, judged}
@@ -25,7 +24,7 @@ module _ (t : Table) (s : Sound t) (store : List ℕ) (a : Arrival) (payload : L
   abbrev pub wayFrom : ℕ → Way
   wayFrom r =
       wayBy (length store) (length payload) (numberedIn (t .owners) (t .numbers) (ownerOf r) (a .fragment .number)) (a .fragment .last)
-      (lastWay (joiningIn (placesOf t) store r (a .fragment) payload) room) (keepWay (lowestFreeIn (t .owners)) (spareRowIn (t .used)) r)
+      (keepWay (lowestFreeIn (t .owners)) (spareRowIn (t .used)) r) (joinWayIn (placesOf t) store r (a .fragment) payload room)
 
   abbrev its : ℕ
   its = rowOf t (a .key)
@@ -35,8 +34,8 @@ module _ (t : Table) (s : Sound t) (store : List ℕ) (a : Arrival) (payload : L
   way-is byte =
       ap wayFrom is-row
       ∙ same-joins (length store) (length payload) (numberedIn (t .owners) (t .numbers) (ownerOf its) (a .fragment .number)) (a .fragment .last)
-      (lastWay (joiningIn (placesOf t) store its (a .fragment) payload) room) (lastWay (joinedWith t store its (a .fragment) payload) room) (keepWay (lowestFreeIn (t .owners)) (spareRowIn (t .used)) its)
-      (λ h once. ap (λ (j : Joining). lastWay j room) (sym (judged t store its (a .fragment) payload s byte once)))
+      (keepWay (lowestFreeIn (t .owners)) (spareRowIn (t .used)) its) (joinWayIn (placesOf t) store its (a .fragment) payload room) (joinedWith t store its (a .fragment) payload room)
+      (λ h once. sym (judged t store its (a .fragment) payload room s byte once))
 
   -- what a way does, by the change
   abbrev pub Does : Way → Change → Type 0
@@ -54,9 +53,9 @@ module _ (t : Table) (s : Sound t) (store : List ℕ) (a : Arrival) (payload : L
       (h, omega (arith, there), h₁, h₂, ap (λ (r : ℕ). withPlace t i (placeFor r (a .fragment) (length payload))) is-row, refl)
   does (went-keep i h₁ h₂ h₃ l e h k) = (h, omega (arith, k), h₁, h₂, ap (λ (r : ℕ). withPlace t i (placeFor r (a .fragment) (length payload))) is-row, refl)
   does (went-open i r h₁ h₂ h₃ l e h k e₂ h₄) = (h, h₄, h₁, h₂, refl, refl)
-  does (went-end ending h₁ h₂ h₃ l e) = by-row (ltb row 16) refl
+  does (went-end h bytes h₁ h₂ h₃ l e) = by-row (ltb row 16) refl
     where
-      by-row : (b : Bool) → ltb row 16 ≡ b → Does (end ending) (cond b DropKey Stay)
+      by-row : (b : Bool) → ltb row 16 ≡ b → Does (end h bytes) (cond b DropKey Stay)
       by-row true q = (ap (droppedKey t) is-row, refl)
       by-row false q = (ap (λ (b : Bool). cond b (without t row) t) (sym q) ∙ ap (droppedKey t) is-row, refl)
 
@@ -67,6 +66,8 @@ module _ (t : Table) (s : Sound t) (store : List ℕ) (a : Arrival) (payload : L
 pub goes-so : (w v : Way) → w ≡ v → (t : Table) (store out : List ℕ) (a : Arrival) (payload : List ℕ) (row : ℕ) (r : Chosen) (out′ : List ℕ) → Chooses w row r out out′
     → (t′ : Table) (store′ : List ℕ) → t′ ≡ tableBy v t a (length payload) → store′ ≡ storeBy v store payload → Goes v t store out a payload (r .answer) t′ store′ out′
 goes-so w v e t store out a payload row r out′ chosen t′ store′ keeps stores = record {
-  all-but-output = record { answers = chosen .answers ∙ ap answerBy e; keeps = keeps; stores = stores };
+  answers = chosen .answers ∙ ap answerBy e;
+  keeps = keeps;
+  stores = stores;
   puts = chosen .puts ∙ ap (λ (z : Way). outputBy z out) e;
 }

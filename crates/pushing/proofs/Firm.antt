@@ -87,4 +87,4 @@ one-answer (Refused r) q e = sym (refused q r (sym e))
 pub push-firm : (w : Way) (t : Table) (store out : List ℕ) (a : Arrival) (payload : List ℕ) (p q : Pushed) (t₁ t₂ : Table) (s₁ s₂ o₁ o₂ : List ℕ)
     → Goes w t store out a payload p t₁ s₁ o₁ → Goes w t store out a payload q t₂ s₂ o₂ → (p ≡ q) × (t₁ ≡ t₂) × (s₁ ≡ s₂) × (o₁ ≡ o₂)
 push-firm w t store out a payload p q t₁ t₂ s₁ s₂ o₁ o₂ x y =
-    (one-answer p q (x .all-but-output .answers ∙ sym (y .all-but-output .answers)), x .all-but-output .keeps ∙ sym (y .all-but-output .keeps), x .all-but-output .stores ∙ sym (y .all-but-output .stores), x .puts ∙ sym (y .puts))
+    (one-answer p q (x .answers ∙ sym (y .answers)), x .keeps ∙ sym (y .keeps), x .stores ∙ sym (y .stores), x .puts ∙ sym (y .puts))

@@ -134,14 +134,14 @@ heldAfter (refuse n values) fs number new = fs
 heldAfter (replace i) fs number new = andNew fs number new
 heldAfter (keepAt i) fs number new = andNew fs number new
 heldAfter (openAt i row) fs number new = andNew fs number new
-heldAfter (end e) fs number new = λ k. nothing
+heldAfter (end h bytes) fs number new = λ k. nothing
 
 abbrev pub sinceAfter : Way → Since → ℕ → Since
 sinceAfter (refuse n values) first time = first
 sinceAfter (replace i) first time = first
 sinceAfter (keepAt i) first time = first
 sinceAfter (openAt i row) first time = since time
-sinceAfter (end e) first time = never
+sinceAfter (end h bytes) first time = never
 
 module _ (t : Table) (s : Sound t) (store : List ℕ) (a : Arrival) (payload : List ℕ) (room : ℕ) where
   abbrev own : ℕ
@@ -180,7 +180,7 @@ module _ (t : Table) (s : Sound t) (store : List ℕ) (a : Arrival) (payload : L
             ∙ ap (λ (x : Kept). cond (eqb n number) (kept new) x) (opened-empty t s row (a .key) (a .time) h₄ k spare store n ∙ sym (absent t s (a .key) k store n))),
         opened-since t s row (a .key) (a .time) h₄ k,
       )
-  told-by (went-end ending h₁ h₂ h₃ l e) = by-row (ltb own 16) refl
+  told-by (went-end heard bytes h₁ h₂ h₃ l e) = by-row (ltb own 16) refl
     where
       by-row : (b : Bool) → ltb own 16 ≡ b → ((k : ℕ) → heldBy (cond b (without t own) t) store (a .key) k ≡ nothing) × (firstTime (cond b (without t own) t) (a .key) ≡ never)
       by-row false q = (absent t s (a .key) (ltb-false _ _ q) store, absent-since t s (a .key) (ltb-false _ _ q))

@@ -16,9 +16,9 @@ use Rattle.pushing.specs.declared.join.Verdict.{Verdict}
 use Rattle.pushing.specs.declared.join.Verdict.the-variants.{Inconsistent, Missing, MissingLast, Message}
 use Rattle.table.specs.Search.{lowest, some}
 use Rattle.table.specs.Rows.{Place, ownerOf, placeAt, placeOf, bytesAt}
-use Rattle.pushing.specs.Joining.{Held, Kept, nothing, kept, Fragments, isKept, heldOf, heldIn, andNew, keptAt, unlike, inconsistentWith, reach, gapped, isLast, payloadOf, payloads, joining, message}
-use Rattle.pushing.specs.Push.{joinedWith, over}
-use Rattle.pushing.specs.Leaves.{Places, placesIn, numberedIn, unlikeIn, beyondIn, pieceAt, sizeAt, markedAt, pieceBytes, sizeTo, piecesTo, isGap, countFor, verdictFor, joiningIn}
+use Rattle.pushing.specs.Joining.{Held, Kept, nothing, kept, Fragments, isKept, heldOf, heldIn, andNew, keptAt, unlike, inconsistentWith, reach, gapped, isLast, payloadOf, payloads}
+use Rattle.pushing.specs.Push.{messageWay, joinWay, joinedWith, over}
+use Rattle.pushing.specs.Leaves.{Places, placesIn, numberedIn, unlikeIn, beyondIn, pieceAt, sizeAt, markedAt, pieceBytes, sizeTo, piecesTo, isGap, countFor, verdictFor, joinWayIn}
 use Rattle.table.proofs.Search.{lowest-le, lowest-holds, lowest-before, lowest-same}
 use Rattle.table.proofs.Sound.{Sound, owned-place, place-holds, not-held, held-at}
 
@@ -356,34 +356,34 @@ module _ (t : Table) (store : List ℕ) (row : ℕ) (f : Fragment) (payload : Li
     beyond-is h = rw reach-is (tests-same (λ (x : Kept) (k : ℕ). isKept x && ltb (countFor (t .owners) (t .numbers) row (f .number)) k) (λ (p : Place). ltb (countFor (t .owners) (t .numbers) row (f .number)) (p .number)) (λ k. refl) (le-ltb _ _ h) (λ i. refl))
 
   -- what the joining rule says of them
-  module _ (s : Sound t) (byte : f .number < 256) (once : 32 ≤ placeOf t row (f .number)) where
+  module _ (room : ℕ) (s : Sound t) (byte : f .number < 256) (once : 32 ≤ placeOf t row (f .number)) where
     abbrev Judged : Type 0
-    Judged = joinedWith t store row f payload ≡ joiningIn P store row f payload
+    Judged = joinedWith t store row f payload room ≡ joinWayIn P store row f payload room
 
     by-mark : 32 ≤ unlikely P row f size → f .number ≤ n P row f size → 32 ≤ beyond P row f size → (b : Bool) → marked P row f size ≡ b → Judged
-    unfolding joining
+    unfolding joinWay
     by-mark h₁ h₂ h₃ true e =
         let some : 1 ≤ n P row f size = count-some (t .owners) (t .numbers) row (f .number) h₂ in
         let its : isLast (fs (n P row f size - 1)) ≡ true = mark-is (n P row f size - 1) (no-gap (t .owners) (t .numbers) row (f .number) (n P row f size - 1) (omega arith)) ∙ e in
         rw (verdict-message P row f size h₁ h₂ h₃ e)
-        (rw (unlike-is s byte once, le-ltb _ _ h₁, beyond-is s byte once h₂, le-ltb _ _ h₃, reach-is, its) (ap (message (n P row f size)) (payloads-are (n P row f size) (omega arith))))
+        (rw (unlike-is s byte once, le-ltb _ _ h₁, beyond-is s byte once h₂, le-ltb _ _ h₃, reach-is, its) (ap (λ (l : List ℕ). messageWay (n P row f size) l room) (payloads-are (n P row f size) (omega arith))))
     by-mark h₁ h₂ h₃ false e =
         let some : 1 ≤ n P row f size = count-some (t .owners) (t .numbers) row (f .number) h₂ in
         let its : isLast (fs (n P row f size - 1)) ≡ false = mark-is (n P row f size - 1) (no-gap (t .owners) (t .numbers) row (f .number) (n P row f size - 1) (omega arith)) ∙ e in
         rw (verdict-unmarked P row f size h₁ h₂ h₃ e) (rw (unlike-is s byte once, le-ltb _ _ h₁, beyond-is s byte once h₂, le-ltb _ _ h₃, reach-is, its))
 
     by-beyond : 32 ≤ unlikely P row f size → f .number ≤ n P row f size → (b : Bool) → ltb (beyond P row f size) 32 ≡ b → Judged
-    unfolding joining
+    unfolding joinWay
     by-beyond h₁ h₂ true e = rw (verdict-beyond P row f size h₁ h₂ (ltb-true _ _ e)) (rw (unlike-is s byte once, le-ltb _ _ h₁, beyond-is s byte once h₂, e))
     by-beyond h₁ h₂ false e = by-mark h₁ h₂ (ltb-false _ _ e) (marked P row f size) refl
 
     by-new : 32 ≤ unlikely P row f size → (b : Bool) → ltb (n P row f size) (f .number) ≡ b → Judged
-    unfolding joining
+    unfolding joinWay
     by-new h₁ true e = rw (verdict-new P row f size h₁ (ltb-true _ _ e)) (rw (unlike-is s byte once, le-ltb _ _ h₁, beyond-new s byte once (ltb-true _ _ e)))
     by-new h₁ false e = by-beyond h₁ (ltb-false _ _ e) (ltb (beyond P row f size) 32) refl
 
     by-unlike : (b : Bool) → ltb (unlikely P row f size) 32 ≡ b → Judged
-    unfolding joining
+    unfolding joinWay
     by-unlike true e = rw (verdict-unlike P row f size (ltb-true _ _ e)) (rw (unlike-is s byte once, e))
     by-unlike false e = by-new (ltb-false _ _ e) (ltb (n P row f size) (f .number)) refl
 

@@ -35,7 +35,7 @@ push-sound t s store a payload room byte (went-open i row h₁ h₂ h₃ l e h k
     let was-spare : getD (t .used) row false ≡ false = ap (λ (r : ℕ). getD (t .used) r false) e₂ ∙ not-true _ (lowest-holds (isSpare t) 16 (omega arith)) in
     put-sound t′ s′ i row h (placeFor row (a .fragment) (length payload)) refl h₂ byte (getD-set-same (t .used) row true false (omega (arith, s .used-long)))
     (λ j other f g. false≢true (sym was-spare ∙ s .owned j row f))
-push-sound t s store a payload room byte (went-end ending h₁ h₂ h₃ l e) = end-sound t s (rowOf t (a .key))
+push-sound t s store a payload room byte (went-end heard bytes h₁ h₂ h₃ l e) = end-sound t s (rowOf t (a .key))
 
 pub sound : {t : Table} → Made t → Sound t
 sound byFresh = fresh-sound

@@ -1,16 +1,20 @@
 -- The way of a push, from the tests that led there: one law for each way out of the code.
-use mathlib.Core.Path.{_≡_, refl, sym, subst}
+use mathlib.Core.Path.{_≡_, refl, sym, _∙_, subst}
 use mathlib.Core.List.{List, [], _∷_}
-use mathlib.Core.Bool.{Bool, true, false, cond}
-use Prim.Native.Nat.{ℕ, _≤_, _<_}
+use mathlib.Core.Bool.{Bool, true, false, cond, not}
+use Prim.Native.Nat.{ℕ, _-_, _≤_, _<_}
+use native.Mathlib.Omega.{arith}
 use lib.Dec.{ltb, leb}
-use lib.ListN.{length}
+use lib.ListN.{length, drop, length-append}
+use lib.Seq.{take-at}
 use borrow.Author.Tests.{le-ltb, lt-ltb, le-leb, lt-leb, ltb-true, ltb-false, leb-true, leb-false}
+use Rattle.numbers.specs.Numbers.{gives}
 use Rattle.table.specs.declared.Table.{Table}
 use Rattle.pushing.specs.declared.Arrival.{Arrival}
 use Rattle.table.specs.Rows.{rowOf, spareRow, placeOf, lowestFree}
-use Rattle.pushing.specs.Joining.{Joining, inconsistentMetadata, missingFragments, missingLastFragment, message}
-use Rattle.pushing.specs.Push.{Way, refuse, replace, keepAt, openAt, end, Ending, inconsistentEnd, missingEnd, missingLastEnd, singleEnd, joinedEnd, keepWay, lastWay, joinedWith, wayBy, way, outputBy}
+use Rattle.pushing.specs.Joining.{Held, Fragments, heldOf, heldIn, andNew, inconsistentWith, gapped, isLast, reach, payloads}
+use Rattle.pushing.specs.Push.{Heard, inconsistent, missing, missingLast, single, joined, Way, refuse, replace, keepAt, openAt, end, keepWay, messageWay, joinWay, joinedWith, wayBy, way, over, outputBy, answerBy}
+use Rattle.pushing.specs.Show.{startOf, shown}
 
 -- step 3
 module _ (free spare row : ℕ) (place : ℕ) (e : place ≡ free) where
@@ -44,85 +48,81 @@ keep-output free spare row out = by-tests (leb 32 free) (ltb row 16) (leb 16 spa
     by-tests false false false = refl
 
 -- step 4
-module _ (room : ℕ) where
-  pub last-inconsistent : lastWay inconsistentMetadata room ≡ end inconsistentEnd
-  unfolding lastWay
-  last-inconsistent = refl
-
-  pub last-missing : lastWay missingFragments room ≡ end missingEnd
-  unfolding lastWay
-  last-missing = refl
-
-  pub last-unmarked : lastWay missingLastFragment room ≡ end missingLastEnd
-  unfolding lastWay
-  last-unmarked = refl
-
 module _ (n : ℕ) (bytes : List ℕ) (room : ℕ) where
-  pub last-single : n ≤ 1 → lastWay (message n bytes) room ≡ end (singleEnd (length bytes))
-  unfolding lastWay
+  pub last-single : n ≤ 1 → messageWay n bytes room ≡ end (single (length bytes)) []
+  unfolding messageWay
   last-single h = rw (le-leb _ _ h)
 
   module _ (h₁ : 1 < n) where
-    pub last-13 : room < length bytes → lastWay (message n bytes) room ≡ refuse 13 (length bytes ∷ [])
-    unfolding lastWay
+    pub last-13 : room < length bytes → messageWay n bytes room ≡ refuse 13 (length bytes ∷ [])
+    unfolding messageWay
     last-13 h = rw (lt-leb _ _ h₁, lt-ltb _ _ h)
 
-    pub last-joined : length bytes ≤ room → lastWay (message n bytes) room ≡ end (joinedEnd bytes)
-    unfolding lastWay
+    pub last-joined : length bytes ≤ room → messageWay n bytes room ≡ end (joined (length bytes)) bytes
+    unfolding messageWay
     last-joined h = rw (lt-leb _ _ h₁, le-ltb _ _ h)
 
--- what a last way can be
-abbrev isOther : Way → Type 0
-isOther (refuse n values) = ⊥
-isOther (replace i) = Unit {0}
-isOther (keepAt i) = Unit {0}
-isOther (openAt i row) = Unit {0}
-isOther (end e) = ⊥
+-- a message stands at the output's start
+pub start-over : (bytes out : List ℕ) → startOf (length bytes) (over bytes out) ≡ bytes
+start-over bytes out =
+    let fits : length bytes ≤ length (over bytes out) = omega (arith, length-append bytes (drop (length bytes) out)) in
+    rw (le-leb (length bytes) (length (over bytes out)) fits) (take-at bytes (drop (length bytes) out) (length bytes) refl)
 
-never-other : (j : Joining) (room : ℕ) (w : Way) → lastWay j room ≡ w → isOther w → ⊥
-unfolding lastWay
-never-other inconsistentMetadata room w e o = subst isOther (sym e) o
-never-other missingFragments room w e o = subst isOther (sym e) o
-never-other missingLastFragment room w e o = subst isOther (sym e) o
-never-other (message n bytes) room w e o = by-tests (leb n 1) (ltb room (length bytes)) (subst isOther (sym e) o)
+-- a property of the way of a last fragment, whatever it is
+pub by-ends : (P : Way → Type 0) → P (end inconsistent []) → P (end missing []) → P (end missingLast []) → ((n : ℕ) → P (end (single n) [])) → ((n : ℕ) → P (refuse 13 (n ∷ [])))
+    → ((bytes : List ℕ) → P (end (joined (length bytes)) bytes)) → (new : Held) (fs : Fragments) (room : ℕ) → P (joinWay new fs room)
+unfolding joinWay messageWay
+by-ends P i m l s r j new fs room = by-tests (inconsistentWith new fs) (gapped fs) (isLast (fs (reach fs - 1))) (leb (reach fs) 1) (payloads fs (reach fs)) (ltb room (length (payloads fs (reach fs))))
   where
-    by-tests : (x y : Bool) → isOther (cond x (end (singleEnd (length bytes))) (cond y (refuse 13 (length bytes ∷ [])) (end (joinedEnd bytes)))) → ⊥
-    by-tests true y q = q
-    by-tests false true q = q
-    by-tests false false q = q
+    by-tests : (u g o n : Bool) (bytes : List ℕ) (x : Bool)
+        → P (cond u (end inconsistent []) (cond g (end missing []) (cond (not o) (end missingLast []) (cond n (end (single (length bytes)) []) (cond x (refuse 13 (length bytes ∷ [])) (end (joined (length bytes)) bytes))))))
+    by-tests true g o n bytes x = i
+    by-tests false true o n bytes x = m
+    by-tests false false false n bytes x = l
+    by-tests false false true true bytes x = s (length bytes)
+    by-tests false false true false bytes true = r (length bytes)
+    by-tests false false true false bytes false = j bytes
+
+-- it is a refusal, or an end that shows the same whatever the output held
+abbrev Last : Way → Type 0
+Last (refuse n values) = Unit {0}
+Last (replace i) = ⊥
+Last (keepAt i) = ⊥
+Last (openAt i row) = ⊥
+Last (end h bytes) = (payload out : List ℕ) → shown (gives h) payload (over bytes out) ≡ shown (gives h) payload (over bytes [])
 
 -- the tests of push, in their order
-module _ (stored size place : ℕ) (last : Bool) (joins keeps : Way) where
-  pub by-11 : stored < 47744 → wayBy stored size place last joins keeps ≡ refuse 11 []
+module _ (stored size place : ℕ) (last : Bool) (keeps joins : Way) where
+  pub by-11 : stored < 47744 → wayBy stored size place last keeps joins ≡ refuse 11 []
   unfolding wayBy
   by-11 h = rw (lt-ltb _ _ h)
 
   module _ (h₁ : 47744 ≤ stored) where
-    pub by-12 : 1492 < size → wayBy stored size place last joins keeps ≡ refuse 12 []
+    pub by-12 : 1492 < size → wayBy stored size place last keeps joins ≡ refuse 12 []
     unfolding wayBy
     by-12 h = rw (le-ltb _ _ h₁, lt-ltb _ _ h)
 
     module _ (h₂ : size ≤ 1492) where
-      pub by-replace : place < 32 → wayBy stored size place last joins keeps ≡ replace place
+      pub by-replace : place < 32 → wayBy stored size place last keeps joins ≡ replace place
       unfolding wayBy
       by-replace h = rw (le-ltb _ _ h₁, le-ltb _ _ h₂, lt-ltb _ _ h)
 
       module _ (h₃ : 32 ≤ place) where
-        pub by-last : last ≡ true → wayBy stored size place last joins keeps ≡ joins
+        pub by-last : last ≡ true → wayBy stored size place last keeps joins ≡ joins
         unfolding wayBy
         by-last h = rw (le-ltb _ _ h₁, le-ltb _ _ h₂, le-ltb _ _ h₃, h)
 
-        pub by-keep : last ≡ false → wayBy stored size place last joins keeps ≡ keeps
+        pub by-keep : last ≡ false → wayBy stored size place last keeps joins ≡ keeps
         unfolding wayBy
         by-keep h = rw (le-ltb _ _ h₁, le-ltb _ _ h₂, le-ltb _ _ h₃, h)
 
 -- what step 4 comes to matters only where it is reached
-pub same-joins : (stored size place : ℕ) (last : Bool) (x y keeps : Way) → (47744 ≤ stored → 32 ≤ place → x ≡ y) → wayBy stored size place last x keeps ≡ wayBy stored size place last y keeps
+pub same-joins : (stored size place : ℕ) (last : Bool) (keeps x y : Way) → (47744 ≤ stored → 32 ≤ place → x ≡ y) → wayBy stored size place last keeps x ≡ wayBy stored size place last keeps y
 unfolding wayBy
-same-joins stored size place last x y keeps e = by-tests (ltb stored 47744) refl (ltb 1492 size) (ltb place 32) refl last
+same-joins stored size place last keeps x y e = by-tests (ltb stored 47744) refl (ltb 1492 size) (ltb place 32) refl last
   where
     by-tests : (a : Bool) → ltb stored 47744 ≡ a → (b c : Bool) → ltb place 32 ≡ c → (d : Bool)
-        → cond a (refuse 11 []) (cond b (refuse 12 []) (cond c (replace place) (cond d x keeps))) ≡ cond a (refuse 11 []) (cond b (refuse 12 []) (cond c (replace place) (cond d y keeps)))
+        → cond a (refuse 11 []) (cond b (refuse 12 []) (cond c (replace place) (cond (not d) keeps x))) ≡ cond a (refuse 11 []) (cond b (refuse 12 []) (cond c (replace place) (cond (not d) keeps y)))
     by-tests true p b c q d = refl
     by-tests false p true c q d = refl
     by-tests false p false true q d = refl
@@ -137,8 +137,8 @@ pub data Went (t : Table) (store : List ℕ) (a : Arrival) (payload : List ℕ) 
       → i ≡ lowestFree t → i < 32 → rowOf t (a .key) < 16 → Went t store a payload room (keepAt i)
   went-open : (i row : ℕ) → 47744 ≤ length store → length payload ≤ 1492 → 32 ≤ placeOf t (rowOf t (a .key)) (a .fragment .number) → a .fragment .last ≡ false
       → i ≡ lowestFree t → i < 32 → 16 ≤ rowOf t (a .key) → row ≡ spareRow t → row < 16 → Went t store a payload room (openAt i row)
-  went-end : (e : Ending) → 47744 ≤ length store → length payload ≤ 1492 → 32 ≤ placeOf t (rowOf t (a .key)) (a .fragment .number) → a .fragment .last ≡ true
-      → lastWay (joinedWith t store (rowOf t (a .key)) (a .fragment) payload) room ≡ end e → Went t store a payload room (end e)
+  went-end : (h : Heard) (bytes : List ℕ) → 47744 ≤ length store → length payload ≤ 1492 → 32 ≤ placeOf t (rowOf t (a .key)) (a .fragment .number) → a .fragment .last ≡ true
+      → joinedWith t store (rowOf t (a .key)) (a .fragment) payload room ≡ end h bytes → Went t store a payload room (end h bytes)
 
 module _ (t : Table) (store : List ℕ) (a : Arrival) (payload : List ℕ) (room : ℕ) where
   abbrev row : ℕ
@@ -148,7 +148,10 @@ module _ (t : Table) (store : List ℕ) (a : Arrival) (payload : List ℕ) (room
   place = placeOf t row (a .fragment .number)
 
   abbrev joins : Way
-  joins = lastWay (joinedWith t store row (a .fragment) payload) room
+  joins = joinedWith t store row (a .fragment) payload room
+
+  last-joins : Last joins
+  last-joins = by-ends Last (λ x o. refl) (λ x o. refl) (λ x o. refl) (λ n x o. refl) (λ n. tt) (λ bytes x o. start-over bytes o ∙ sym (start-over bytes [])) (heldOf (a .fragment) payload) (andNew (heldIn t store row) (a .fragment .number) (heldOf (a .fragment) payload)) room
 
   abbrev keeps : Way
   keeps = keepWay (lowestFree t) (spareRow t) row
@@ -186,10 +189,10 @@ module _ (t : Table) (store : List ℕ) (a : Arrival) (payload : List ℕ) (room
         -- a last way is a refusal or an end
         by-end : a .fragment .last ≡ true → (w : Way) → joins ≡ w → Went t store a payload room w
         by-end l (refuse n values) e = went-refuse n values
-        by-end l (end ending) e = went-end ending h₁ h₂ h₃ l e
-        by-end l (replace i) e = absurd (never-other (joinedWith t store row (a .fragment) payload) room (replace i) e tt)
-        by-end l (keepAt i) e = absurd (never-other (joinedWith t store row (a .fragment) payload) room (keepAt i) e tt)
-        by-end l (openAt i r) e = absurd (never-other (joinedWith t store row (a .fragment) payload) room (openAt i r) e tt)
+        by-end l (end h bytes) e = went-end h bytes h₁ h₂ h₃ l e
+        by-end l (replace i) e = absurd (subst Last e last-joins)
+        by-end l (keepAt i) e = absurd (subst Last e last-joins)
+        by-end l (openAt i r) e = absurd (subst Last e last-joins)
 
         by-mark : (l : Bool) → a .fragment .last ≡ l → Went t store a payload room (way t store a payload room)
         by-mark true l = rw (way-last l) (by-end l joins refl)
@@ -209,3 +212,14 @@ module _ (t : Table) (store : List ℕ) (a : Arrival) (payload : List ℕ) (room
 
   pub went : Went t store a payload room (way t store a payload room)
   went = by-store (ltb (length store) 47744) refl
+
+  -- what is shown of a push is the same whatever the output held
+  shown-by : {w : Way} → Went t store a payload room w → (out : List ℕ) → shown (answerBy w) payload (outputBy w out) ≡ shown (answerBy w) payload (outputBy w [])
+  shown-by (went-refuse n values) out = refl
+  shown-by (went-replace i h₁ h₂ e h) out = refl
+  shown-by (went-keep i h₁ h₂ h₃ l e h k) out = refl
+  shown-by (went-open i r h₁ h₂ h₃ l e h k e₂ h₄) out = refl
+  shown-by (went-end h bytes h₁ h₂ h₃ l e) out = subst Last e last-joins payload out
+
+  pub shown-same : (out : List ℕ) → shown (answerBy (way t store a payload room)) payload (outputBy (way t store a payload room) out) ≡ shown (answerBy (way t store a payload room)) payload (outputBy (way t store a payload room) [])
+  shown-same = shown-by went

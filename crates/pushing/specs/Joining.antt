@@ -1,7 +1,7 @@
--- What a key holds, fragment by number, and the joining rule (document 01, "The table", "Joining").
+-- What a key holds, fragment by number, and what the joining rule asks of it (document 01, "The table", "Joining").
 use mathlib.Core.List.{List, [], _++_}
 use mathlib.Core.Bool.{Bool, true, false, cond, not, _&&_}
-use Prim.Native.Nat.{ℕ, zero, suc, _-_}
+use Prim.Native.Nat.{ℕ, zero, suc}
 use lib.Dec.{eqb, ltb}
 use lib.ListN.{getD}
 use Rattle.pushing.specs.declared.Fragment.{Fragment}
@@ -85,17 +85,3 @@ payloadOf (kept h) = h .payload
 unfoldable pub payloads : Fragments → ℕ → List ℕ
 payloads fs zero = []
 payloads fs (suc n) = payloads fs n ++ payloadOf (fs n)
-
-pub data Joining : Type 0 where
-  inconsistentMetadata : Joining
-  missingFragments : Joining
-  missingLastFragment : Joining
-  -- n fragments, and their payloads one behind the other
-  message : ℕ → List ℕ → Joining
-
-unfoldable pub joining : Held → Fragments → Joining
-joining new fs =
-    cond (inconsistentWith new fs) inconsistentMetadata
-    (cond (gapped fs) missingFragments
-    (cond (not (isLast (fs (reach fs - 1)))) missingLastFragment
-    (message (reach fs) (payloads fs (reach fs)))))

@@ -16,8 +16,7 @@ use Rattle.pushing.specs.declared.choose.Change.the-variants.{Stay, PutA
 use Rattle.pushing.specs.declared.choose.Chosen.{Chosen}
 use Rattle.table.specs.Search.{lowest}
 use Rattle.table.specs.Rows.{ownerOf, bytesAt, withKey}
-use Rattle.pushing.specs.Joining.{Joining, inconsistentMetadata, missingFragments, missingLastFragment, message}
-use Rattle.pushing.specs.Push.{Way, refuse, replace, keepAt, openAt, end, pushedOf, answerBy, outputBy}
+use Rattle.pushing.specs.Push.{Way, refuse, replace, keepAt, openAt, end, inconsistent, missing, missingLast, messageWay, pushedOf, answerBy, outputBy}
 
 -- the look-ups, in the lists that they are lent
 abbrev pub rowIn : List Bool → List ℕ → ℕ → ℕ
@@ -90,15 +89,15 @@ verdictFor p row f size =
     (Message (countFor (p .owners) (p .numbers) row (f .number)) (sizeTo (p .sizes) (p .owners) (p .numbers) row (f .number) size (countFor (p .owners) (p .numbers) row (f .number))))
     MissingLast)))
 
--- a verdict in the words of the joining rule; `bytes n` are those of the first n pieces
-abbrev pub joiningBy : Verdict → (ℕ → List ℕ) → Joining
-joiningBy Inconsistent bytes = inconsistentMetadata
-joiningBy Missing bytes = missingFragments
-joiningBy MissingLast bytes = missingLastFragment
-joiningBy (Message n total) bytes = message n (bytes n)
+-- the way of a verdict; `bytes n` are those of the first n pieces
+abbrev pub verdictWay : Verdict → (ℕ → List ℕ) → (room : ℕ) → Way
+verdictWay Inconsistent bytes room = end inconsistent []
+verdictWay Missing bytes room = end missing []
+verdictWay MissingLast bytes room = end missingLast []
+verdictWay (Message n total) bytes room = messageWay n (bytes n) room
 
-abbrev pub joiningIn : Places → List ℕ → ℕ → Fragment → List ℕ → Joining
-joiningIn p store row f payload = joiningBy (verdictFor p row f (length payload)) (piecesTo (p .sizes) (p .owners) (p .numbers) store row (f .number) payload)
+abbrev pub joinWayIn : Places → List ℕ → ℕ → Fragment → List ℕ → (room : ℕ) → Way
+joinWayIn p store row f payload room = verdictWay (verdictFor p row f (length payload)) (piecesTo (p .sizes) (p .owners) (p .numbers) store row (f .number) payload) room
 
 -- what each way does to the table, for a key with this row
 abbrev pub endChange : ℕ → Change
@@ -109,7 +108,7 @@ changeBy (refuse n values) row = Stay
 changeBy (replace i) row = PutAt i row false
 changeBy (keepAt i) row = PutAt i row false
 changeBy (openAt i spare) row = PutAt i spare true
-changeBy (end e) row = endChange row
+changeBy (end h bytes) row = endChange row
 
 -- a choice is that of the way w, and so is the output
 pub record Chooses (w : Way) (row : ℕ) (r : Chosen) (out out′ : List ℕ) : Type 0 where

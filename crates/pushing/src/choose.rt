@@ -14,9 +14,8 @@ ghost use lib.ListN.{length, getD};
 ghost use Rattle.pushing.specs.declared.Pushed.the-variants.{Refused};
 ghost use Rattle.pushing.specs.declared.choose.Change.the-variants.{Stay};
 ghost use Rattle.table.specs.Rows.{ownerOf};
-ghost use Rattle.pushing.specs.Joining.{message};
-ghost use Rattle.pushing.specs.Push.{answerBy, pushedOf, keepWay, lastWay, wayBy};
-ghost use Rattle.pushing.specs.Leaves.{lowestFreeIn, spareRowIn, numberedIn, placesIn, piecesTo, joiningIn, changeBy, endChange, Chooses};
+ghost use Rattle.pushing.specs.Push.{answerBy, pushedOf, keepWay, messageWay, wayBy};
+ghost use Rattle.pushing.specs.Leaves.{lowestFreeIn, spareRowIn, numberedIn, placesIn, piecesTo, joinWayIn, changeBy, endChange, Chooses};
 
 // What becomes of the table.
 pub enum Change {
@@ -107,7 +106,7 @@ fn complete<'a>(
     total: usize,
 ) -> Chosen
     requires { ⌜ (row ≤ 16) × ((i : ℕ) → getD (now sizes) i 0 ≤ 1492) × (47744 ≤ length (now store)) × (count ≤ 256) × (total ≡ length (piecesTo (now sizes) (now owners) (now numbers) (now store) row number (now payload) count)) ⌝ }
-    ensures { λ r. ⌜ Chooses (lastWay (message count (piecesTo (now (sizes .entry)) (now (owners .entry)) (now (numbers .entry)) (now (store .entry)) row number (now (payload .entry)) count)) (length (now (out .entry)))) row r (now (out .entry)) (now (out .exit)) ⌝ }
+    ensures { λ r. ⌜ Chooses (messageWay count (piecesTo (now (sizes .entry)) (now (owners .entry)) (now (numbers .entry)) (now (store .entry)) row number (now (payload .entry)) count) (length (now (out .entry)))) row r (now (out .entry)) (now (out .exit)) ⌝ }
 {
     if count <= 1 {
         return ended(row, Pushed::Single(total));
@@ -144,7 +143,7 @@ fn finish<'a>(
     payload: &[u8],
 ) -> Chosen
     requires { ⌜ (row ≤ 16) × ((i : ℕ) → getD (now sizes) i 0 ≤ 1492) × (47744 ≤ length (now store)) × (length (now payload) ≤ 1492) ⌝ }
-    ensures { λ r. ⌜ Chooses (lastWay (joiningIn (placesIn (now (types .entry)) (now (sizes .entry)) (now (owners .entry)) (now (numbers .entry)) (now (versions .entry)) (now (lasts .entry))) (now (store .entry)) row f (now (payload .entry))) (length (now (out .entry)))) row r (now (out .entry)) (now (out .exit)) ⌝ }
+    ensures { λ r. ⌜ Chooses (joinWayIn (placesIn (now (types .entry)) (now (sizes .entry)) (now (owners .entry)) (now (numbers .entry)) (now (versions .entry)) (now (lasts .entry))) (now (store .entry)) row f (now (payload .entry)) (length (now (out .entry)))) row r (now (out .entry)) (now (out .exit)) ⌝ }
 {
     let size = payload.len();
     let verdict = judge(types, sizes, owners, numbers, versions, lasts, row, f, size);
@@ -184,8 +183,8 @@ pub(crate) fn choose<'a>(
 ) -> Chosen
     requires { ⌜ (row ≤ 16) × ((i : ℕ) → getD (now sizes) i 0 ≤ 1492) × (16 ≤ row → 32 ≤ numberedIn (now owners) (now numbers) (ownerOf row) (f .number)) ⌝ }
     ensures { λ r. ⌜ Chooses (wayBy (length (now (store .entry))) (length (now (payload .entry))) (numberedIn (now (owners .entry)) (now (numbers .entry)) (ownerOf row) (f .number)) (f .last)
-        (lastWay (joiningIn (placesIn (now (types .entry)) (now (sizes .entry)) (now (owners .entry)) (now (numbers .entry)) (now (versions .entry)) (now (lasts .entry))) (now (store .entry)) row f (now (payload .entry))) (length (now (out .entry))))
-        (keepWay (lowestFreeIn (now (owners .entry))) (spareRowIn (now (used .entry))) row)) row r (now (out .entry)) (now (out .exit)) ⌝ }
+        (keepWay (lowestFreeIn (now (owners .entry))) (spareRowIn (now (used .entry))) row)
+        (joinWayIn (placesIn (now (types .entry)) (now (sizes .entry)) (now (owners .entry)) (now (numbers .entry)) (now (versions .entry)) (now (lasts .entry))) (now (store .entry)) row f (now (payload .entry)) (length (now (out .entry))))) row r (now (out .entry)) (now (out .exit)) ⌝ }
 {
     if store.len() < 47744 {
         return refused(Refusal::StoreTooSmall);

@@ -19,9 +19,9 @@ same-length-2 c = search needs
 
 returns : tie.Need-returns
 returns c = record {
-  answers = c .push-numbers .ensures ∙ ap pushNumbers (c .before .before .before .before .before .before .push-step .ensures .all-but-output .answers);
-  keeps = c .before .before .before .before .before .before .push-step .ensures .all-but-output .keeps;
-  stores = c .before .before .before .before .before .before .push-step .ensures .all-but-output .stores;
+  answers = c .push-numbers .ensures ∙ ap pushNumbers (c .before .before .before .before .before .before .push-step .ensures .answers);
+  keeps = c .before .before .before .before .before .before .push-step .ensures .keeps;
+  stores = c .before .before .before .before .before .before .push-step .ensures .stores;
   puts = c .before .before .before .before .before .before .push-step .ensures .puts;
 }
 

@@ -6,8 +6,8 @@ use native.Mathlib.Omega.{arith}
 use denote.Ref.{now}
 use Rattle.pushing.specs.declared.choose.Change.the-variants.{PutAt}
 use Rattle.table.specs.Rows.{ownerOf}
-use Rattle.pushing.specs.Push.{Way, keepWay, lastWay, pushedOf}
-use Rattle.pushing.specs.Leaves.{placesIn, numberedIn, lowestFreeIn, spareRowIn, joiningIn}
+use Rattle.pushing.specs.Push.{Way, keepWay, pushedOf}
+use Rattle.pushing.specs.Leaves.{placesIn, numberedIn, lowestFreeIn, spareRowIn, joinWayIn}
 use Rattle.pushing.proofs.Ways.{by-11, by-12, by-replace, by-last, by-keep, keep-output}
 use borrow.Author.Needs.{needs}
 use Rattle.pushing.proofs.choose.choose.Statement.{statement}
@@ -20,8 +20,7 @@ module _ (c : tie.Start) where
 
   abbrev joins : Way
   joins =
-      lastWay
-      (joiningIn (placesIn (now (c .args .types)) (now (c .args .sizes)) (now (c .args .owners)) (now (c .args .numbers)) (now (c .args .versions)) (now (c .args .lasts))) (now (c .args .store)) (c .args .row) (c .args .f) (now (c .args .payload)))
+      joinWayIn (placesIn (now (c .args .types)) (now (c .args .sizes)) (now (c .args .owners)) (now (c .args .numbers)) (now (c .args .versions)) (now (c .args .lasts))) (now (c .args .store)) (c .args .row) (c .args .f) (now (c .args .payload))
       (length (now (c .args .out)))
 
   abbrev keeps : Way
@@ -31,19 +30,19 @@ refused-requires : tie.Need-refused-requires
 refused-requires c κs = search needs
 
 returns : tie.Need-returns
-returns c = rw (by-11 (length (now (c .before .before .before .before .before .args .store))) (length (now (c .before .before .before .before .before .args .payload))) (place (c .before .before .before .before .before)) (c .before .before .before .before .before .args .f .last) (joins (c .before .before .before .before .before)) (keeps (c .before .before .before .before .before)) (c .before .if1 .taken)) (record { answers = ap pushedOf (c .refused .ensures .1); changes = c .refused .ensures .0; puts = refl })
+returns c = rw (by-11 (length (now (c .before .before .before .before .before .args .store))) (length (now (c .before .before .before .before .before .args .payload))) (place (c .before .before .before .before .before)) (c .before .before .before .before .before .args .f .last) (keeps (c .before .before .before .before .before)) (joins (c .before .before .before .before .before)) (c .before .if1 .taken)) (record { answers = ap pushedOf (c .refused .ensures .1); changes = c .refused .ensures .0; puts = refl })
 
 refused-requires-2 : tie.Need-refused-requires-2
 refused-requires-2 c κs = search needs
 
 returns-2 : tie.Need-returns-2
-returns-2 c = rw (by-12 (length (now (c .before .before .before .before .before .before .args .store))) (length (now (c .before .before .before .before .before .before .args .payload))) (place (c .before .before .before .before .before .before)) (c .before .before .before .before .before .before .args .f .last) (joins (c .before .before .before .before .before .before)) (keeps (c .before .before .before .before .before .before)) (c .before .before .if1 .left) (c .before .if2 .taken)) (record { answers = ap pushedOf (c .refused2 .ensures .1); changes = c .refused2 .ensures .0; puts = refl })
+returns-2 c = rw (by-12 (length (now (c .before .before .before .before .before .before .args .store))) (length (now (c .before .before .before .before .before .before .args .payload))) (place (c .before .before .before .before .before .before)) (c .before .before .before .before .before .before .args .f .last) (keeps (c .before .before .before .before .before .before)) (joins (c .before .before .before .before .before .before)) (c .before .before .if1 .left) (c .before .if2 .taken)) (record { answers = ap pushedOf (c .refused2 .ensures .1); changes = c .refused2 .ensures .0; puts = refl })
 
 held-at-requires : tie.Need-held-at-requires
 held-at-requires c κs = c .before .before .before .before .before .pre .2
 
 returns-3 : tie.Need-returns-3
-returns-3 c = rw (by-replace (length (now (c .before .before .before .before .before .before .before .args .store))) (length (now (c .before .before .before .before .before .before .before .args .payload))) (place (c .before .before .before .before .before .before .before)) (c .before .before .before .before .before .before .before .args .f .last) (joins (c .before .before .before .before .before .before .before)) (keeps (c .before .before .before .before .before .before .before)) (c .before .before .before .if1 .left) (c .before .before .if2 .left) (omega (arith, c .before .held-at .ensures, c .if3 .taken))) (record { answers = refl; changes = ap (λ (i : ℕ). PutAt i (c .before .before .before .before .before .before .before .args .row) _) (c .before .held-at .ensures); puts = refl })
+returns-3 c = rw (by-replace (length (now (c .before .before .before .before .before .before .before .args .store))) (length (now (c .before .before .before .before .before .before .before .args .payload))) (place (c .before .before .before .before .before .before .before)) (c .before .before .before .before .before .before .before .args .f .last) (keeps (c .before .before .before .before .before .before .before)) (joins (c .before .before .before .before .before .before .before)) (c .before .before .before .if1 .left) (c .before .before .if2 .left) (omega (arith, c .before .held-at .ensures, c .if3 .taken))) (record { answers = refl; changes = ap (λ (i : ℕ). PutAt i (c .before .before .before .before .before .before .before .args .row) _) (c .before .held-at .ensures); puts = refl })
 
 finish-requires : tie.Need-finish-requires
 finish-requires c κs = (c .before .before .before .before .before .before .before .before .before .pre .0, c .before .before .before .before .before .before .before .before .before .pre .1, c .before .before .before .before .before .if1 .left, c .before .before .before .before .if2 .left)
@@ -52,14 +51,14 @@ same-length : tie.Need-same-length
 same-length c = search needs
 
 returns-4 : tie.Need-returns-4
-returns-4 c = rw (by-last (length (now (c .before .before .before .before .before .before .before .before .before .before .before .before .args .store))) (length (now (c .before .before .before .before .before .before .before .before .before .before .before .before .args .payload))) (place (c .before .before .before .before .before .before .before .before .before .before .before .before)) (c .before .before .before .before .before .before .before .before .before .before .before .before .args .f .last) (joins (c .before .before .before .before .before .before .before .before .before .before .before .before)) (keeps (c .before .before .before .before .before .before .before .before .before .before .before .before)) (c .before .before .before .before .before .before .before .before .if1 .left) (c .before .before .before .before .before .before .before .if2 .left) (omega (arith, c .before .before .before .before .before .before .held-at .ensures, c .before .before .before .before .before .if3 .left)) (c .before .before .before .before .if4 .taken)) (c .before .before .finish .ensures)
+returns-4 c = rw (by-last (length (now (c .before .before .before .before .before .before .before .before .before .before .before .before .args .store))) (length (now (c .before .before .before .before .before .before .before .before .before .before .before .before .args .payload))) (place (c .before .before .before .before .before .before .before .before .before .before .before .before)) (c .before .before .before .before .before .before .before .before .before .before .before .before .args .f .last) (keeps (c .before .before .before .before .before .before .before .before .before .before .before .before)) (joins (c .before .before .before .before .before .before .before .before .before .before .before .before)) (c .before .before .before .before .before .before .before .before .if1 .left) (c .before .before .before .before .before .before .before .if2 .left) (omega (arith, c .before .before .before .before .before .before .held-at .ensures, c .before .before .before .before .before .if3 .left)) (c .before .before .before .before .if4 .taken)) (c .before .before .finish .ensures)
 
 keep-requires : tie.Need-keep-requires
 keep-requires c κs = search needs
 
 returns-5 : tie.Need-returns-5
 returns-5 c =
-    rw (by-keep (length (now (c .before .before .before .before .before .before .before .before .before .args .store))) (length (now (c .before .before .before .before .before .before .before .before .before .args .payload))) (place (c .before .before .before .before .before .before .before .before .before)) (c .before .before .before .before .before .before .before .before .before .args .f .last) (joins (c .before .before .before .before .before .before .before .before .before)) (keeps (c .before .before .before .before .before .before .before .before .before)) (c .before .before .before .before .before .if1 .left) (c .before .before .before .before .if2 .left) (omega (arith, c .before .before .before .held-at .ensures, c .before .before .if3 .left)) (c .before .if4 .left))
+    rw (by-keep (length (now (c .before .before .before .before .before .before .before .before .before .args .store))) (length (now (c .before .before .before .before .before .before .before .before .before .args .payload))) (place (c .before .before .before .before .before .before .before .before .before)) (c .before .before .before .before .before .before .before .before .before .args .f .last) (keeps (c .before .before .before .before .before .before .before .before .before)) (joins (c .before .before .before .before .before .before .before .before .before)) (c .before .before .before .before .before .if1 .left) (c .before .before .before .before .if2 .left) (omega (arith, c .before .before .before .held-at .ensures, c .before .before .if3 .left)) (c .before .if4 .left))
     (record { answers = c .keep .ensures .0; changes = c .keep .ensures .1; puts = keep-output (lowestFreeIn (now (c .before .before .before .before .before .before .before .before .before .args .owners))) (spareRowIn (now (c .before .before .before .before .before .before .before .before .before .args .used))) (c .before .before .before .before .before .before .before .before .before .args .row) (now (c .before .before .before .before .before .before .before .before .before .args .out)) })
 
 pub choose-spec : {M : Type 1} → statement M

@@ -1,16 +1,15 @@
--- Each verdict is one of the joining rule's words, and each way out is that of `lastWay`.
+-- Each way out is that of its verdict.
 use mathlib.Core.Path.{_≡_, refl, sym, ap, _∙_}
-use mathlib.Core.List.{List}
+use mathlib.Core.List.{List, []}
 use Prim.Native.Nat.{ℕ, _≤_}
 use lib.ListN.{length}
 use denote.Ref.{now}
 use Rattle.pushing.specs.declared.Pushed.the-variants.{InconsistentMetadata, MissingFragments, MissingLastFragment}
 use Rattle.pushing.specs.declared.join.Verdict.{Verdict}
 use Rattle.pushing.specs.declared.join.Verdict.the-variants.{Message}
-use Rattle.pushing.specs.Push.{lastWay, inconsistentEnd, missingEnd, missingLastEnd}
-use Rattle.pushing.specs.Leaves.{Places, placesIn, piecesTo, joiningBy, joiningIn}
+use Rattle.pushing.specs.Push.{inconsistent, missing, missingLast}
+use Rattle.pushing.specs.Leaves.{Places, placesIn, piecesTo, verdictWay, joinWayIn}
 use Rattle.pushing.proofs.Pieces.{counted-as, pieces-size}
-use Rattle.pushing.proofs.Ways.{last-inconsistent, last-missing, last-unmarked}
 use Rattle.pushing.proofs.Ends.{ends}
 use borrow.Author.Needs.{needs}
 use Rattle.pushing.proofs.choose.finish.Statement.{statement}
@@ -28,8 +27,8 @@ module _ (c : tie.After-judge) where
   upto = piecesTo (now (start .args .sizes)) (now (start .args .owners)) (now (start .args .numbers)) (now (start .args .store)) (start .args .row) (start .args .f .number) (now (start .args .payload))
 
   as-told : (v : Verdict) → c .judge .result ≡ v
-      → lastWay (joiningIn places (now (start .args .store)) (start .args .row) (start .args .f) (now (start .args .payload))) (length (now (start .args .out))) ≡ lastWay (joiningBy v upto) (length (now (start .args .out)))
-  as-told v told = ap (λ (z : Verdict). lastWay (joiningBy z upto) (length (now (start .args .out)))) (sym (c .judge .ensures) ∙ told)
+      → joinWayIn places (now (start .args .store)) (start .args .row) (start .args .f) (now (start .args .payload)) (length (now (start .args .out))) ≡ verdictWay v upto (length (now (start .args .out)))
+  as-told v told = ap (λ (z : Verdict). verdictWay z upto (length (now (start .args .out)))) (sym (c .judge .ensures) ∙ told)
 
   -- a message's pieces, and their bytes
   all-of : (n total : ℕ) → c .judge .result ≡ Message n total → (n ≤ 256) × (total ≡ length (upto n))
@@ -69,17 +68,17 @@ complete-requires c κs =
 returns : tie.Need-returns
 returns c =
     let out = now (c .before .before .before .before .before .before .before .args .out) in
-    ends _ inconsistentEnd (as-told (c .before .before .before) _ (c .before .enum-told .given .1) ∙ last-inconsistent (length out)) (c .before .before .before .before .before .before .before .args .row) InconsistentMetadata refl (c .ended .result) (c .ended .ensures) out out refl
+    ends _ inconsistent [] (as-told (c .before .before .before) _ (c .before .enum-told .given .1)) (c .before .before .before .before .before .before .before .args .row) InconsistentMetadata refl (c .ended .result) (c .ended .ensures) out out refl
 
 returns-2 : tie.Need-returns-2
 returns-2 c =
     let out = now (c .before .before .before .before .before .before .before .args .out) in
-    ends _ missingEnd (as-told (c .before .before .before) _ (c .before .enum-told2 .given .1) ∙ last-missing (length out)) (c .before .before .before .before .before .before .before .args .row) MissingFragments refl (c .ended2 .result) (c .ended2 .ensures) out out refl
+    ends _ missing [] (as-told (c .before .before .before) _ (c .before .enum-told2 .given .1)) (c .before .before .before .before .before .before .before .args .row) MissingFragments refl (c .ended2 .result) (c .ended2 .ensures) out out refl
 
 returns-3 : tie.Need-returns-3
 returns-3 c =
     let out = now (c .before .before .before .before .before .before .before .args .out) in
-    ends _ missingLastEnd (as-told (c .before .before .before) _ (c .before .enum-told3 .given .1) ∙ last-unmarked (length out)) (c .before .before .before .before .before .before .before .args .row) MissingLastFragment refl (c .ended3 .result) (c .ended3 .ensures) out out refl
+    ends _ missingLast [] (as-told (c .before .before .before) _ (c .before .enum-told3 .given .1)) (c .before .before .before .before .before .before .before .args .row) MissingLastFragment refl (c .ended3 .result) (c .ended3 .ensures) out out refl
 
 same-length : tie.Need-same-length
 same-length c = search needs
