@@ -3,14 +3,15 @@ use mathlib.Core.Path.{refl}
 use Rattle.framing.specs.Tlv.{readTlv}
 use Rattle.walking.specs.Walk.{walkOf, walkFrom}
 use Rattle.records.specs.Reading.{readKind as readRecordKindAs, readRecord}
-use Rattle.layouts.specs.Layouts.{layoutOf}
+use Rattle.layouts.specs.Layouts.{layoutOf, isList}
 use Rattle.layouts.specs.Reading.{countAt, listOf, entriesEnd, endOf, readAs, readValue}
-use Rattle.kinds.specs.Kinds.{readRecordKind, readKind}
+use Rattle.layouts.specs.Access.{childAt, findEntry, spanOf, ofValue, locateEntry}
+use Rattle.kinds.specs.Kinds.{readKind, locateKind}
 use Rattle.orders.proofs.Examples.{stays-at-2999, goes-at-3000, zero-then-last-one, last-one-alone}
 use Rattle.examples.specs.Examples.{Examples}
 
 pub examples : Examples
-unfolding readTlv walkOf walkFrom readRecordKindAs readRecord layoutOf countAt listOf entriesEnd endOf readAs readValue readRecordKind readKind
+unfolding readTlv walkOf walkFrom readRecordKindAs readRecord layoutOf isList countAt listOf entriesEnd endOf readAs readValue childAt findEntry spanOf ofValue locateEntry readKind locateKind
 examples = record {
   empty = refl;
   two-bytes = refl;
@@ -19,6 +20,7 @@ examples = record {
   read = refl;
   value = refl;
   no-tlvs = refl;
+  the-21 = refl;
   joined = refl;
   left = refl;
   neither = refl;
@@ -26,6 +28,40 @@ examples = record {
   reserved-profile = refl;
   capability = refl;
   cut-entry = refl;
+  al-mac-address = refl;
+  end-of-message = refl;
+  no-end-of-message = refl;
+  mac-address = refl;
+  searched-role = refl;
+  supported-role = refl;
+  band = refl;
+  version = refl;
+  result-code = refl;
+  query-of-all = refl;
+  query-of-one = refl;
+  association-left-over = refl;
+  profile = refl;
+  capability-left-over = refl;
+  supported-service = refl;
+  agent = refl;
+  non-1905-neighbours = refl;
+  last-plain-neighbour = refl;
+  ieee1905-neighbours = refl;
+  cut-neighbour = refl;
+  last-neighbour = refl;
+  ipv4-interfaces = refl;
+  last-ipv4 = refl;
+  ipv6-interfaces = refl;
+  last-ipv6 = refl;
+  bridging = refl;
+  last-bridged = refl;
+  operational-radios = refl;
+  last-letter = refl;
+  configured-radios = refl;
+  last-letter-configured = refl;
+  l2-neighbours = refl;
+  l2-left-over = refl;
+  last-beyond = refl;
   stays = λ store p i more. stays-at-2999 store (i .long) p (i .lent) (i .small) more;
   goes = λ store p i more. goes-at-3000 store (i .long) p (i .lent) (i .small) more;
   completes = λ store p q i j z.

@@ -1,35 +1,34 @@
--- How firm each answer is: any two answers that a contract of this crate allows are one.
+-- No two answers are told alike.
 use mathlib.Core.Path.{_≡_, refl, sym, ap, _∙_}
-use mathlib.Core.Bool.{cond}
-use mathlib.Core.List.{List, _∷_}
+use mathlib.Core.List.{_∷_}
 use Prim.Native.Nat.{ℕ, suc}
 use native.Mathlib.Omega.{arith}
-use lib.Dec.{eqb}
 use lib.ListN.{length}
 use Rattle.numbers.specs.Numbers.{gives, refuses, number, values}
 use Rattle.numbers.specs.declared.Refusal.{Refusal}
-use Rattle.numbers.specs.declared.Refusal.the-variants.{TooFewBytes, RunsPastEnd, CutShort, LeftOver, BadValue, NoEntry, NoRoom, ValueTooLong, NeverRead, TableFull, StoreTooSmall, PayloadTooLong, OutputTooSmall, ListTooShort, NotFound, UnknownKind}
-use Rattle.numbers.proofs.Firm.{firm, firm-numbered, never}
-use Rattle.kinds.specs.Kinds.{Held, one, list}
+use Rattle.numbers.proofs.Firm.{firm, firm-numbered, so-many, never}
+use Rattle.numbers.proofs.Answers.{given}
+use Rattle.records.specs.declared.Record.{Record}
+use Rattle.kinds.specs.Kinds.{Contents, one, list}
 use Rattle.walking.specs.declared.Tlv.{Tlv}
 use Rattle.finding.specs.declared.Found.{Found}
 use Rattle.finding.specs.declared.Found.the-variants as Found
 use Rattle.finding.specs.declared.Searched.{Searched}
 use Rattle.finding.specs.declared.Searched.the-variants as Searched
-use Rattle.finding.specs.Finding.{Hit, foundOf, searchedOf, findFrom, findInPayload}
+use Rattle.finding.specs.Finding.{Hit, foundOf, searchedOf}
 
 -- what was found is one, part by part
-record Same (i i′ : ℕ) (t t′ : Tlv) (h h′ : Held) (c c′ n n′ : ℕ) : Type 0 where
+record Same (i i′ : ℕ) (t t′ : Tlv) (h h′ : Contents Record) (c c′ n n′ : ℕ) : Type 0 where
   place : i ≡ i′
   tlv : t ≡ t′
   held : h ≡ h′
   consumed : c ≡ c′
   rest : n ≡ n′
 
-abbrev hitOf : ℕ → Tlv → Held → ℕ → ℕ → Hit
+abbrev hitOf : ℕ → Tlv → Contents Record → ℕ → ℕ → Hit
 hitOf i t h c n = record { place = i; tlv = t; reading = record { held = h; consumed = c; rest = n } }
 
-parts : (i i′ : ℕ) (t t′ : Tlv) (h h′ : Held) (c c′ n n′ : ℕ) → gives (hitOf i t h c n) ≡ gives (hitOf i′ t′ h′ c′ n′) → Same i i′ t t′ h h′ c c′ n n′
+parts : (i i′ : ℕ) (t t′ : Tlv) (h h′ : Contents Record) (c c′ n n′ : ℕ) → gives (hitOf i t h c n) ≡ gives (hitOf i′ t′ h′ c′ n′) → Same i i′ t t′ h h′ c c′ n n′
 parts i i′ t t′ h h′ c c′ n n′ e =
     let p : hitOf i t h c n ≡ hitOf i′ t′ h′ c′ n′ = cc in
     record {
@@ -40,7 +39,7 @@ parts i i′ t t′ h h′ c c′ n n′ e =
       rest = ap (λ (x : Hit). x .reading .rest) p;
     }
 
-found-one : (a b : Found) → foundOf a ≡ foundOf b → a ≡ b
+pub found-one : (a b : Found) → foundOf a ≡ foundOf b → a ≡ b
 found-one (Found.Record i t r c n) (Found.Record i′ t′ r′ c′ n′) e =
     let p = parts i i′ t t′ (one r) (one r′) c c′ n n′ e in
     let same : one r ≡ one r′ = p .held in
@@ -59,42 +58,18 @@ found-one (Found.Refused f) (Found.Record i t r c n) e = never _ _ _ (sym e)
 found-one (Found.Refused f) (Found.List i t m c n) e = never _ _ _ (sym e)
 found-one (Found.Refused f) (Found.Refused f′) e = ap Found.Refused (firm Hit f f′ e)
 
-pub find-firm : (code : ℕ) (tlvs : List Tlv) (payload : List ℕ) (from : ℕ) (a b : Found) → foundOf a ≡ findFrom code tlvs payload from → foundOf b ≡ findFrom code tlvs payload from → a ≡ b
-find-firm code tlvs payload from a b p q = found-one a b (p ∙ sym q)
-
--- a walk's refusal is none of `find`'s answers: beside a number stand always so many values
-abbrev sized : ℕ → ℕ
-sized n = cond (eqb n 13) 1 0
-
-has-size : (r : Refusal) → length (values r) ≡ sized (number r)
-has-size TooFewBytes = refl
-has-size RunsPastEnd = refl
-has-size CutShort = refl
-has-size LeftOver = refl
-has-size BadValue = refl
-has-size NoEntry = refl
-has-size NoRoom = refl
-has-size ValueTooLong = refl
-has-size NeverRead = refl
-has-size TableFull = refl
-has-size StoreTooSmall = refl
-has-size PayloadTooLong = refl
-has-size (OutputTooSmall n) = refl
-has-size ListTooShort = refl
-has-size NotFound = refl
-has-size UnknownKind = refl
-
+-- a walk's refusal is none of `find`'s answers: it has a value more
 apart : {X : Type 0} (r : Refusal) (at : ℕ) (f : Found) → refuses (number r) (at ∷ values r) ≡ foundOf f → X
 apart r at (Found.Record i t q c n) e = never _ _ _ (sym e)
 apart r at (Found.List i t m c n) e = never _ _ _ (sym e)
 apart r at (Found.Refused f) e =
     let n : number r ≡ number f = cc in
     let v : at ∷ values r ≡ values f = cc in
-    let s : length (values r) ≡ length (values f) = has-size r ∙ ap sized n ∙ sym (has-size f) in
+    let s : length (values r) ≡ length (values f) = so-many r f n in
     let l : suc (length (values r)) ≡ length (values f) = ap length v in
     absurd (omega arith)
 
-searched-one : (a b : Searched) → searchedOf a ≡ searchedOf b → a ≡ b
+pub searched-one : (a b : Searched) → searchedOf a ≡ searchedOf b → a ≡ b
 searched-one (Searched.Unwalked g at) (Searched.Unwalked g′ at′) e =
     let n : number g ≡ number g′ = cc in
     let v : values g ≡ values g′ = cc in
@@ -103,6 +78,3 @@ searched-one (Searched.Unwalked g at) (Searched.Unwalked g′ at′) e =
 searched-one (Searched.Unwalked g at) (Searched.Answered f) e = apart g at f e
 searched-one (Searched.Answered f) (Searched.Unwalked g at) e = apart g at f (sym e)
 searched-one (Searched.Answered f) (Searched.Answered f′) e = ap Searched.Answered (found-one f f′ e)
-
-pub find-in-payload-firm : (code : ℕ) (payload : List ℕ) (from : ℕ) (a b : Searched) → searchedOf a ≡ findInPayload code payload from → searchedOf b ≡ findInPayload code payload from → a ≡ b
-find-in-payload-firm code payload from a b p q = searched-one a b (p ∙ sym q)

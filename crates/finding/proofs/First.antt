@@ -6,17 +6,15 @@ use Prim.Native.Nat.{ℕ, zero, suc, _+_, _-_, _≤_, _<_}
 use native.Mathlib.Omega.{arith}
 use lib.ListN.{length, getD, drop, length-drop}
 use lib.Seq.{getD-drop}
-use Rattle.numbers.specs.Numbers.{Answer, gives, refuses}
-use Rattle.kinds.specs.Kinds.{Typed}
+use Rattle.numbers.specs.Numbers.{Answer, gives, refuses, isGiven}
+use Rattle.records.specs.declared.Record.{Record}
+use Rattle.kinds.specs.Kinds.{isKind, Typed}
 use Rattle.walking.specs.declared.Tlv.{Tlv}
 use Rattle.walking.specs.Walk.{noTlv}
-use Rattle.finding.specs.Finding.{Hit, isGiven, isKind, readsAs, thereOr, firstOf, findFrom}
+use Rattle.finding.specs.Finding.{Hit, readsAs, thereOr, firstOf, findFrom}
+use Rattle.finding.specs.Claims.{readsAt, IsFirst}
 
 module _ (code : ℕ) (payload : List ℕ) where
-  -- does the record at place k of these read?
-  abbrev pub readsAt : List Tlv → ℕ → Bool
-  readsAt ts k = isGiven (readsAs code payload (getD ts k noTlv))
-
   -- h is record number k of these, which stand in the list from `place` on
   record Nth (place : ℕ) (ts : List Tlv) (h : Hit) : Type 0 where
     k : ℕ
@@ -24,14 +22,14 @@ module _ (code : ℕ) (payload : List ℕ) where
     there : k < length ts
     is : getD ts k noTlv ≡ h .tlv
     reads : gives (h .reading) ≡ readsAs code payload (h .tlv)
-    before : (j : ℕ) → j < k → readsAt ts j ≡ false
+    before : (j : ℕ) → j < k → readsAt code payload ts j ≡ false
 
   nth : (place : ℕ) (ts : List Tlv) (h : Hit) → gives h ≡ firstOf code payload place ts → Nth place ts h
   unfolding firstOf
   nth place [] h e = let z : _≡_ {A = ℕ} 0 1 = cc in absurd (omega arith)
   nth place (t ∷ ts) h e = by-reading (readsAs code payload t) refl e (nth (place + 1) ts h)
     where
-      by-reading : (x : Answer Typed) → x ≡ readsAs code payload t → gives h ≡ thereOr x place t (firstOf code payload (place + 1) ts)
+      by-reading : (x : Answer (Typed Record)) → x ≡ readsAs code payload t → gives h ≡ thereOr x place t (firstOf code payload (place + 1) ts)
           → (gives h ≡ firstOf code payload (place + 1) ts → Nth (place + 1) ts h) → Nth place (t ∷ ts) h
       by-reading (gives r) f e on =
           let p : h ≡ record { place = place; tlv = t; reading = r } = cc in
@@ -54,17 +52,17 @@ module _ (code : ℕ) (payload : List ℕ) where
             before = earlier (h′ .k) (h′ .before);
           }
         where
-          earlier : (k : ℕ) → ((j : ℕ) → j < k → readsAt ts j ≡ false) → (j : ℕ) → j < suc k → readsAt (t ∷ ts) j ≡ false
+          earlier : (k : ℕ) → ((j : ℕ) → j < k → readsAt code payload ts j ≡ false) → (j : ℕ) → j < suc k → readsAt code payload (t ∷ ts) j ≡ false
           earlier k before zero l = ap isGiven (sym f)
           earlier k before (suc j) l = before j (omega arith)
 
-  none-reads : (place : ℕ) (ts : List Tlv) (n : ℕ) (vs : List ℕ) → refuses n vs ≡ firstOf code payload place ts → (j : ℕ) → j < length ts → readsAt ts j ≡ false
+  none-reads : (place : ℕ) (ts : List Tlv) (n : ℕ) (vs : List ℕ) → refuses n vs ≡ firstOf code payload place ts → (j : ℕ) → j < length ts → readsAt code payload ts j ≡ false
   unfolding firstOf
   none-reads place [] n vs e j l = absurd (omega arith)
   none-reads place (t ∷ ts) n vs e j l = by-reading (readsAs code payload t) refl e (none-reads (place + 1) ts n vs) j l
     where
-      by-reading : (x : Answer Typed) → x ≡ readsAs code payload t → refuses n vs ≡ thereOr x place t (firstOf code payload (place + 1) ts)
-          → (refuses n vs ≡ firstOf code payload (place + 1) ts → (j : ℕ) → j < length ts → readsAt ts j ≡ false) → (j : ℕ) → j < length (t ∷ ts) → readsAt (t ∷ ts) j ≡ false
+      by-reading : (x : Answer (Typed Record)) → x ≡ readsAs code payload t → refuses n vs ≡ thereOr x place t (firstOf code payload (place + 1) ts)
+          → (refuses n vs ≡ firstOf code payload (place + 1) ts → (j : ℕ) → j < length ts → readsAt code payload ts j ≡ false) → (j : ℕ) → j < length (t ∷ ts) → readsAt code payload (t ∷ ts) j ≡ false
       by-reading (gives r) f e on j l = let z : _≡_ {A = ℕ} 0 1 = cc in absurd (omega arith)
       by-reading (refuses m us) f e on zero l = ap isGiven (sym f)
       by-reading (refuses m us) f e on (suc j) l = on e j (omega arith)
@@ -75,20 +73,12 @@ module _ (code : ℕ) (payload : List ℕ) where
   unchanged place [] us h e = let z : _≡_ {A = ℕ} 0 1 = cc in absurd (omega arith)
   unchanged place (t ∷ ts) us h e = by-reading (readsAs code payload t) e (unchanged (place + 1) ts us h)
     where
-      by-reading : (x : Answer Typed) → gives h ≡ thereOr x place t (firstOf code payload (place + 1) ts)
+      by-reading : (x : Answer (Typed Record)) → gives h ≡ thereOr x place t (firstOf code payload (place + 1) ts)
           → (gives h ≡ firstOf code payload (place + 1) ts → gives h ≡ firstOf code payload (place + 1) (ts ++ us)) → gives h ≡ thereOr x place t (firstOf code payload (place + 1) (ts ++ us))
       by-reading (gives r) e on = e
       by-reading (refuses n vs) e on = on e
 
   module _ (ys : List Tlv) (from : ℕ) where
-    -- the answer is the first at `from` or behind it that reads
-    pub record IsFirst (h : Hit) : Type 0 where
-      pub behind : from ≤ h .place
-      pub there : h .place < length ys
-      pub is : getD ys (h .place) noTlv ≡ h .tlv
-      pub reads : gives (h .reading) ≡ readsAs code payload (h .tlv)
-      pub first : (k : ℕ) → from ≤ k → k < h .place → readsAt ys k ≡ false
-
     at-place : (k : ℕ) → getD (drop from ys) k noTlv ≡ getD ys (from + k) noTlv
     at-place k = getD-drop from ys k noTlv
 
@@ -96,7 +86,7 @@ module _ (code : ℕ) (payload : List ℕ) where
     of-kind true x h e = e
     of-kind false x h e = let z : _≡_ {A = ℕ} 0 1 = cc in absurd (omega arith)
 
-    pub is-first : (h : Hit) → gives h ≡ findFrom code ys payload from → IsFirst h
+    pub is-first : (h : Hit) → gives h ≡ findFrom code ys payload from → IsFirst code payload ys from h
     unfolding findFrom
     is-first h e =
         let n = nth from (drop from ys) h (of-kind (isKind code) _ h e) in
@@ -111,7 +101,7 @@ module _ (code : ℕ) (payload : List ℕ) where
         }
 
     -- 15: none of them reads
-    pub none-there : isKind code ≡ true → refuses 15 [] ≡ findFrom code ys payload from → (k : ℕ) → from ≤ k → k < length ys → readsAt ys k ≡ false
+    pub none-there : isKind code ≡ true → refuses 15 [] ≡ findFrom code ys payload from → (k : ℕ) → from ≤ k → k < length ys → readsAt code payload ys k ≡ false
     unfolding findFrom
     none-there kind e k l m =
         let s : from + (k - from) ≡ k = omega arith in

@@ -1,7 +1,6 @@
 pub mod All
-pub mod Among
 pub mod Branch
-pub mod Examples
+pub mod Claims
 pub mod Firm
 pub mod First
 pub mod Looking

@@ -9,21 +9,18 @@ use lib.Dec.{eqb}
 use lib.ListN.{length, take, drop, getD, length-drop}
 use lib.Seq.{getD-drop, drop-drop}
 use borrow.Author.Tests.{le-leb}
-use Rattle.numbers.specs.Numbers.{Answer, gives, refuses}
+use Rattle.numbers.specs.Numbers.{Answer, gives, refuses, andThen}
 use Rattle.framing.specs.Tlv.{TlvRead, readTlv, declared, valueIn}
 use Rattle.framing.proofs.Reading.{whole}
-use Rattle.kinds.specs.Kinds.{Typed, readKind}
+use Rattle.records.specs.declared.Record.{Record}
+use Rattle.kinds.specs.Kinds.{isKind, Typed, readKind}
 use Rattle.walking.specs.declared.Tlv.{Tlv}
 use Rattle.walking.specs.Walk.{walkOf, filled, noTlv}
 use Rattle.walking.specs.Steps.{recordAt}
 use Rattle.walking.proofs.Chained.{Chained, none, more, Inside, of-walk, inside}
-use Rattle.finding.specs.Finding.{Hit, isKind, readsAs, findFrom, firstOf, findInPayload}
+use Rattle.finding.specs.Finding.{Hit, readsAs, findFrom, firstOf, findInPayload}
+use Rattle.finding.specs.Claims.{tlvAs}
 use Rattle.finding.proofs.First.{is-first, unchanged}
-
--- what the TLV at the start of s reads as, if it is of the kind
-abbrev pub tlvAs : ℕ → Answer TlvRead → List ℕ → Answer Typed
-tlvAs code (gives t) s = cond (eqb (t .tlv-type) code) (readKind code (valueIn (gives t) s)) (refuses 15 [])
-tlvAs code (refuses n vs) s = refuses n vs
 
 module _ (p : List ℕ) where
   -- a record of the walk is the one that stands at its offset
@@ -32,11 +29,11 @@ module _ (p : List ℕ) where
   stands (more k c) zero h = refl
   stands (more k c) (suc i) h = stands c i (omega arith)
 
-  by-code : (b : Bool) (x : Answer Typed) → cond (cond b true false) x (refuses 15 []) ≡ cond b x (refuses 15 [])
+  by-code : (b : Bool) (x : Answer (Typed Record)) → cond (cond b true false) x (refuses 15 []) ≡ cond b x (refuses 15 [])
   by-code true x = refl
   by-code false x = refl
 
-  here : (code at : ℕ) → Inside p (recordAt p at) → readsAs code p (recordAt p at) ≡ tlvAs code (readTlv (drop at p)) (drop at p)
+  here : (code at : ℕ) → Inside p (recordAt p at) → readsAs code p (recordAt p at) ≡ tlvAs code (drop at p)
   unfolding readsAs
   here code at i =
       let s : List ℕ = drop at p in
@@ -49,21 +46,21 @@ module _ (p : List ℕ) where
       ∙ by-code (eqb (getD p at 0) code) (readKind code (take n (drop (at + 3) p)))
       ∙ ap (λ (l : List ℕ). cond (eqb (getD p at 0) code) (readKind code (take n l)) (refuses 15 [])) (sym (drop-drop 3 at p))
       ∙ ap (λ (k : ℕ). cond (eqb k code) (readKind code (take n (drop 3 s))) (refuses 15 [])) (sym b)
-      ∙ ap (λ (x : Answer TlvRead). tlvAs code x s) e
+      ∙ ap (λ (x : Answer TlvRead). andThen x (λ t. cond (eqb (t .tlv-type) code) (readKind code (valueIn (gives t) s)) (refuses 15 []))) e
 
   pub as-tlv : (code k : ℕ) → k < length (walkOf p .tlvs)
-      → readsAs code p (getD (walkOf p .tlvs) k noTlv) ≡ tlvAs code (readTlv (drop (getD (walkOf p .tlvs) k noTlv .offset) p)) (drop (getD (walkOf p .tlvs) k noTlv .offset) p)
+      → readsAs code p (getD (walkOf p .tlvs) k noTlv) ≡ tlvAs code (drop (getD (walkOf p .tlvs) k noTlv .offset) p)
   as-tlv code k l =
       let t : Tlv = getD (walkOf p .tlvs) k noTlv in
       let e : t ≡ recordAt p (t .offset) = stands (of-walk p) k l in
       ap (readsAs code p) e ∙ here code (t .offset) (subst (Inside p) e (inside p (of-walk p) k l))
 
   -- what is found among the walk's records is the TLV of that number, read where it stands
-  pub found-is-tlv : (code from : ℕ) (h : Hit) → gives h ≡ findFrom code (walkOf p .tlvs) p from → gives (h .reading) ≡ tlvAs code (readTlv (drop (h .tlv .offset) p)) (drop (h .tlv .offset) p)
+  pub found-is-tlv : (code from : ℕ) (h : Hit) → gives h ≡ findFrom code (walkOf p .tlvs) p from → gives (h .reading) ≡ tlvAs code (drop (h .tlv .offset) p)
   found-is-tlv code from h e =
       let f = is-first code p (walkOf p .tlvs) from h e in
       f .reads ∙ ap (readsAs code p) (sym (f .is)) ∙ as-tlv code (h .place) (f .there)
-      ∙ ap (λ (t : Tlv). tlvAs code (readTlv (drop (t .offset) p)) (drop (t .offset) p)) (f .is)
+      ∙ ap (λ (t : Tlv). tlvAs code (drop (t .offset) p)) (f .is)
 
   -- a list that is longer than the walk's, as `walk_into` leaves it, gives the same, if the payload has one
   by-kind : (code : ℕ) (us : List Tlv) (h : Hit) (b : Bool) → gives h ≡ cond b (firstOf code p 0 (walkOf p .tlvs)) (refuses 16 []) → gives h ≡ cond b (firstOf code p 0 (walkOf p .tlvs ++ us)) (refuses 16 [])

@@ -7,19 +7,20 @@ use native.Mathlib.Omega.{arith}
 use native.Mathlib.Numerals.{add-one}
 use lib.ListN.{length, getD, drop, drop-of-length-le}
 use lib.Seq.{drop-cons}
-use Rattle.numbers.specs.Numbers.{Answer, gives, refuses}
-use Rattle.kinds.specs.Kinds.{Typed}
+use Rattle.numbers.specs.Numbers.{Answer, gives, refuses, isGiven}
+use Rattle.records.specs.declared.Record.{Record}
+use Rattle.kinds.specs.Kinds.{isKind, Typed}
 use Rattle.walking.specs.declared.Tlv.{Tlv}
 use Rattle.walking.specs.Walk.{noTlv}
-use Rattle.finding.specs.Finding.{Hit, isGiven, isKind, readsAs, thereOr, isCandidate, firstOf, findFrom}
-use Rattle.finding.proofs.Looking.{miss, of-a-kind}
+use Rattle.finding.specs.Finding.{Hit, readsAs, thereOr, firstOf, findFrom}
+use Rattle.finding.proofs.Looking.{of-a-kind}
 
 -- what a look at a record answers: it, or 15
 abbrev pub Says : ℕ → List ℕ → Tlv → ℕ → Answer Hit → Type 0
 Says code payload t place a = a ≡ thereOr (readsAs code payload t) place t (refuses 15 [])
 
 -- the answer, if it is one, and else what is found behind the record
-pub or-behind : (x : Answer Typed) (place : ℕ) (t : Tlv) (a : Answer Hit) → a ≡ thereOr x place t (refuses 15 []) → (behind : Answer Hit) → cond (isGiven a) a behind ≡ thereOr x place t behind
+pub or-behind : (x : Answer (Typed Record)) (place : ℕ) (t : Tlv) (a : Answer Hit) → a ≡ thereOr x place t (refuses 15 []) → (behind : Answer Hit) → cond (isGiven a) a behind ≡ thereOr x place t behind
 or-behind (gives r) place t a e behind = rw e
 or-behind (refuses n vs) place t a e behind = rw e
 
@@ -52,7 +53,7 @@ module _ (code : ℕ) (payload : List ℕ) (ys : List Tlv) (from : ℕ) where
     goes-on l a says h = record { same = ap (λ (b : Bool). cond b a (firstOf code payload (i + 1) (drop (i + 1) ys))) (sym h) ∙ looked l a says }
 
     -- a hit is of a kind, so that 16 is not to be answered
-    by-reading : (x : Answer Typed) → x ≡ readsAs code payload (getD ys i noTlv) → (a : Answer Hit) → a ≡ thereOr x i (getD ys i noTlv) (refuses 15 []) → isGiven a ≡ true → true ≡ isKind code
+    by-reading : (x : Answer (Typed Record)) → x ≡ readsAs code payload (getD ys i noTlv) → (a : Answer Hit) → a ≡ thereOr x i (getD ys i noTlv) (refuses 15 []) → isGiven a ≡ true → true ≡ isKind code
     by-reading (gives r) e a says h = of-a-kind code payload (getD ys i noTlv) r e
     by-reading (refuses n vs) e a says h =
         let no : isGiven a ≡ false = ap isGiven says in
@@ -70,11 +71,3 @@ module _ (code : ℕ) (payload : List ℕ) (ys : List Tlv) (from : ℕ) where
     missed l a e =
         let z : drop i ys ≡ [] = drop-of-length-le ys l in
         e ∙ ap (λ (x : Answer Hit). cond (isKind code) x (refuses 16 [])) (sym (first-nil code payload i) ∙ ap (firstOf code payload i) (sym z) ∙ f .same)
-
-    -- the same by a test of the record, and what is found from it on
-    pub passed-over : i < length ys → isCandidate code (length payload) (getD ys i noTlv) ≡ false → Passed code payload ys from (i + 1)
-    passed-over l e = goes-on l (refuses 15 []) (miss code payload (getD ys i noTlv) i e) refl
-
-    pub from-here : findFrom code ys payload i ≡ findFrom code ys payload from
-    unfolding findFrom
-    from-here = ap (λ (x : Answer Hit). cond (isKind code) x (refuses 16 [])) (f .same)

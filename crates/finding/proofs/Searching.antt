@@ -9,14 +9,16 @@ use lib.Dec.{ltb}
 use lib.ListN.{length, drop, getD, length-drop, drop-of-length-le}
 use lib.Seq.{drop-drop, getD-drop}
 use borrow.Author.Tests.{ltb-true, ltb-false}
-use Rattle.numbers.specs.Numbers.{Answer, gives, refuses}
+use Rattle.numbers.specs.Numbers.{Answer, gives, refuses, andThen, isGiven}
+use Rattle.numbers.proofs.Firm.{never}
+use Rattle.records.specs.declared.Record.{Record}
 use Rattle.framing.specs.Tlv.{TlvRead, readTlv}
 use Rattle.framing.proofs.Reading.{reads}
-use Rattle.kinds.specs.Kinds.{Typed}
+use Rattle.kinds.specs.Kinds.{isKind, Typed}
 use Rattle.walking.specs.declared.Tlv.{Tlv}
 use Rattle.walking.specs.Walk.{Walk, step, walkFrom, walkOf, countOr, counted}
 use Rattle.walking.proofs.Walking.{at-end, turn}
-use Rattle.finding.specs.Finding.{Hit, isGiven, isKind, readsAs, thereOr, firstOf, findFrom, walkedOr, findInPayload}
+use Rattle.finding.specs.Finding.{Hit, readsAs, thereOr, firstOf, findFrom, findInPayload}
 use Rattle.finding.proofs.Passing.{first-nil, first-cons, or-behind}
 
 -- what a look at the record at this place answers
@@ -24,7 +26,7 @@ abbrev pub SaysFrom : ℕ → List ℕ → Tlv → ℕ → ℕ → Answer Hit �
 SaysFrom code p t place from a = a ≡ cond (ltb place from) (refuses 15 []) (thereOr (readsAs code p t) place t (refuses 15 []))
 
 -- the answer, if it is one, and else what is found behind the record
-from-behind : (b : Bool) (x : Answer Typed) (place : ℕ) (t : Tlv) (a : Answer Hit) → a ≡ cond b (refuses 15 []) (thereOr x place t (refuses 15 [])) → (behind : Answer Hit)
+from-behind : (b : Bool) (x : Answer (Typed Record)) (place : ℕ) (t : Tlv) (a : Answer Hit) → a ≡ cond b (refuses 15 []) (thereOr x place t (refuses 15 [])) → (behind : Answer Hit)
     → cond (isGiven a) a behind ≡ cond b behind (thereOr x place t behind)
 from-behind true x place t a e behind = rw e
 from-behind false x place t a e behind = or-behind x place t a e behind
@@ -140,17 +142,17 @@ module _ (code : ℕ) (p : List ℕ) (from : ℕ) where
   unfolding findInPayload
   no-kind e = rw e
 
-  end-refused : (end : Answer ℕ) (m n : ℕ) (vs : List ℕ) (x : Answer Hit) → refuses n vs ≡ countOr end (gives m) → refuses n vs ≡ walkedOr end x
-  end-refused (gives at) m n vs x e = let z : _≡_ {A = ℕ} 0 1 = cc in absurd (omega arith)
+  end-refused : (end : Answer ℕ) (m n : ℕ) (vs : List ℕ) (x : Answer Hit) → refuses n vs ≡ countOr end (gives m) → refuses n vs ≡ andThen end (λ at. x)
+  end-refused (gives at) m n vs x e = never _ _ _ (sym e)
   end-refused (refuses k us) m n vs x e = let i : n ≡ k = cc in let j : vs ≡ us = cc in rw (i, j)
 
   pub unwalked : isKind code ≡ true → (n : ℕ) (vs : List ℕ) → refuses n vs ≡ counted (walkOf p) → refuses n vs ≡ findInPayload code p from
   unfolding findInPayload
   unwalked e n vs c = rw e (end-refused (walkOf p .end) (length (walkOf p .tlvs)) n vs _ c)
 
-  end-given : (end : Answer ℕ) (m n : ℕ) (x : Answer Hit) → gives n ≡ countOr end (gives m) → x ≡ walkedOr end x
+  end-given : (end : Answer ℕ) (m n : ℕ) (x : Answer Hit) → gives n ≡ countOr end (gives m) → x ≡ andThen end (λ at. x)
   end-given (gives at) m n x e = refl
-  end-given (refuses k us) m n x e = let z : _≡_ {A = ℕ} 0 1 = cc in absurd (omega arith)
+  end-given (refuses k us) m n x e = never _ _ _ e
 
   pub walked : isKind code ≡ true → (n : ℕ) → gives n ≡ counted (walkOf p) → (a : Answer Hit) → a ≡ firstOf code p from (drop from (walkOf p .tlvs)) → a ≡ findInPayload code p from
   unfolding findInPayload findFrom

@@ -1,17 +1,14 @@
 -- Finding: "over a lent list of TLV records and their payload, the answer is the first record with the kind's code whose value reads; the value is taken
 -- 3 bytes behind the record's offset, without another look at the header. Records that don't read, or lie outside the payload, are passed over."
 -- (document 01, "The 21 kinds")
-use mathlib.Core.Bool.{Bool, true, false, cond}
+use mathlib.Core.Bool.{Bool, false, cond}
 use mathlib.Core.List.{List, [], _∷_}
 use Prim.Native.Nat.{ℕ, _+_}
 use lib.Dec.{eqb, leb}
 use lib.ListN.{length, take, drop}
-use Rattle.numbers.specs.Numbers.{Answer, gives, refuses, told, number, values}
+use Rattle.numbers.specs.Numbers.{Answer, gives, refuses, told, number, values, andThen}
 use Rattle.records.specs.declared.Record.{Record}
-use Rattle.records.specs.Kinds.{kinds}
-use Rattle.records.specs.Reading.{withCode, readRecord}
-use Rattle.layouts.specs.Layouts.{layoutOf}
-use Rattle.kinds.specs.Kinds.{Typed, one, list, readKind}
+use Rattle.kinds.specs.Kinds.{isKind, Typed, one, list, readKind}
 use Rattle.walking.specs.declared.Tlv.{Tlv}
 use Rattle.walking.specs.Walk.{walkOf}
 use Rattle.finding.specs.declared.Found.{Found}
@@ -23,21 +20,13 @@ use Rattle.finding.specs.declared.Searched.the-variants as Searched
 pub record Hit : Type 0 where
   pub place : ℕ
   pub tlv : Tlv
-  pub reading : Typed
+  pub reading : Typed Record
 
 -- what each answer of `find` says
 abbrev pub foundOf : Found → Answer Hit
 foundOf (Found.Record i t r c n) = gives (record { place = i; tlv = t; reading = record { held = one r; consumed = c; rest = n } })
 foundOf (Found.List i t m c n) = gives (record { place = i; tlv = t; reading = record { held = list m; consumed = c; rest = n } })
 foundOf (Found.Refused r) = told r
-
--- a code among the 21: it has a line in the table of the nine list kinds, or it is the code of one of the twelve that are records
-abbrev pub isGiven : {A : Type 0} → Answer A → Bool
-isGiven (gives a) = true
-isGiven (refuses n vs) = false
-
-abbrev pub isKind : ℕ → Bool
-isKind code = cond (isGiven (layoutOf code)) true (isGiven (withCode code kinds))
 
 -- a record that has the code and lies inside a payload of this size. The sum is one of whole numbers.
 abbrev pub isCandidate : ℕ → ℕ → Tlv → Bool
@@ -47,15 +36,11 @@ isCandidate code size t = cond (eqb (t .«tlv_type») code) (leb (t .offset + 3 
 abbrev pub valueOf : List ℕ → Tlv → List ℕ
 valueOf payload t = take (t .length) (drop (t .offset + 3) payload)
 
-unfoldable pub readsAs : ℕ → List ℕ → Tlv → Answer Typed
+unfoldable pub readsAs : ℕ → List ℕ → Tlv → Answer (Typed Record)
 readsAs code payload t = cond (isCandidate code (length payload) t) (readKind code (valueOf payload t)) (refuses 15 [])
 
--- whether it reads as a record
-abbrev pub readsRecord : ℕ → List ℕ → Tlv → Bool
-readsRecord code payload t = cond (isCandidate code (length payload) t) (isGiven (readRecord code (valueOf payload t))) false
-
 -- the record t at a place, if it reads as said; or what is found behind it
-abbrev pub thereOr : Answer Typed → ℕ → Tlv → Answer Hit → Answer Hit
+abbrev pub thereOr : Answer (Typed Record) → ℕ → Tlv → Answer Hit → Answer Hit
 thereOr (gives r) place t behind = gives (record { place = place; tlv = t; reading = r })
 thereOr (refuses n vs) place t behind = behind
 
@@ -73,10 +58,6 @@ abbrev pub searchedOf : Searched → Answer Hit
 searchedOf (Searched.Unwalked r at) = refuses (number r) (at ∷ values r)
 searchedOf (Searched.Answered f) = foundOf f
 
-abbrev pub walkedOr : Answer ℕ → Answer Hit → Answer Hit
-walkedOr (gives end) found = found
-walkedOr (refuses n vs) found = refuses n vs
-
 unfoldable pub findInPayload : ℕ → List ℕ → ℕ → Answer Hit
 findInPayload code payload from =
-    cond (isKind code) (walkedOr (walkOf payload .end) (findFrom code (walkOf payload .tlvs) payload from)) (refuses 16 [])
+    cond (isKind code) (andThen (walkOf payload .end) (λ end. findFrom code (walkOf payload .tlvs) payload from)) (refuses 16 [])

@@ -2,7 +2,6 @@
 use framing::Read;
 use kinds::KindRead;
 use numbers::Refusal;
-use records::Measured;
 use records::Record;
 use walking::Tlv;
 use walking::Walked;
@@ -12,10 +11,10 @@ ghost use lib.Dec.{ltb};
 ghost use Prim.Native.Nat.{_+_, _≤_};
 ghost use lib.ListN.{length, drop};
 ghost use mathlib.Core.List.{[]};
-ghost use Rattle.numbers.specs.Numbers.{refuses};
+ghost use Rattle.numbers.specs.Numbers.{refuses, isGiven};
 ghost use Rattle.walking.specs.Walk.{walkOf};
-ghost use Rattle.kinds.specs.Kinds.{kindReadOf};
-ghost use Rattle.finding.specs.Finding.{foundOf, searchedOf, isGiven, isKind, isCandidate, readsRecord, valueOf, readsAs, thereOr, firstOf, findFrom, findInPayload};
+ghost use Rattle.kinds.specs.Kinds.{isKind, kindReadOf};
+ghost use Rattle.finding.specs.Finding.{foundOf, searchedOf, isCandidate, valueOf, readsAs, thereOr, firstOf, findFrom, findInPayload};
 
 // The record that was found, its place in the list, from 0, and what its value reads as: a record, or a list of so many entries.
 pub enum Found {
@@ -76,7 +75,7 @@ fn hit_of(read: KindRead, t: Tlv, place: usize) -> Found
 // Has the record the code, and does it lie inside a payload of this size? Its type is looked at first and its offset last, so that a record of another kind
 // costs no more than its type: the compiler makes one test of the type's and the offset's where little stands between them. No sum can wrap: what is left of
 // the payload is compared, never an end that the record claims.
-pub fn is_candidate(t: Tlv, size: usize, code: u8) -> bool
+fn is_candidate(t: Tlv, size: usize, code: u8) -> bool
     ensures { λ r. ⌜ r ≡ isCandidate code size t ⌝ }
 {
     let tlv_type = t.tlv_type;
@@ -132,43 +131,11 @@ fn is_hit(found: Found) -> bool
     }
 }
 
-// Is the code among the 21?
-fn is_kind(code: u8) -> bool
-    ensures { λ r. ⌜ r ≡ isKind code ⌝ }
-{
-    match code {
-        // the nine that are lists
-        4 => true,
-        6 => true,
-        7 => true,
-        23 => true,
-        24 => true,
-        30 => true,
-        0x80 => true,
-        0x83 => true,
-        0xB7 => true,
-        // the twelve that are records
-        0 => true,
-        1 => true,
-        2 => true,
-        8 => true,
-        12 => true,
-        13 => true,
-        15 => true,
-        16 => true,
-        26 => true,
-        0x92 => true,
-        0xB3 => true,
-        0xB4 => true,
-        _ => false,
-    }
-}
-
 // What is refused where no record was found.
 fn none(code: u8) -> Found
     ensures { λ r. ⌜ foundOf r ≡ cond (isKind code) (refuses 15 []) (refuses 16 []) ⌝ }
 {
-    if is_kind(code) {
+    if kinds::is_kind(code) {
         return Found::Refused(Refusal::NotFound);
     }
     Found::Refused(Refusal::UnknownKind)
@@ -188,20 +155,6 @@ pub fn find(list: &[Tlv], payload: &[u8], code: u8, from: usize) -> Found
         place += 1;
     }
     none(code)
-}
-
-// Does the record read as one of a record kind? Its bytes are measured, nothing is built of them.
-pub fn reads_as_record(t: Tlv, payload: &[u8], code: u8) -> bool
-    ensures { λ r. ⌜ r ≡ readsRecord code (now (payload .entry)) t ⌝ }
-{
-    if is_candidate(t, payload.len(), code) {
-        match records::measure(code, value_in(t, payload)) {
-            Measured::Bytes(_) => true,
-            Measured::Refused(_) => false,
-        }
-    } else {
-        false
-    }
 }
 
 // A look at a record, if its place does not come before `from`.
@@ -251,7 +204,7 @@ fn search(payload: &[u8], code: u8, from: usize) -> Found
 pub fn find_in_payload(payload: &[u8], code: u8, from: usize) -> Searched
     ensures { λ r. ⌜ searchedOf r ≡ findInPayload code (now (payload .entry)) from ⌝ }
 {
-    if is_kind(code) {
+    if kinds::is_kind(code) {
         match walking::walk(payload) {
             Walked::Count(_) => Searched::Answered(search(payload, code, from)),
             Walked::Refused { refusal, at } => Searched::Unwalked { refusal, at },

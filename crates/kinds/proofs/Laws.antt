@@ -4,127 +4,132 @@ use mathlib.Core.Bool.{Bool, true, false, cond}
 use mathlib.Core.List.{List, []}
 use Prim.Native.Nat.{ℕ, _+_, _-_, _≤_}
 use native.Mathlib.Omega.{arith}
-use lib.Dec.{eqb}
 use lib.ListN.{length, take}
 use lib.Seq.{length-take-le}
-use borrow.Author.Tests.{eq-eqb, ne-eqb}
-use Rattle.numbers.specs.Numbers.{Answer, gives, refuses}
+use Rattle.numbers.specs.Numbers.{Answer, gives, refuses, andThen, mapped, isGiven}
+use Rattle.numbers.proofs.Firm.{never}
+use Rattle.numbers.proofs.Answers.{given}
 use Rattle.framing.specs.Tlv.{writeSize, tlvBytes, leaves}
-use Rattle.records.specs.Reading.{Reading, readRecord}
+use Rattle.records.specs.declared.Record.{Record}
+use Rattle.records.specs.declared.Kind.{Kind}
+use Rattle.records.specs.Kinds.{kinds}
+use Rattle.records.specs.Reading.{Reading, withCode, readRecord, sizeOf}
+use Rattle.records.proofs.Ways.{by-code}
 use Rattle.records.proofs.Given.{consumed-within as record-within}
+use Rattle.layouts.specs.Layouts.{isList}
 use Rattle.layouts.specs.Reading.{Consumed, readValue}
 use Rattle.layouts.specs.Access.{Span, locateEntry, countEntries, partOf}
 use Rattle.layouts.proofs.Facts.{consumed-within as list-within}
-use Rattle.kinds.specs.Kinds.{Typed, list, one, asRecord, asList, orElse, readRecordKind, readKind, noneIn, noEntryIn, locateKind, countKind}
+use Rattle.kinds.specs.Kinds.{Typed, list, one, isKind, oneRecord, oneList, readKind, withoutRecord, noEntryIn, locateKind, countKind}
 use Rattle.kinds.specs.Writing.{writeKind, kindBytes}
 
--- a list kind's answer stands, unless it is 16
-else-given : {A : Type 0} (x other : Answer A) (a : A) → gives a ≡ x → gives a ≡ orElse x other
-else-given x other a e = rw (← e)
+-- what is measured of a record is what reading it gives, without the record
+pub record Measures (code : ℕ) (s : List ℕ) (n : ℕ) : Type 0 where
+  pub inside : n ≤ length s
+  pub is : gives (record { held = one tt; consumed = n; rest = length s - n }) ≡ mapped withoutRecord (mapped (oneRecord (length s)) (readRecord code s))
 
-else-refused : {A : Type 0} (x other : Answer A) (n : ℕ) (vs : List ℕ) → refuses n vs ≡ x → (n ≡ 16 → ⊥) → refuses n vs ≡ orElse x other
-else-refused x other n vs e h = rw (← e) (rw (ne-eqb n 16 h))
+pub measured : (code : ℕ) (s : List ℕ) (n : ℕ) → gives n ≡ sizeOf (readRecord code s) → Measures code s n
+measured code s n = by-reading (readRecord code s) refl
+  where
+    by-reading : (x : Answer Reading) → x ≡ readRecord code s → gives n ≡ sizeOf x → Measures code s n
+    by-reading (gives r) f e = let i : n ≡ r .consumed = given n (r .consumed) e in record { inside = omega (arith, i, record-within code s r (sym f)); is = rw (← f, i) }
+    by-reading (refuses m vs) f e = never _ _ _ e
 
-else-other : {A : Type 0} (x other b : Answer A) (n : ℕ) (vs : List ℕ) → refuses n vs ≡ x → n ≡ 16 → b ≡ other → b ≡ orElse x other
-else-other x other b n vs e h k = rw (← e) (rw (eq-eqb n 16 h) k)
+pub unmeasured : (code : ℕ) (s : List ℕ) (n : ℕ) (vs : List ℕ) → refuses n vs ≡ sizeOf (readRecord code s) → refuses n vs ≡ mapped withoutRecord (mapped (oneRecord (length s)) (readRecord code s))
+unmeasured code s n vs = by-reading (readRecord code s)
+  where
+    by-reading : (x : Answer Reading) → refuses n vs ≡ sizeOf x → refuses n vs ≡ mapped withoutRecord (mapped (oneRecord (length s)) x)
+    by-reading (gives r) e = never _ _ _ (sym e)
+    by-reading (refuses m us) e = let i : n ≡ m = cc in let j : vs ≡ us = cc in rw (i, j)
+
+-- the refusal of an entry of a record kind is the same, whatever was asked for
+asked : {A B C : Type 0} (x : Answer A) (n : ℕ) (vs : List ℕ) → _≡_ {A = Answer B} (refuses n vs) (andThen x (λ a. refuses 6 [])) → _≡_ {A = Answer C} (refuses n vs) (andThen x (λ a. refuses 6 []))
+asked (gives a) n vs e = let i : n ≡ 6 = cc in let j : vs ≡ [] = cc in rw (i, j)
+asked (refuses m us) n vs e = let i : n ≡ m = cc in let j : vs ≡ us = cc in rw (i, j)
 
 module _ (code : ℕ) (s : List ℕ) where
-  pub record-given : (r : Reading) → gives r ≡ readRecord code s → gives (record { held = one (r .value); consumed = r .consumed; rest = length s - r .consumed }) ≡ readRecordKind code s
-  unfolding readRecordKind
-  record-given r e = rw (← e)
+  -- of a list kind
+  module _ (e : isList code ≡ true) where
+    pub list-reads : mapped oneList (readValue code s) ≡ readKind code s
+    unfolding readKind
+    list-reads = rw e
 
-  pub record-refused : (n : ℕ) (vs : List ℕ) → refuses n vs ≡ readRecord code s → refuses n vs ≡ readRecordKind code s
-  unfolding readRecordKind
-  record-refused n vs e = rw (← e)
-
-  pub list-given : (c : Consumed) → gives c ≡ readValue code s → gives (record { held = list (c .entries); consumed = c .consumed; rest = c .rest }) ≡ readKind code s
-  unfolding readKind
-  list-given c e = else-given (asList (readValue code s)) _ _ (ap asList e)
-
-  pub list-refused : (n : ℕ) (vs : List ℕ) → refuses n vs ≡ readValue code s → (n ≡ 16 → ⊥) → refuses n vs ≡ readKind code s
-  unfolding readKind
-  list-refused n vs e h = else-refused (asList (readValue code s)) _ n vs (ap asList e) h
-
-  pub no-list : (n : ℕ) (vs : List ℕ) (b : Answer Typed) → refuses n vs ≡ readValue code s → n ≡ 16 → b ≡ readRecordKind code s → b ≡ readKind code s
-  unfolding readKind
-  no-list n vs b e h k = else-other (asList (readValue code s)) _ b n vs (ap asList e) h k
-
-  -- an entry of a record kind: the refusal is the same, whatever was asked for
-  asked : {A B C : Type 0} (x : Answer A) (n : ℕ) (vs : List ℕ) → _≡_ {A = Answer B} (refuses n vs) (noneIn x) → _≡_ {A = Answer C} (refuses n vs) (noneIn x)
-  asked (gives a) n vs e = let i : n ≡ 6 = cc in let j : vs ≡ [] = cc in rw (i, j)
-  asked (refuses m us) n vs e = let i : n ≡ m = cc in let j : vs ≡ us = cc in rw (i, j)
-
-  module _ (is : List ℕ) where
-    pub entry-given : (r : Span) → gives r ≡ locateEntry code is s → gives r ≡ locateKind code is s
+    pub list-located : (is : List ℕ) → locateEntry code is s ≡ locateKind code is s
     unfolding locateKind
-    entry-given r e = else-given (locateEntry code is s) _ r e
+    list-located is = rw e
 
-    pub entry-refused : (n : ℕ) (vs : List ℕ) → refuses n vs ≡ locateEntry code is s → (n ≡ 16 → ⊥) → refuses n vs ≡ locateKind code is s
-    unfolding locateKind
-    entry-refused n vs e h = else-refused (locateEntry code is s) _ n vs e h
+    pub list-part : (is : List ℕ) → partOf (locateEntry code is s) s ≡ partOf (locateKind code is s) s
+    list-part is = ap (λ (x : Answer Span). partOf x s) (list-located is)
 
-    pub no-entry : (n m : ℕ) (vs us : List ℕ) → refuses n vs ≡ locateEntry code is s → n ≡ 16 → _≡_ {A = Answer ℕ} (refuses m us) (noEntryIn code s) → refuses m us ≡ locateKind code is s
-    unfolding locateKind
-    no-entry n m vs us e h k = else-other (locateEntry code is s) _ (refuses m us) n vs e h (asked (readRecord code s) m us k)
-
-    pub count-given : (n : ℕ) → gives n ≡ countEntries code is s → gives n ≡ countKind code is s
+    pub list-counted : (is : List ℕ) → countEntries code is s ≡ countKind code is s
     unfolding countKind
-    count-given n e = else-given (countEntries code is s) _ n e
+    list-counted is = rw e
 
-    pub count-refused : (n : ℕ) (vs : List ℕ) → refuses n vs ≡ countEntries code is s → (n ≡ 16 → ⊥) → refuses n vs ≡ countKind code is s
-    unfolding countKind
-    count-refused n vs e h = else-refused (countEntries code is s) _ n vs e h
+  -- of any other
+  module _ (e : isList code ≡ false) where
+    pub record-reads : mapped (oneRecord (length s)) (readRecord code s) ≡ readKind code s
+    unfolding readKind
+    record-reads = rw e
 
-    pub no-count : (n m : ℕ) (vs us : List ℕ) → refuses n vs ≡ countEntries code is s → n ≡ 16 → _≡_ {A = Answer ℕ} (refuses m us) (noEntryIn code s) → refuses m us ≡ countKind code is s
-    unfolding countKind
-    no-count n m vs us e h k = else-other (countEntries code is s) _ (refuses m us) n vs e h k
-
-    -- a record kind's entry is the empty start, as `layouts` shows it
-    parts : {A : Type 0} (x : Answer Span) (y : Answer A) → partOf x s ≡ partOf (orElse x (noneIn y)) s
-    parts (gives r) y = refl
-    parts (refuses n vs) y = by-number (eqb n 16) y
-      where
-        by-number : {A : Type 0} (b : Bool) (y : Answer A) → [] ≡ partOf (cond b (noneIn y) (refuses n vs)) s
-        by-number true (gives a) = refl
-        by-number true (refuses m us) = refl
-        by-number false y = refl
-
-    pub part : partOf (locateEntry code is s) s ≡ partOf (locateKind code is s) s
+    no-entry : (is : List ℕ) → noEntryIn code s ≡ locateKind code is s
     unfolding locateKind
-    part = parts (locateEntry code is s) (readRecord code s)
+    no-entry is = rw e
+
+    no-count : (is : List ℕ) → noEntryIn code s ≡ countKind code is s
+    unfolding countKind
+    no-count is = rw e
+
+    pub unlocated : (is : List ℕ) (n : ℕ) (vs : List ℕ) → _≡_ {A = Answer ℕ} (refuses n vs) (noEntryIn code s) → refuses n vs ≡ locateKind code is s
+    unlocated is n vs f = asked (readRecord code s) n vs f ∙ no-entry is
+
+    pub uncounted : (is : List ℕ) (n : ℕ) (vs : List ℕ) → _≡_ {A = Answer ℕ} (refuses n vs) (noEntryIn code s) → refuses n vs ≡ countKind code is s
+    uncounted is n vs f = f ∙ no-count is
+
+    no-part : {A : Type 0} (y : Answer A) → [] ≡ partOf (andThen y (λ a. refuses 6 [])) s
+    no-part (gives a) = refl
+    no-part (refuses n vs) = refl
+
+    pub nothing : (is : List ℕ) → [] ≡ partOf (locateKind code is s) s
+    nothing is = no-part (readRecord code s) ∙ ap (λ (x : Answer Span). partOf x s) (no-entry is)
 
   -- what was consumed lies in the value, and the rest is what is left of it
-  pub record Within (t : Typed) : Type 0 where
+  pub record Within (t : Typed Record) : Type 0 where
     pub inside : t .consumed ≤ length s
     pub all : t .consumed + t .rest ≡ length s
 
-  record-in : (y : Answer Reading) → y ≡ readRecord code s → (t : Typed) → gives t ≡ asRecord (length s) y → Within t
-  record-in (gives r) e t g =
-      let h = record-within code s r (sym e) in
-      let is : t ≡ record { held = one (r .value); consumed = r .consumed; rest = length s - r .consumed } = cc in
-      let c = ap (λ (u : Typed). u .consumed) is in
-      let d = ap (λ (u : Typed). u .rest) is in
-      record { inside = omega (arith, c, h); all = omega (arith, c, d, h) }
-  record-in (refuses n vs) e t g = let z : _≡_ {A = ℕ} 0 1 = cc in absurd (omega arith)
-
-  list-in : (x : Answer Consumed) → x ≡ readValue code s → (t : Typed) → gives t ≡ orElse (asList x) (readRecordKind code s) → Within t
-  unfolding readRecordKind
+  list-in : (x : Answer Consumed) → x ≡ readValue code s → (t : Typed Record) → gives t ≡ mapped oneList x → Within t
   list-in (gives c) e t g =
       let h = list-within code s c (sym e) in
-      let is : t ≡ record { held = list (c .entries); consumed = c .consumed; rest = c .rest } = cc in
-      let a = ap (λ (u : Typed). u .consumed) is in
-      let d = ap (λ (u : Typed). u .rest) is in
-      record { inside = omega (arith, a, h .0); all = omega (arith, a, d, h .1) }
-  list-in (refuses n vs) e t g = by-number (eqb n 16) g
-    where
-      by-number : (b : Bool) → gives t ≡ cond b (asRecord (length s) (readRecord code s)) (refuses n vs) → Within t
-      by-number true g = record-in (readRecord code s) refl t g
-      by-number false g = let z : _≡_ {A = ℕ} 0 1 = cc in absurd (omega arith)
+      let is : t ≡ oneList c = given t (oneList c) g in
+      rw is (record { inside = h .0; all = h .1 })
+  list-in (refuses n vs) e t g = never _ _ _ g
 
-  module _ (t : Typed) (e : gives t ≡ readKind code s) where
+  record-in : (x : Answer Reading) → x ≡ readRecord code s → (t : Typed Record) → gives t ≡ mapped (oneRecord (length s)) x → Within t
+  record-in (gives r) e t g =
+      let h = record-within code s r (sym e) in
+      let is : t ≡ oneRecord (length s) r = given t (oneRecord (length s) r) g in
+      rw is (record { inside = h; all = omega (arith, h) })
+  record-in (refuses n vs) e t g = never _ _ _ g
+
+  module _ (t : Typed Record) (e : gives t ≡ readKind code s) where
     pub within : Within t
-    unfolding readKind
-    within = list-in (readValue code s) refl t e
+    within = by-list (isList code) refl
+      where
+        by-list : (b : Bool) → isList code ≡ b → Within t
+        by-list true f = list-in (readValue code s) refl t (e ∙ sym (list-reads f))
+        by-list false f = record-in (readRecord code s) refl t (e ∙ sym (record-reads f))
+
+    -- what reads is of a kind
+    pub of-a-kind : true ≡ isKind code
+    of-a-kind = by-list (isList code) refl
+      where
+        by-table : (k : Answer Kind) → k ≡ withCode code kinds → (x : Answer Reading) → x ≡ readRecord code s → gives t ≡ mapped (oneRecord (length s)) x → true ≡ isGiven k
+        by-table (gives k) f x g h = refl
+        by-table (refuses n vs) f x g h = never _ _ _ (h ∙ ap (mapped (oneRecord (length s))) (g ∙ sym (by-code code s (refuses n vs) f)))
+
+        by-list : (b : Bool) → isList code ≡ b → true ≡ isKind code
+        by-list true f = rw f
+        by-list false f = rw f (by-table (withCode code kinds) refl (readRecord code s) refl (e ∙ sym (record-reads f)))
 
     pub size : t .consumed ≡ length (take (t .consumed) s)
     size = sym (length-take-le (t .consumed) s (within .inside))

@@ -1,4 +1,1 @@
-pub mod Firm
 pub mod Laws
-pub mod RecordsFirst
-pub mod RoundTrip

@@ -3,19 +3,16 @@
 use mathlib.Core.List.{List, []}
 use Prim.Native.Nat.{ℕ}
 use lib.ListN.{take}
-use Rattle.numbers.specs.Numbers.{Answer, gives, refuses}
+use Rattle.numbers.specs.Numbers.{Answer, gives, refuses, andThen}
 use Rattle.framing.specs.Tlv.{writeSize, tlvBytes}
+use Rattle.records.specs.declared.Record.{Record}
 use Rattle.kinds.specs.Kinds.{Typed, readKind}
 
-abbrev pub sizeFor : Answer Typed → ℕ → Answer ℕ
-sizeFor (gives t) room = writeSize (t .consumed) room
-sizeFor (refuses n vs) room = refuses n vs
-
 unfoldable pub writeKind : ℕ → List ℕ → ℕ → Answer ℕ
-writeKind code s room = sizeFor (readKind code s) room
+writeKind code s room = andThen (readKind code s) (λ t. writeSize (t .consumed) room)
 
 -- the TLV with the consumed bytes as its value
-abbrev pub tlvFor : ℕ → List ℕ → Answer Typed → List ℕ
+abbrev pub tlvFor : ℕ → List ℕ → Answer (Typed Record) → List ℕ
 tlvFor code s (gives t) = tlvBytes code (take (t .consumed) s)
 tlvFor code s (refuses n vs) = []
 

@@ -11,10 +11,11 @@ use records::Record;
 ghost use mathlib.Core.Path.{_≡_};
 ghost use Prim.Native.Nat.{ℕ};
 ghost use lib.ListN.{length};
-ghost use Rattle.numbers.specs.Numbers.{told};
+ghost use Rattle.numbers.specs.Numbers.{told, mapped};
 ghost use Rattle.framing.specs.Tlv.{writtenOf, leaves};
 ghost use Rattle.layouts.specs.Access.{numbersOf, locatedOf, countedOf, partOf};
-ghost use Rattle.kinds.specs.Kinds.{kindReadOf, readKind, readRecordKind, kindSizeOf, sizeOf, noEntryIn, locateKind, countKind};
+ghost use Rattle.records.specs.Reading.{readRecord};
+ghost use Rattle.kinds.specs.Kinds.{isKind, kindReadOf, oneRecord, readKind, kindSizeOf, withoutRecord, noEntryIn, locateKind, countKind};
 ghost use Rattle.kinds.specs.Writing.{writeKind, kindBytes};
 
 // What reading a typed value finds: a record, or how many entries a list kind's own list has; with the bytes that were consumed, and how many are left
@@ -47,9 +48,55 @@ pub enum KindSize {
     Refused(Refusal),
 }
 
+// Is the code among the 21?
+pub fn is_kind(code: u8) -> bool
+    ensures { λ r. ⌜ r ≡ isKind code ⌝ }
+{
+    if layouts::is_list(code) {
+        return true;
+    }
+    records::is_record(code)
+}
+
+// The value s of the record kind with this code.
+fn read_record(code: u8, s: &[u8]) -> KindRead
+    ensures { λ r. ⌜ kindReadOf r ≡ mapped (oneRecord (length (now (s .entry)))) (readRecord code (now (s .entry))) ⌝ }
+{
+    match records::read_record(code, s) {
+        Read::Got { record, consumed } => KindRead::Record {
+            record,
+            consumed,
+            rest: s.len() - consumed,
+        },
+        Read::Refused(refusal) => KindRead::Refused(refusal),
+    }
+}
+
+// The value s of the kind with this code.
+pub fn read_kind(code: u8, s: &[u8]) -> KindRead
+    ensures { λ r. ⌜ kindReadOf r ≡ readKind code (now (s .entry)) ⌝ }
+{
+    if layouts::is_list(code) {
+        match layouts::read_value(code, s) {
+            Reading::Value {
+                consumed,
+                rest,
+                entries,
+            } => KindRead::List {
+                entries,
+                consumed,
+                rest,
+            },
+            Reading::Refused(refusal) => KindRead::Refused(refusal),
+        }
+    } else {
+        read_record(code, s)
+    }
+}
+
 // The value s of the record kind with this code, measured.
 fn measure_record(code: u8, s: &[u8]) -> KindSize
-    ensures { λ r. ⌜ kindSizeOf r ≡ sizeOf (readRecordKind code (now (s .entry))) ⌝ }
+    ensures { λ r. ⌜ kindSizeOf r ≡ mapped withoutRecord (mapped (oneRecord (length (now (s .entry)))) (readRecord code (now (s .entry)))) ⌝ }
 {
     match records::measure(code, s) {
         Measured::Bytes(size) => KindSize::Record {
@@ -62,59 +109,23 @@ fn measure_record(code: u8, s: &[u8]) -> KindSize
 
 // The value s of the kind with this code measured alone, for a caller that needs no record.
 pub fn measure(code: u8, s: &[u8]) -> KindSize
-    ensures { λ r. ⌜ kindSizeOf r ≡ sizeOf (readKind code (now (s .entry))) ⌝ }
+    ensures { λ r. ⌜ kindSizeOf r ≡ mapped withoutRecord (readKind code (now (s .entry))) ⌝ }
 {
-    match layouts::read_value(code, s) {
-        Reading::Value {
-            consumed,
-            rest,
-            entries,
-        } => KindSize::List {
-            entries,
-            consumed,
-            rest,
-        },
-        Reading::Refused(refusal) => {
-            if numbers::number_of(refusal) == 16 {
-                return measure_record(code, s);
-            }
-            KindSize::Refused(refusal)
+    if layouts::is_list(code) {
+        match layouts::read_value(code, s) {
+            Reading::Value {
+                consumed,
+                rest,
+                entries,
+            } => KindSize::List {
+                entries,
+                consumed,
+                rest,
+            },
+            Reading::Refused(refusal) => KindSize::Refused(refusal),
         }
-    }
-}
-
-// The value s of the kind with this code. Records come first, since they are small, and no code is of a record and of a list.
-pub fn read_kind(code: u8, s: &[u8]) -> KindRead
-    ensures { λ r. ⌜ kindReadOf r ≡ readKind code (now (s .entry)) ⌝ }
-{
-    match records::read_record(code, s) {
-        Read::Got { record, consumed } => KindRead::Record {
-            record,
-            consumed,
-            rest: s.len() - consumed,
-        },
-        Read::Refused(refusal) => {
-            if numbers::number_of(refusal) != 16 {
-                return KindRead::Refused(refusal);
-            }
-            match measure(code, s) {
-                KindSize::List {
-                    entries,
-                    consumed,
-                    rest,
-                } => KindRead::List {
-                    entries,
-                    consumed,
-                    rest,
-                },
-                // never, for this code is no record's
-                KindSize::Record {
-                    consumed: _,
-                    rest: _,
-                } => KindRead::Refused(refusal),
-                KindSize::Refused(other) => KindRead::Refused(other),
-            }
-        }
+    } else {
+        measure_record(code, s)
     }
 }
 
@@ -135,37 +146,30 @@ fn no_entry_in(code: u8, s: &[u8]) -> Refusal
 pub fn locate(code: u8, path: Path, s: &[u8]) -> Located
     ensures { λ r. ⌜ locatedOf r ≡ locateKind code (numbersOf path) (now (s .entry)) ⌝ }
 {
-    match layouts::locate(code, path, s) {
-        Located::Entry { start, end } => Located::Entry { start, end },
-        Located::Refused(refusal) => {
-            if numbers::number_of(refusal) == 16 {
-                return Located::Refused(no_entry_in(code, s));
-            }
-            Located::Refused(refusal)
-        }
+    if layouts::is_list(code) {
+        return layouts::locate(code, path, s);
     }
+    Located::Refused(no_entry_in(code, s))
 }
 
 // The entry with these numbers as its own part of s, the lists under it included; the empty start of s where `locate` refuses.
 pub fn entry(code: u8, path: Path, s: &[u8]) -> &[u8]
     ensures { λ r. ⌜ now r ≡ partOf (locateKind code (numbersOf path) (now (s .entry))) (now (s .entry)) ⌝ }
 {
-    layouts::entry(code, path, s)
+    if layouts::is_list(code) {
+        return layouts::entry(code, path, s);
+    }
+    &s[..0]
 }
 
 // How many entries the list of the entry with these numbers has; without numbers, the value's own list.
 pub fn count(code: u8, path: Path, s: &[u8]) -> Counted
     ensures { λ r. ⌜ countedOf r ≡ countKind code (numbersOf path) (now (s .entry)) ⌝ }
 {
-    match layouts::count(code, path, s) {
-        Counted::Entries(n) => Counted::Entries(n),
-        Counted::Refused(refusal) => {
-            if numbers::number_of(refusal) == 16 {
-                return Counted::Refused(no_entry_in(code, s));
-            }
-            Counted::Refused(refusal)
-        }
+    if layouts::is_list(code) {
+        return layouts::count(code, path, s);
     }
+    Counted::Refused(no_entry_in(code, s))
 }
 
 // The TLV of the kind with this code, from value bytes that read; the bytes behind those consumed are not written.

@@ -49,14 +49,15 @@ use denote.Triple.Spec.{Meets, tripleOf}
 use denote.Triple.Table.{entered, cited}
 use denote.Triple.Walked.{says, Stays, stay-none-slice, stay-none, walkOf, goes-none-slice, goes-none, Walks, ends-at, walked, walk-meets}
 use denote.Exit.{yes}
-use Rattle.numbers.specs.Numbers.{refuses}
+use Rattle.numbers.specs.Numbers.{refuses, isGiven}
 use Rattle.walking.specs.declared.Tlv.{Tlv}
 use Rattle.walking.specs.Walk.{noTlv}
 use Rattle.walking.proofs.Tlv as T
 use Rattle.walking.proofs.Tlv.Laws as T′
 use Rattle.walking.proofs.Elem.{R, mach, vals, tells, copies, makes, scaled}
 use Rattle.walking.proofs.Body.{tyOf, after}
-use Rattle.finding.specs.Finding.{foundOf, isGiven, isKind, findFrom}
+use Rattle.kinds.specs.Kinds.{isKind}
+use Rattle.finding.specs.Finding.{foundOf, findFrom}
 use Rattle.finding.specs.declared.Found.{Found}
 use Rattle.finding.proofs.Found as S
 use Rattle.finding.proofs.Found.Laws as S′

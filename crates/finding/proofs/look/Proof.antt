@@ -2,6 +2,7 @@
 use mathlib.Core.Path.{sym, _∙_, ap}
 use mathlib.Core.List.{[]}
 use Rattle.numbers.specs.Numbers.{Answer, refuses}
+use Rattle.records.specs.declared.Record.{Record}
 use Rattle.kinds.specs.Kinds.{Typed, readKind}
 use Rattle.finding.specs.Finding.{thereOr}
 use Rattle.finding.proofs.Looking.{inside, reads, miss}
@@ -25,7 +26,7 @@ returns : tie.Need-returns
 returns c =
     let x = c .before .before .before .before .before .before .args in
     c .hit-of .ensures
-    ∙ ap (λ (y : Answer Typed). thereOr y (x .place) (x .t) (refuses 15 []))
+    ∙ ap (λ (y : Answer (Typed Record)). thereOr y (x .place) (x .t) (refuses 15 []))
     (c .before .read-kind .ensures ∙ ap (readKind (x .code)) (c .before .before .value-in .ensures) ∙ reads (x .code) (x .payload .now) (x .t) (sym (c .before .before .before .before .is-candidate .ensures) ∙ c .before .before .before .if1 .taken))
 
 returns-2 : tie.Need-returns-2

@@ -1,10 +1,13 @@
 -- `measure_record` meets its contract: the record's size, with the rest.
 use mathlib.Core.Path.{sym, _∙_, ap}
 use Rattle.records.specs.Reading.{measuredOf}
-use Rattle.kinds.proofs.RecordsFirst.{weighed, unweighed}
+use Rattle.kinds.proofs.Laws.{measured, unmeasured}
 use borrow.Author.Needs.{needs}
 use Rattle.kinds.proofs.measure_record.Statement.{statement}
 use Rattle.kinds.proofs.measure_record.Tie as tie
+use Rattle.kinds.proofs.measure_record.Reads as reads
+use Rattle.kinds.proofs.measure_record.Lts as lts
+use Rattle.records.proofs.measure.Reads as measure-reads
 
 measure-requires : tie.Need-measure-requires
 measure-requires c κs = search needs
@@ -13,16 +16,16 @@ enum-known-size : tie.Need-enum-known-size
 enum-known-size c = search needs
 
 sub-t8 : tie.Need-sub-t8
-sub-t8 c = weighed _ _ _ (ap measuredOf (sym (c .before .size .given .1)) ∙ c .before .before .before .measure .ensures) .inside
+sub-t8 c = measured _ _ _ (ap measuredOf (sym (c .before .size .given .1)) ∙ c .before .before .before .measure .ensures) .inside
 
 enum-known-refusal : tie.Need-enum-known-refusal
 enum-known-refusal c = search needs
 
 returns : tie.Need-returns
-returns c = weighed _ _ _ (ap measuredOf (sym (c .before .size .given .1)) ∙ c .before .before .before .measure .ensures) .is
+returns c = measured _ _ _ (ap measuredOf (sym (c .before .size .given .1)) ∙ c .before .before .before .measure .ensures) .is
 
 returns-2 : tie.Need-returns-2
-returns-2 c = unweighed _ _ _ _ (ap measuredOf (sym (c .before .refusal .given .1)) ∙ c .before .before .before .measure .ensures)
+returns-2 c = unmeasured _ _ _ _ (ap measuredOf (sym (c .before .refusal .given .1)) ∙ c .before .before .before .measure .ensures)
 
 pub measure-record-spec : {M : Type 1} → statement M
 measure-record-spec =

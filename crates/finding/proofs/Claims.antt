@@ -1,0 +1,26 @@
+-- The claims of specs/Claims.antt, proved.
+use Rattle.numbers.proofs.Firm.{by-telling}
+use Rattle.finding.specs.Finding.{foundOf, searchedOf, findFrom, findInPayload}
+use Rattle.finding.specs.Claims.{Firmness, FindsTheFirst, FindsNone, GoingOn, OverAWalk}
+use Rattle.finding.proofs.Firm.{found-one, searched-one}
+use Rattle.finding.proofs.First.{is-first, none-there}
+use Rattle.finding.proofs.All.{every-one}
+use Rattle.finding.proofs.OfWalk as walk
+
+pub firmness : Firmness
+firmness = record {
+  find = λ code tlvs payload from. by-telling foundOf found-one (findFrom code tlvs payload from);
+  find-in-payload = λ code payload from. by-telling searchedOf searched-one (findInPayload code payload from);
+}
+
+pub finds-the-first : FindsTheFirst
+finds-the-first = is-first
+
+pub finds-none : FindsNone
+finds-none = none-there
+
+pub going-on : GoingOn
+going-on = every-one
+
+pub over-a-walk : OverAWalk
+over-a-walk = record { found-is-tlv = walk.found-is-tlv; in-filled-list = walk.in-filled-list; without-list = walk.without-list }

@@ -1,0 +1,77 @@
+-- What is claimed of finding, beside what the calls promise; proofs/Claims.antt proves it.
+use mathlib.Core.Path.{_≡_}
+use mathlib.Core.Bool.{Bool, true, false, cond}
+use mathlib.Core.List.{List, [], _∷_}
+use Prim.Native.Nat.{ℕ, zero, suc, _+_, _≤_, _<_}
+use lib.Dec.{eqb}
+use lib.ListN.{length, getD, drop}
+use Rattle.numbers.specs.Numbers.{Answer, gives, refuses, andThen, isGiven}
+use Rattle.numbers.specs.Firmness.{Firm}
+use Rattle.framing.specs.Tlv.{TlvRead, readTlv, valueIn}
+use Rattle.records.specs.declared.Record.{Record}
+use Rattle.kinds.specs.Kinds.{isKind, Typed, readKind}
+use Rattle.walking.specs.declared.Tlv.{Tlv}
+use Rattle.walking.specs.Walk.{walkOf, filled, noTlv}
+use Rattle.finding.specs.Finding.{Hit, foundOf, searchedOf, readsAs, findFrom, findInPayload}
+
+-- each public call by its name: any two answers that its contract allows are one
+pub record Firmness : Type 0 where
+  pub find : (code : ℕ) (tlvs : List Tlv) (payload : List ℕ) (from : ℕ) → Firm (λ r. foundOf r ≡ findFrom code tlvs payload from)
+  pub find-in-payload : (code : ℕ) (payload : List ℕ) (from : ℕ) → Firm (λ r. searchedOf r ≡ findInPayload code payload from)
+
+-- What is found is the first that reads, and where none is found none reads: said by places, without the definition's recursion
+abbrev pub readsAt : ℕ → List ℕ → List Tlv → ℕ → Bool
+readsAt code payload tlvs k = isGiven (readsAs code payload (getD tlvs k noTlv))
+
+pub record IsFirst (code : ℕ) (payload : List ℕ) (tlvs : List Tlv) (from : ℕ) (h : Hit) : Type 0 where
+  pub behind : from ≤ h .place
+  pub there : h .place < length tlvs
+  pub is : getD tlvs (h .place) noTlv ≡ h .tlv
+  pub reads : gives (h .reading) ≡ readsAs code payload (h .tlv)
+  pub first : (k : ℕ) → from ≤ k → k < h .place → readsAt code payload tlvs k ≡ false
+
+abbrev pub FindsTheFirst : Type 0
+FindsTheFirst = (code : ℕ) (payload : List ℕ) (tlvs : List Tlv) (from : ℕ) (h : Hit) → gives h ≡ findFrom code tlvs payload from → IsFirst code payload tlvs from h
+
+abbrev pub FindsNone : Type 0
+FindsNone = (code : ℕ) (payload : List ℕ) (tlvs : List Tlv) (from : ℕ) → isKind code ≡ true → refuses 15 [] ≡ findFrom code tlvs payload from
+    → (k : ℕ) → from ≤ k → k < length tlvs → readsAt code payload tlvs k ≡ false
+
+-- Going on behind each answer gives every readable record of the kind once, in the list's order. A record, if it reads as said, before these:
+abbrev pub hitThen : Answer (Typed Record) → ℕ → Tlv → List Hit → List Hit
+hitThen (gives r) place t hits = record { place = place; tlv = t; reading = r } ∷ hits
+hitThen (refuses n vs) place t hits = hits
+
+-- every one of these records that reads, with its place; they stand in the list from `place` on
+abbrev pub allThatRead : ℕ → List ℕ → ℕ → List Tlv → List Hit
+allThatRead code payload place [] = []
+allThatRead code payload place (t ∷ ts) = hitThen (readsAs code payload t) place t (allThatRead code payload (place + 1) ts)
+
+-- an answer, and what follows it
+abbrev pub andOn : Answer Hit → (Hit → List Hit) → List Hit
+andOn (gives h) on = h ∷ on h
+andOn (refuses n vs) on = []
+
+-- the answers of one search after the other, so many at most, each from the place behind the last answer
+abbrev pub collected : ℕ → ℕ → List Tlv → List ℕ → ℕ → List Hit
+collected zero code tlvs payload from = []
+collected (suc most) code tlvs payload from = andOn (findFrom code tlvs payload from) (λ h. collected most code tlvs payload (h .place + 1))
+
+abbrev pub GoingOn : Type 0
+GoingOn = (code : ℕ) (payload : List ℕ) (tlvs : List Tlv) → isKind code ≡ true → (most from : ℕ) → length tlvs ≤ from + most
+    → collected most code tlvs payload from ≡ allThatRead code payload from (drop from tlvs)
+
+-- Over the list that a walk made of a payload, what is found is the first TLV of the payload of that kind that reads, in the words of framing alone.
+-- What the TLV at the start of s reads as, if it is of the kind:
+abbrev pub tlvAs : ℕ → List ℕ → Answer (Typed Record)
+tlvAs code s = andThen (readTlv s) (λ t. cond (eqb (t .tlv-type) code) (readKind code (valueIn (gives t) s)) (refuses 15 []))
+
+pub record OverAWalk : Type 0 where
+  pub found-is-tlv : (payload : List ℕ) (code from : ℕ) (h : Hit) → gives h ≡ findFrom code (walkOf payload .tlvs) payload from
+      → gives (h .reading) ≡ tlvAs code (drop (h .tlv .offset) payload)
+  -- a list that is longer than the walk's, as `walk_into` leaves it, gives the same, if the payload has one
+  pub in-filled-list : (payload : List ℕ) (code n : ℕ) (lent : List Tlv) (h : Hit) → gives h ≡ findFrom code (walkOf payload .tlvs) payload 0
+      → gives h ≡ findFrom code (filled (gives n) (walkOf payload .tlvs) lent) payload 0
+  -- without a list the answer is the one over the walk's list, if a walk gets through the payload
+  pub without-list : (payload : List ℕ) (code from end : ℕ) → walkOf payload .end ≡ gives end
+      → findInPayload code payload from ≡ findFrom code (walkOf payload .tlvs) payload from

@@ -1,0 +1,24 @@
+-- `is_kind` meets its contract: what the two tables say.
+use mathlib.Core.Path.{sym, _∙_}
+use borrow.Author.Needs.{needs}
+use Rattle.kinds.proofs.is_kind.Statement.{statement}
+use Rattle.kinds.proofs.is_kind.Tie as tie
+use Rattle.kinds.proofs.is_kind.Reads as reads
+use Rattle.kinds.proofs.is_kind.Lts as lts
+use Rattle.layouts.proofs.is_list.Reads as is-list-reads
+use Rattle.records.proofs.is_record.Reads as is-record-reads
+
+is-list-requires : tie.Need-is-list-requires
+is-list-requires c κs = search needs
+
+returns : tie.Need-returns
+returns c = rw (sym (c .before .is-list .ensures) ∙ c .if1 .taken)
+
+is-record-requires : tie.Need-is-record-requires
+is-record-requires c κs = search needs
+
+returns-2 : tie.Need-returns-2
+returns-2 c = c .is-record .ensures ∙ rw (sym (c .before .before .is-list .ensures) ∙ c .before .if1 .left)
+
+pub is-kind-spec : {M : Type 1} → statement M
+is-kind-spec = tie.close (tie.spec is-list-requires returns is-record-requires returns-2)

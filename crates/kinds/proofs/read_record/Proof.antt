@@ -1,0 +1,35 @@
+-- `read_record` meets its contract: the record's answer, with the rest.
+use mathlib.Core.Path.{sym, _∙_, ap}
+use Rattle.numbers.specs.Numbers.{mapped}
+use Rattle.records.specs.Reading.{readOf}
+use Rattle.records.proofs.Given.{consumed-within}
+use Rattle.kinds.specs.Kinds.{oneRecord}
+use borrow.Author.Needs.{needs}
+use Rattle.kinds.proofs.read_record.Statement.{statement}
+use Rattle.kinds.proofs.read_record.Tie as tie
+use Rattle.kinds.proofs.read_record.Reads as reads
+use Rattle.kinds.proofs.read_record.Lts as lts
+use Rattle.records.proofs.read_record.Reads as read-record-reads
+
+read-record-requires : tie.Need-read-record-requires
+read-record-requires c κs = search needs
+
+enum-known-record : tie.Need-enum-known-record
+enum-known-record c = search needs
+
+sub-t9 : tie.Need-sub-t9
+sub-t9 c = consumed-within _ _ _ (sym (ap readOf (sym (c .before .«record» .given .1)) ∙ c .before .before .before .read-record .ensures))
+
+enum-known-refusal : tie.Need-enum-known-refusal
+enum-known-refusal c = search needs
+
+returns : tie.Need-returns
+returns c = ap (mapped (oneRecord _)) (ap readOf (sym (c .before .«record» .given .1)) ∙ c .before .before .before .read-record .ensures)
+
+returns-2 : tie.Need-returns-2
+returns-2 c = ap (mapped (oneRecord _)) (ap readOf (sym (c .before .refusal .given .1)) ∙ c .before .before .before .read-record .ensures)
+
+pub read-record-spec : {M : Type 1} → statement M
+read-record-spec =
+    tie.close
+    (tie.spec read-record-requires enum-known-record sub-t9 enum-known-refusal returns returns-2)
