@@ -20,4 +20,5 @@ pub mod Completion
 pub mod Completes
 pub mod Tidy
 pub mod Calls
+pub mod Happened
 pub mod Examples

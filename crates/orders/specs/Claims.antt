@@ -1,13 +1,16 @@
 -- What is claimed of runs of the table. proofs/Orders.antt proves each for all calls, and proofs/Completes.antt the last.
 use mathlib.Core.Path.{_≡_}
-use mathlib.Core.List.{List}
-use mathlib.Core.Bool.{true, false}
+use mathlib.Core.List.{List, [], map}
+use mathlib.Core.Bool.{true, false, not}
 use Prim.Native.Nat.{ℕ}
 use Rattle.sweeping.specs.Sweep.{swept}
-use Rattle.orders.specs.Machine.{every}
+use Rattle.pushing.specs.Made.{Made}
+use Rattle.reassembler.specs.Keys.{Origin, keyFor}
+use Rattle.orders.specs.Machine.{those, every}
 use Rattle.orders.specs.Shares.{share, total}
 use Rattle.orders.specs.Messages.{Message, calls, completing}
 use Rattle.orders.specs.Runs.{State, Push, Call, push, sweep, isAccepted, hasRoom, after, tells, mine, start, holding, holdsNothing, ends, crossed, toldOf, toldOfAccepted, toldOfSweeps}
+use Rattle.orders.specs.Happened.{Event, callOf, gotBy, isRefused, isFull, isFrom, sweeps, isAbout}
 
 -- What a key holds is untouched by every push under another key, refused or not; a refused call changes nothing.
 pub record Local (z : State) : Type 0 where
@@ -52,3 +55,30 @@ pub record SameStory (store store′ : List ℕ) (calls calls′ : List Call) : 
 pub record Completes (m : Message) (bring : ℕ → Push) (order : List ℕ) (z : State) : Type 0 where
   pub answers : toldOf (m .key) z (calls m bring order) ≡ completing m order
   pub holds : holding (m .key) (ends z (calls m bring order)) ≡ holdsNothing
+
+-- Calls that happened are a run: the table at their end is the run's, and one that push asks for.
+pub record IsRun (store : List ℕ) (events : List Event) (z : State) : Type 0 where
+  pub end : ends (start store) (map callOf events) ≡ z
+  pub made : Made (z .table)
+
+-- Demand 3 for them: for each sender's message the same pushes, with all the sweeps between them, were asked in both
+abbrev pub AskedReordered : List Event → List Event → Type 0
+AskedReordered events events′ = (o : Origin) → map callOf (those (isAbout o) events) ≡ map callOf (those (isAbout o) events′)
+
+abbrev pub NoneFull : List Event → Type 0
+NoneFull events = those isFull events ≡ []
+
+-- and its callers got the same: the call's own answers, the bytes that show shows, the counts; and the tables hold the same
+pub record SameGot (events events′ : List Event) (z z′ : State) : Type 0 where
+  pub pushes : (o : Origin) → map gotBy (those (isFrom o) events) ≡ map gotBy (those (isFrom o) events′)
+  pub swept : map gotBy (those sweeps events) ≡ map gotBy (those sweeps events′)
+  pub holds : (o : Origin) → holding (keyFor o) z ≡ holding (keyFor o) z′
+
+-- Request 2026-09 for them: the second calls ask for one sender's message what was not refused in the first, and the sweeps
+abbrev pub AskedAlone : Origin → List Event → List Event → Type 0
+AskedAlone o events events′ = map callOf events′ ≡ map callOf (those (isAbout o) (those (λ e. not (isRefused e)) events))
+
+pub record GotAlone (o : Origin) (events events′ : List Event) (z z′ : State) : Type 0 where
+  pub answers : map gotBy (those (isFrom o) (those (λ e. not (isRefused e)) events)) ≡ map gotBy (those (isFrom o) events′)
+  pub holds : holding (keyFor o) z ≡ holding (keyFor o) z′
+  pub none-refused : those isRefused events′ ≡ []

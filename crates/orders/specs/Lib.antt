@@ -1,5 +1,6 @@
 pub mod Machine
 pub mod Runs
 pub mod Shares
-pub mod Claims
 pub mod Messages
+pub mod Happened
+pub mod Claims

@@ -1,5 +1,4 @@
 -- Which of its two slices the showing call shows (document 01, "The table"): "A single fragment's message is shown as the caller's payload, any other as the first bytes of the output buffer".
-use Prim.Native.Nat.{ℕ}
 use Rattle.numbers.specs.Numbers.{Answer, gives, refuses}
 use Rattle.pushing.specs.Push.{Heard, waiting, duplicated, inconsistent, missing, missingLast, single, joined}
 
