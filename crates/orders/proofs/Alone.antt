@@ -27,7 +27,7 @@ use Rattle.orders.proofs.Telling.{shape, refusedWay, refused-is, ownWay
 use Rattle.orders.proofs.Pushing.{Good, Full, no-place, no-row, Outcome, as-told, full, outcome, way-shape}
 use Rattle.orders.proofs.Tallies.{tally-held}
 use Rattle.orders.proofs.Locality.{has-room, accepted-room, untouched, own-sweep, local-accepted}
-use Rattle.orders.proofs.Story as Y
+use Rattle.machines.proofs.Story as Y
 
 -- how many of the first places a row has: all, or not all
 module _ (t : Table) (row : ℕ) where

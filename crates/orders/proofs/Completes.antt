@@ -18,13 +18,13 @@ use Rattle.pushing.specs.Made.{Made, byFresh}
 use Rattle.pushing.proofs.Ways.{Went, went, went-refuse, went-replace, went-keep, went-open, went-end}
 use Rattle.table.proofs.Sound.{Sound, fresh-sound}
 use Rattle.pushing.proofs.Sound.{sound}
-use Rattle.orders.specs.Machine.{those, remaining, every}
+use Rattle.machines.specs.Machine.{those, remaining, every}
 use Rattle.orders.specs.Runs.{State, Push, Call, push, Told, pushed, finishedBy, part, wayOf, after, tells, hasRoom, isOwn, isSweep, concerns, start, Holding, holding, holdsNothing, mine, crossed, toldOf, toldOfAccepted}
 use Rattle.orders.specs.Shares.{andKept, tallyOf, isIn, distinct}
 use Rattle.orders.specs.Messages.{Message, whole, Brings, Ordering, calls, freeIn, Room, completing}
 use Rattle.orders.specs.Claims.{Completes}
 use Rattle.table.proofs.Places.{put-elsewhere}
-use Rattle.orders.proofs.Lists.{left-true, right-true, every-remains, every-heard}
+use Rattle.machines.proofs.Lists.{left-true, right-true, every-remains, every-gathered}
 use Rattle.orders.proofs.Holdings.{absent}
 use Rattle.orders.proofs.Telling.{shape, ownWay, sinceOr, byOwn, withNew, tell, answer}
 use Rattle.orders.proofs.Pushing.{Good, Full, no-place, no-row, way-shape, room-unless}
@@ -34,7 +34,7 @@ use Rattle.orders.proofs.Alone.{fresh-holds}
 use Rattle.orders.proofs.Free.{one-fewer, some-free}
 use Rattle.orders.proofs.Completion.{heldAt, Has, waits, added, completes-as}
 use Rattle.orders.proofs.Orders.{told-alone}
-use Rattle.orders.proofs.Story as Y
+use Rattle.machines.proofs.Story as Y
 
 -- distinct numbers below n are at most n
 module _ (some : Held) where
@@ -127,32 +127,32 @@ module _ (m : Message) (long : ℕ) (store : 47744 ≤ long) (bring : ℕ → Pu
   abbrev answersOf : Holding → List Call → List Told
   answersOf = Y.answers after tells holding isOwn isSweep (tell long) (answer long) (m .key)
 
-  abbrev toldTo : Holding → List Call → Holding
-  toldTo = Y.told after tells holding isOwn isSweep (tell long) (answer long)
+  abbrev viewBehind : Holding → List Call → Holding
+  viewBehind = Y.viewAfter after tells holding isOwn isSweep (tell long) (answer long)
 
   module _ (room : 1 ≤ m .final → length (whole m) ≤ bring (m .final) .room) where
-    heard-one : (v : Holding) (p : Push) (es : List Call) → p .arrival .key ≡ m .key → answersOf v (push p ∷ es) ≡ answer long v (push p) ∷ answersOf (tell long v (push p)) es
+    gathered-one : (v : Holding) (p : Push) (es : List Call) → p .arrival .key ≡ m .key → answersOf v (push p ∷ es) ≡ answer long v (push p) ∷ answersOf (tell long v (push p)) es
     unfolding Y.answers
-    heard-one v p es e = rw (eq-eqb (p .arrival .key) (m .key) e)
+    gathered-one v p es e = rw (eq-eqb (p .arrival .key) (m .key) e)
 
-    heard-none : (v : Holding) → answersOf v [] ≡ []
+    gathered-none : (v : Holding) → answersOf v [] ≡ []
     unfolding Y.answers
-    heard-none v = refl
+    gathered-none v = refl
 
-    told-one : (v : Holding) (e : Call) (es : List Call) → toldTo v (e ∷ es) ≡ toldTo (tell long v e) es
-    unfolding Y.told
-    told-one v e es = refl
+    view-one : (v : Holding) (e : Call) (es : List Call) → viewBehind v (e ∷ es) ≡ viewBehind (tell long v e) es
+    unfolding Y.viewAfter
+    view-one v e es = refl
 
-    told-none : (v : Holding) → toldTo v [] ≡ v
-    unfolding Y.told
-    told-none v = refl
+    view-none : (v : Holding) → viewBehind v [] ≡ v
+    unfolding Y.viewAfter
+    view-none v = refl
 
-    as-story : (ks : List ℕ) (done : ℕ → Bool) (v : Holding) → Due done ks → Has m done v → (answersOf v (come ks) ≡ completing m ks) × (toldTo v (come ks) ≡ holdsNothing)
+    as-story : (ks : List ℕ) (done : ℕ → Bool) (v : Holding) → Due done ks → Has m done v → (answersOf v (come ks) ≡ completing m ks) × (viewBehind v (come ks) ≡ holdsNothing)
     as-story [] done v d has =
         let last = brings (m .final) (omega arith) in
         let end = completes-as m long store (bring (m .final)) last v (due-last done v d has) room in (
-          heard-one v (bring (m .final)) [] (last .key) ∙ ap (λ (es : List Told). answer long v (push (bring (m .final))) ∷ es) (heard-none (tell long v (push (bring (m .final))))) ∙ ap (λ (x : Told). x ∷ []) (end .0),
-          told-one v (push (bring (m .final))) [] ∙ told-none (tell long v (push (bring (m .final)))) ∙ end .1,
+          gathered-one v (bring (m .final)) [] (last .key) ∙ ap (λ (es : List Told). answer long v (push (bring (m .final))) ∷ es) (gathered-none (tell long v (push (bring (m .final))))) ∙ ap (λ (x : Told). x ∷ []) (end .0),
+          view-one v (push (bring (m .final))) [] ∙ view-none (tell long v (push (bring (m .final)))) ∙ end .1,
         )
     as-story (k ∷ ks) done v d has =
         let here = due-here done k ks d in
@@ -162,8 +162,8 @@ module _ (m : Message) (long : ℕ) (store : 47744 ≤ long) (bring : ℕ → Pu
         let next : tell long v (push (bring k)) ≡ withNew v (bring k) = ap (λ (w : Way). byOwn w v (bring k)) is in
         let said : answer long v (push (bring k)) ≡ pushed (gives waiting) [] = ap (λ (w : Way). pushed (answerBy w) (finishedBy w (bring k .payload))) is in
         let rest = as-story ks (λ j. done j || eqb k j) (withNew v (bring k)) (due-next done k ks d) (added m long store k (bring k) b v new done has) in (
-          heard-one v (bring k) (come ks) (b .key) ∙ ap (λ (x : Told). x ∷ answersOf (tell long v (push (bring k))) (come ks)) said ∙ ap (λ (u : Holding). pushed (gives waiting) [] ∷ answersOf u (come ks)) next ∙ ap (λ (es : List Told). pushed (gives waiting) [] ∷ es) (rest .0),
-          told-one v (push (bring k)) (come ks) ∙ ap (λ (u : Holding). toldTo u (come ks)) next ∙ rest .1,
+          gathered-one v (bring k) (come ks) (b .key) ∙ ap (λ (x : Told). x ∷ answersOf (tell long v (push (bring k))) (come ks)) said ∙ ap (λ (u : Holding). pushed (gives waiting) [] ∷ answersOf u (come ks)) next ∙ ap (λ (es : List Told). pushed (gives waiting) [] ∷ es) (rest .0),
+          view-one v (push (bring k)) (come ks) ∙ ap (λ (u : Holding). viewBehind u (come ks)) next ∙ rest .1,
         )
 
   -- each finds room
@@ -228,13 +228,13 @@ completes m bring order z made store absent-key has-place brings ordering room =
     let told = as-story m long store bring brings room order none (holding (m .key) z) d has in
     record {
       answers =
-          sym (every-heard after hasRoom (λ s e. isOwn (m .key) e) tells (calls m bring order) z roomy)
-          ∙ Y.heard-alone after tells holding isOwn isSweep (tell long) (answer long) hasRoom (Good long) (local-room long) (m .key) (calls m bring order) z g
+          sym (every-gathered after hasRoom (λ s e. isOwn (m .key) e) tells (calls m bring order) z roomy)
+          ∙ Y.gathered-alone after tells holding isOwn isSweep (tell long) (answer long) hasRoom (Good long) (local-room long) (m .key) (calls m bring order) z g
           ∙ ap (answersOf m long store bring brings (holding (m .key) z)) story
           ∙ told .0;
       holds =
           Y.alone after tells holding isOwn isSweep (tell long) (answer long) hasRoom (Good long) (local-room long) (m .key) (calls m bring order) z g
-          ∙ ap (toldTo m long store bring brings (holding (m .key) z)) story
+          ∙ ap (viewBehind m long store bring brings (holding (m .key) z)) story
           ∙ told .1;
     }
 

@@ -12,11 +12,11 @@ use Rattle.pushing.proofs.Firm.{one-answer}
 use Rattle.table.proofs.Places.{all-same}
 use Rattle.reassembler.specs.Keys.{Origin, keyFor}
 use Rattle.reassembler.proofs.Keys.{key-is-one's}
-use Rattle.orders.specs.Machine.{those, run, remaining, heard, every}
+use Rattle.machines.specs.Machine.{those, run, remaining, gathered, every}
 use Rattle.orders.specs.Runs.{State, Call, push, sweep, after, tells, isAccepted, hasRoom, isOwn, isSweep, mine, start, holding, ends, crossed, toldOf}
 use Rattle.orders.specs.Happened.{Event, push-event, sweep-event, Happens, by-push, by-sweep, Happened, none, more, callOf, Got, from-push, from-sweep, gotBy, replyOf, isRefused, isFull, sameBytes, isFrom, sweeps, isAbout}
 use Rattle.orders.specs.Claims.{Reordered, IsRun, AskedReordered, NoneFull, SameGot, AskedAlone, GotAlone}
-use Rattle.orders.proofs.Lists.{left-true, right-true}
+use Rattle.machines.proofs.Lists.{left-true, right-true, those-both}
 use Rattle.orders.proofs.Calls.{push-call, sweep-call}
 use Rattle.orders.proofs.Orders.{run-made, told-alone, order-across-keys}
 
@@ -54,13 +54,13 @@ module _ (test : State → Call → Bool) (passes : Event → Bool) (agree : (z 
       by-test true ih = rw ih
       by-test false ih = ih
 
-  gathers : {z z′ : State} {es : List Event} → Happened z es z′ → heard after test tells z (map callOf es) ≡ map (λ e. replyOf (gotBy e)) (those passes es)
-  unfolding heard those
+  gathers : {z z′ : State} {es : List Event} → Happened z es z′ → gathered after test tells z (map callOf es) ≡ map (λ e. replyOf (gotBy e)) (those passes es)
+  unfolding gathered those
   gathers none = refl
   gathers (more {z = z} {z′ = z′} {e = e} {es = es} h hs) = rw (agree z z′ e h, happens h .0, happens h .1) (by-test (passes e) (gathers hs))
     where
-      by-test : (b : Bool) → heard after test tells z′ (map callOf es) ≡ map (λ e. replyOf (gotBy e)) (those passes es)
-          → cond b (replyOf (gotBy e) ∷ heard after test tells z′ (map callOf es)) (heard after test tells z′ (map callOf es)) ≡ map (λ e. replyOf (gotBy e)) (cond b (e ∷ those passes es) (those passes es))
+      by-test : (b : Bool) → gathered after test tells z′ (map callOf es) ≡ map (λ e. replyOf (gotBy e)) (those passes es)
+          → cond b (replyOf (gotBy e) ∷ gathered after test tells z′ (map callOf es)) (gathered after test tells z′ (map callOf es)) ≡ map (λ e. replyOf (gotBy e)) (cond b (e ∷ those passes es) (those passes es))
       by-test true ih = rw ih
       by-test false ih = ih
 
@@ -174,19 +174,7 @@ reordered es fs same c = by-key (known c es) (known c fs)
     by-key (nobody's h) (someone's o e) = subst (λ (key : ℕ). mine key (map callOf es) ≡ mine key (map callOf fs)) e (at o)
     by-key (nobody's h) (nobody's k) = h ∙ sym (sweeps-among (keyFor nobody) (map callOf es)) ∙ ap (those isSweep) (at nobody) ∙ sweeps-among (keyFor nobody) (map callOf fs) ∙ sym k
 
-those-both : (own passes : Event → Bool) (es : List Event) → those own (those passes es) ≡ those (λ e. own e && passes e) es
-unfolding those
-those-both own passes [] = refl
-those-both own passes (e ∷ es) = by-tests (passes e) (own e) refl (those-both own passes es)
-  where
-    by-tests : (b c : Bool) → own e ≡ c → those own (those passes es) ≡ those (λ e. own e && passes e) es
-        → those own (cond b (e ∷ those passes es) (those passes es)) ≡ cond (c && b) (e ∷ those (λ e. own e && passes e) es) (those (λ e. own e && passes e) es)
-    by-tests true true q ih = rw (q, ih)
-    by-tests true false q ih = rw (q, ih)
-    by-tests false true q ih = ih
-    by-tests false false q ih = ih
-
--- what is heard of a key's own pushes
+-- what is told of a key's own pushes
 own : (o : Origin) {z z′ : State} {es : List Event} → Happened z es z′ → toldOf (keyFor o) z (map callOf es) ≡ map (λ e. replyOf (gotBy e)) (those (isFrom o) es)
 own o = gathers (λ s e. isOwn (keyFor o) e) (isFrom o) (λ z z′ e h. own-from o e)
 

@@ -1,6 +1,3 @@
-pub mod Lists
-pub mod Story
-pub mod TwoRuns
 pub mod Rows
 pub mod Lookups
 pub mod Holdings

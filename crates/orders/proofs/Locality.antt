@@ -16,7 +16,7 @@ use Rattle.orders.proofs.Telling.{refusedWay, refused-is, ownWay, byOwn
 use Rattle.orders.proofs.Pushing.{Good, roomBy, same-answer, same-finished, way-shape}
 use Rattle.orders.proofs.Effects.{stored-long, others-same, own-same}
 use Rattle.orders.proofs.Sweeps.{sweep-holding}
-use Rattle.orders.proofs.Story as Y
+use Rattle.machines.proofs.Story as Y
 
 -- a refused push changes nothing
 refused-same : (z : State) (p : Push) (test : ℕ → Bool) (w : Way) → refusedWay test w ≡ true → afterWay w z p ≡ z

@@ -11,19 +11,19 @@ use Rattle.sweeping.specs.Sweep.{swept}
 use Rattle.pushing.specs.Made.{Made}
 use Rattle.table.proofs.Sound.{fresh-sound}
 use Rattle.pushing.proofs.Sound.{sound}
-use Rattle.orders.specs.Machine.{those, run, remaining}
+use Rattle.machines.specs.Machine.{those, run, remaining}
 use Rattle.orders.specs.Runs.{State, Push, Call, push, sweep, counted, after, tells, isAccepted, hasRoom, isOwn, isSweep, concerns, mine, start, Holding, holding, ends, neverFull, holdsNothing, crossed}
 use Rattle.orders.specs.Shares.{due, share, total, isIn, distinct}
 use Rattle.orders.specs.Claims.{Local, Alike, ToldAlone, SharesAddUp, AddsUp, Reordered, SameStory}
-use Rattle.orders.proofs.Lists.{every-remains, every-heard}
+use Rattle.machines.proofs.Lists.{those-append, every-remains, every-gathered}
 use Rattle.orders.proofs.Telling.{tell, answer}
 use Rattle.orders.proofs.Pushing.{Good}
 use Rattle.orders.proofs.Locality.{refused-nothing, good-after, good-start, untouched, own-push, own-told, own-sweep, local-room, local-accepted}
 use Rattle.orders.proofs.Totals.{none-plus, total-same}
 use Rattle.orders.proofs.Counting.{counts-add-up, counts-same}
 use Rattle.orders.proofs.Alone.{Lone, echo, fresh-holds}
-use Rattle.orders.proofs.Story as Y
-use Rattle.orders.proofs.TwoRuns as R
+use Rattle.machines.proofs.Story as Y
+use Rattle.machines.proofs.TwoRuns as R
 
 fresh-same : (store store′ : List ℕ) (key : ℕ) → holding key (start store) ≡ holding key (start store′)
 fresh-same store store′ key = fresh-holds store fresh-sound key ∙ sym (fresh-holds store′ fresh-sound key)
@@ -43,7 +43,7 @@ module _ (store store′ : List ℕ) (long : length store′ ≡ length store) w
   told-alone key calls =
       let lone : Lone key (start store′) = λ k ne. fresh-holds store′ fresh-sound k in
       record {
-        answers = R.projected-heard after tells holding isOwn isSweep (tell n) (answer n) isAccepted (Good n) (local-accepted n) key (Lone key) (echo n key) calls (start store) (start store′) good good′ lone (fresh-same store store′ key);
+        answers = R.projected-gathered after tells holding isOwn isSweep (tell n) (answer n) isAccepted (Good n) (local-accepted n) key (Lone key) (echo n key) calls (start store) (start store′) good good′ lone (fresh-same store store′ key);
         holds = R.projected-view after tells holding isOwn isSweep (tell n) (answer n) isAccepted (Good n) (local-accepted n) key (Lone key) (echo n key) calls (start store) (start store′) good good′ lone (fresh-same store store′ key);
         none-refused = R.all-pass after tells holding isOwn isSweep (tell n) (answer n) isAccepted (Good n) (local-accepted n) key (Lone key) (echo n key) calls (start store) (start store′) good good′ lone (fresh-same store store′ key);
       }
@@ -60,23 +60,14 @@ module _ (store store′ : List ℕ) (long : length store′ ≡ length store) w
       = λ key. ap (mine key) (every-remains after hasRoom calls (start store) room) ∙ same key ∙ sym (ap (mine key) (every-remains after hasRoom calls′ (start store′) room′)) in
       record {
         pushes = λ key.
-            sym (every-heard after hasRoom (λ s e. isOwn key e) tells calls (start store) room)
-            ∙ R.alike-heard after tells holding isOwn isSweep (tell n) (answer n) hasRoom (Good n) (local-room n) key calls calls′ (start store) (start store′) good good′ (fresh-same store store′ key) (stories key)
-            ∙ every-heard after hasRoom (λ s e. isOwn key e) tells calls′ (start store′) room′;
+            sym (every-gathered after hasRoom (λ s e. isOwn key e) tells calls (start store) room)
+            ∙ R.alike-gathered after tells holding isOwn isSweep (tell n) (answer n) hasRoom (Good n) (local-room n) key calls calls′ (start store) (start store′) good good′ (fresh-same store store′ key) (stories key)
+            ∙ every-gathered after hasRoom (λ s e. isOwn key e) tells calls′ (start store′) room′;
         sweeps = R.alike-common after tells holding isOwn isSweep (tell n) (answer n) hasRoom (Good n) (local-room n) common-same calls calls′ (start store) (start store′) good good′ (fresh-same store store′) stories;
         holds = λ key. R.alike-view after tells holding isOwn isSweep (tell n) (answer n) hasRoom (Good n) (local-room n) key calls calls′ (start store) (start store′) good good′ (fresh-same store store′ key) (stories key);
       }
 
 -- two pushes under different keys that change places are such an order, and so are all that such changes lead to
-those-append : (test : Call → Bool) (es fs : List Call) → those test (es ++ fs) ≡ those test es ++ those test fs
-unfolding those
-those-append test [] fs = refl
-those-append test (e ∷ es) fs = by-test (test e) (those-append test es fs)
-  where
-    by-test : (b : Bool) → those test (es ++ fs) ≡ those test es ++ those test fs → cond b (e ∷ those test (es ++ fs)) (those test (es ++ fs)) ≡ cond b (e ∷ those test es) (those test es) ++ those test fs
-    by-test true h = ap (λ (l : List Call). e ∷ l) h
-    by-test false h = h
-
 pub swapped : (before behind : List Call) (p q : Push) → (p .arrival .key ≡ q .arrival .key → ⊥) → Reordered (before ++ push p ∷ push q ∷ behind) (before ++ push q ∷ push p ∷ behind)
 unfolding those
 swapped before behind p q apart key =

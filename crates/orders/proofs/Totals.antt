@@ -9,7 +9,7 @@ use borrow.Author.Tests.{eqb-true, eqb-false, eq-eqb, not-true}
 use Rattle.sweeping.specs.declared.Counts.{Counts}
 use Rattle.sweeping.specs.Sweep.{Lack, emptyFragments, noneMarkedLast, fewerKept, neitherOf, counted}
 use Rattle.orders.specs.Shares.{noneDropped, plus, total, isIn, distinct}
-use Rattle.orders.proofs.Lists.{left-true, right-true}
+use Rattle.machines.proofs.Lists.{left-true, right-true}
 
 -- counts that agree in each of the four
 pub four : (c d : Counts) → c .empty ≡ d .empty → c .unmarked ≡ d .unmarked → c .incomplete ≡ d .incomplete → c .neither ≡ d .neither → c ≡ d

@@ -6,7 +6,7 @@ use Prim.Native.Nat.{ℕ}
 use Rattle.sweeping.specs.Sweep.{swept}
 use Rattle.pushing.specs.Made.{Made}
 use Rattle.reassembler.specs.Keys.{Origin, keyFor}
-use Rattle.orders.specs.Machine.{those, every}
+use Rattle.machines.specs.Machine.{those, every}
 use Rattle.orders.specs.Shares.{share, total}
 use Rattle.orders.specs.Messages.{Message, calls, completing}
 use Rattle.orders.specs.Runs.{State, Push, Call, push, sweep, isAccepted, hasRoom, after, tells, mine, start, holding, holdsNothing, ends, crossed, toldOf, toldOfAccepted, toldOfSweeps}

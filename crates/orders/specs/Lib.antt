@@ -1,4 +1,3 @@
-pub mod Machine
 pub mod Runs
 pub mod Shares
 pub mod Messages

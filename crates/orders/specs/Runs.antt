@@ -13,7 +13,7 @@ use Rattle.pushing.specs.Joining.{nothing, Fragments, Since, never, heldBy, fir
 use Rattle.pushing.specs.Push.{Heard, Way, way, tableBy, storeBy, outputBy, answerBy}
 use Rattle.sweeping.specs.Sweep.{swept}
 use Rattle.pushing.specs.Show.{shown}
-use Rattle.orders.specs.Machine.{those, run, remaining, heard, every}
+use Rattle.machines.specs.Machine.{those, run, remaining, gathered, every}
 
 pub record State : Type 0 where
   pub table : Table
@@ -63,7 +63,7 @@ tells s (sweep time) = counted (swept (s .table) time .counts)
 
 -- a call is refused by some number, or for table room
 abbrev pub refusedBy : (ℕ → Bool) → Told → Bool
-refusedBy test (pushed (gives heard) bytes) = false
+refusedBy test (pushed (gives given) bytes) = false
 refusedBy test (pushed (refuses n values) bytes) = test n
 refusedBy test (counted c) = false
 
@@ -115,13 +115,13 @@ crossed = remaining after isAccepted
 
 -- what is told of a key's own pushes, of those not refused, and of the sweeps
 abbrev pub toldOf : ℕ → State → List Call → List Told
-toldOf key = heard after (λ s e. isOwn key e) tells
+toldOf key = gathered after (λ s e. isOwn key e) tells
 
 abbrev pub toldOfAccepted : ℕ → State → List Call → List Told
-toldOfAccepted key = heard after (λ s e. isOwn key e && isAccepted s e) tells
+toldOfAccepted key = gathered after (λ s e. isOwn key e && isAccepted s e) tells
 
 abbrev pub toldOfSweeps : State → List Call → List Told
-toldOfSweeps = heard after (λ s e. isSweep e) tells
+toldOfSweeps = gathered after (λ s e. isSweep e) tells
 
 -- no call of a run is refused for table room
 abbrev pub neverFull : State → List Call → Bool

@@ -1,9 +1,9 @@
--- One key's story, told alone, for any machine: what one call does to one key's view, given once, gives what any calls do to it and what is heard of them.
+-- One key's story, told alone, for any machine: what one call does to one key's view, given once, gives what any calls do to it and what is gathered of them.
 use mathlib.Core.Path.{_≡_, refl, sym, ap, _∙_}
 use mathlib.Core.List.{List, [], _∷_}
 use mathlib.Core.Bool.{Bool, true, false, cond, _&&_, _||_, false≢true}
 use Prim.Native.Nat.{ℕ}
-use Rattle.orders.specs.Machine.{those, run, remaining, heard, every}
+use Rattle.machines.specs.Machine.{those, run, remaining, gathered, every}
 
 module _ {S E A Vw : Type 0} (step : S → E → S) (says : S → E → A) (view : ℕ → S → Vw) (own : ℕ → E → Bool) (common : E → Bool) (tell : Vw → E → Vw) (answer : Vw → E → A) where
   abbrev pub for : ℕ → E → Bool
@@ -19,9 +19,9 @@ module _ {S E A Vw : Type 0} (step : S → E → S) (says : S → E → A) (view
     pub said : (c : ℕ) (s : S) (e : E) → Good s → passes s e ≡ true → own c e ≡ true → says s e ≡ answer (view c s) e
 
   -- a story: the view after it, what is answered to the key's own calls, and the views at the common ones
-  unfoldable pub told : Vw → List E → Vw
-  told v [] = v
-  told v (e ∷ es) = told (tell v e) es
+  unfoldable pub viewAfter : Vw → List E → Vw
+  viewAfter v [] = v
+  viewAfter v (e ∷ es) = viewAfter (tell v e) es
 
   unfoldable pub answers : ℕ → Vw → List E → List A
   answers c v [] = []
@@ -68,45 +68,45 @@ module _ {S E A Vw : Type 0} (step : S → E → S) (says : S → E → A) (view
           by-case false k p q = rw (story-crossed s e es p) (h p)
 
       -- the view
-      pub alone : (es : List E) (s : S) → Good s → view c (run step s es) ≡ told (view c s) (story s es)
-      unfolding run told those remaining
+      pub alone : (es : List E) (s : S) → Good s → view c (run step s es) ≡ viewAfter (view c s) (story s es)
+      unfolding run viewAfter those remaining
       alone [] s g = refl
       alone (e ∷ es) s g =
           let ih = alone es (step s e) (L .stays s e g) in
-          next (λ (l : List E). view c (run step (step s e) es) ≡ told (view c s) l) s e es
-          (λ p q. ih ∙ ap (λ (v : Vw). told v (story (step s e) es)) (L .same c s e g p q))
-          (λ p q. ih ∙ ap (λ (v : Vw). told v (story (step s e) es)) (L .other c s e g q))
-          (λ p. ih ∙ ap (λ (z : S). told (view c z) (story (step s e) es)) (L .crossed s e g p))
+          next (λ (l : List E). view c (run step (step s e) es) ≡ viewAfter (view c s) l) s e es
+          (λ p q. ih ∙ ap (λ (v : Vw). viewAfter v (story (step s e) es)) (L .same c s e g p q))
+          (λ p q. ih ∙ ap (λ (v : Vw). viewAfter v (story (step s e) es)) (L .other c s e g q))
+          (λ p. ih ∙ ap (λ (z : S). viewAfter (view c z) (story (step s e) es)) (L .crossed s e g p))
 
       -- what is answered to the key's own calls
       abbrev pub hers : S → E → Bool
       hers s e = own c e && passes s e
 
-      heard-in : (s : S) (e : E) (es : List E) → Good s → passes s e ≡ true → heard step hers says (step s e) es ≡ answers c (tell (view c s) e) (story (step s e) es)
-          → (b : Bool) → own c e ≡ b → heard step hers says s (e ∷ es) ≡ answers c (view c s) (e ∷ story (step s e) es)
-      unfolding heard answers
-      heard-in s e es g p ih true q = rw (q, p, ih, L .said c s e g p q)
-      heard-in s e es g p ih false q = rw (q, ih)
+      gathered-in : (s : S) (e : E) (es : List E) → Good s → passes s e ≡ true → gathered step hers says (step s e) es ≡ answers c (tell (view c s) e) (story (step s e) es)
+          → (b : Bool) → own c e ≡ b → gathered step hers says s (e ∷ es) ≡ answers c (view c s) (e ∷ story (step s e) es)
+      unfolding gathered answers
+      gathered-in s e es g p ih true q = rw (q, p, ih, L .said c s e g p q)
+      gathered-in s e es g p ih false q = rw (q, ih)
 
-      heard-crossed : (s : S) (e : E) (es : List E) → passes s e ≡ false → (b : Bool) → own c e ≡ b → heard step hers says s (e ∷ es) ≡ heard step hers says (step s e) es
-      unfolding heard
-      heard-crossed s e es p true q = rw (q, p)
-      heard-crossed s e es p false q = rw q
+      gathered-crossed : (s : S) (e : E) (es : List E) → passes s e ≡ false → (b : Bool) → own c e ≡ b → gathered step hers says s (e ∷ es) ≡ gathered step hers says (step s e) es
+      unfolding gathered
+      gathered-crossed s e es p true q = rw (q, p)
+      gathered-crossed s e es p false q = rw q
 
-      heard-other : (s : S) (e : E) (es : List E) → for c e ≡ false → (b : Bool) → own c e ≡ b → heard step hers says s (e ∷ es) ≡ heard step hers says (step s e) es
-      unfolding heard
-      heard-other s e es p true q = absurd (false≢true (sym p ∙ rw q))
-      heard-other s e es p false q = rw q
+      gathered-other : (s : S) (e : E) (es : List E) → for c e ≡ false → (b : Bool) → own c e ≡ b → gathered step hers says s (e ∷ es) ≡ gathered step hers says (step s e) es
+      unfolding gathered
+      gathered-other s e es p true q = absurd (false≢true (sym p ∙ rw q))
+      gathered-other s e es p false q = rw q
 
-      pub heard-alone : (es : List E) (s : S) → Good s → heard step hers says s es ≡ answers c (view c s) (story s es)
-      unfolding heard answers those remaining
-      heard-alone [] s g = refl
-      heard-alone (e ∷ es) s g =
-          let ih = heard-alone es (step s e) (L .stays s e g) in
-          next (λ (l : List E). heard step hers says s (e ∷ es) ≡ answers c (view c s) l) s e es
-          (λ p q. heard-in s e es g p (ih ∙ ap (λ (v : Vw). answers c v (story (step s e) es)) (L .same c s e g p q)) (own c e) refl)
-          (λ p q. heard-other s e es q (own c e) refl ∙ ih ∙ ap (λ (v : Vw). answers c v (story (step s e) es)) (L .other c s e g q))
-          (λ p. heard-crossed s e es p (own c e) refl ∙ ih ∙ ap (λ (z : S). answers c (view c z) (story (step s e) es)) (L .crossed s e g p))
+      pub gathered-alone : (es : List E) (s : S) → Good s → gathered step hers says s es ≡ answers c (view c s) (story s es)
+      unfolding gathered answers those remaining
+      gathered-alone [] s g = refl
+      gathered-alone (e ∷ es) s g =
+          let ih = gathered-alone es (step s e) (L .stays s e g) in
+          next (λ (l : List E). gathered step hers says s (e ∷ es) ≡ answers c (view c s) l) s e es
+          (λ p q. gathered-in s e es g p (ih ∙ ap (λ (v : Vw). answers c v (story (step s e) es)) (L .same c s e g p q)) (own c e) refl)
+          (λ p q. gathered-other s e es q (own c e) refl ∙ ih ∙ ap (λ (v : Vw). answers c v (story (step s e) es)) (L .other c s e g q))
+          (λ p. gathered-crossed s e es p (own c e) refl ∙ ih ∙ ap (λ (z : S). answers c (view c z) (story (step s e) es)) (L .crossed s e g p))
 
       -- the views at the common calls
       abbrev pub seen : S → E → Vw × E
@@ -115,29 +115,29 @@ module _ {S E A Vw : Type 0} (step : S → E → S) (says : S → E → A) (view
       abbrev pub shared : S → E → Bool
       shared s e = common e
 
-      met-in : (s : S) (e : E) (es : List E) → heard step shared seen (step s e) es ≡ met (tell (view c s) e) (story (step s e) es)
-          → (b : Bool) → common e ≡ b → heard step shared seen s (e ∷ es) ≡ met (view c s) (e ∷ story (step s e) es)
-      unfolding heard met
+      met-in : (s : S) (e : E) (es : List E) → gathered step shared seen (step s e) es ≡ met (tell (view c s) e) (story (step s e) es)
+          → (b : Bool) → common e ≡ b → gathered step shared seen s (e ∷ es) ≡ met (view c s) (e ∷ story (step s e) es)
+      unfolding gathered met
       met-in s e es ih true q = rw (q, ih)
       met-in s e es ih false q = rw (q, ih)
 
-      met-other : (s : S) (e : E) (es : List E) → for c e ≡ false → (b : Bool) → common e ≡ b → (d : Bool) → own c e ≡ d → heard step shared seen s (e ∷ es) ≡ heard step shared seen (step s e) es
-      unfolding heard
+      met-other : (s : S) (e : E) (es : List E) → for c e ≡ false → (b : Bool) → common e ≡ b → (d : Bool) → own c e ≡ d → gathered step shared seen s (e ∷ es) ≡ gathered step shared seen (step s e) es
+      unfolding gathered
       met-other s e es p true q true q′ = absurd (false≢true (sym p ∙ rw q′))
       met-other s e es p true q false q′ = absurd (false≢true (sym p ∙ rw (q′, q)))
       met-other s e es p false q d q′ = rw q
 
-      met-crossed : (s : S) (e : E) (es : List E) → passes s e ≡ false → (b : Bool) → common e ≡ b → heard step shared seen s (e ∷ es) ≡ heard step shared seen (step s e) es
-      unfolding heard
+      met-crossed : (s : S) (e : E) (es : List E) → passes s e ≡ false → (b : Bool) → common e ≡ b → gathered step shared seen s (e ∷ es) ≡ gathered step shared seen (step s e) es
+      unfolding gathered
       met-crossed s e es p true q = absurd (false≢true (sym p ∙ L .always s e q))
       met-crossed s e es p false q = rw q
 
-      pub met-alone : (es : List E) (s : S) → Good s → heard step shared seen s es ≡ met (view c s) (story s es)
-      unfolding heard met those remaining
+      pub met-alone : (es : List E) (s : S) → Good s → gathered step shared seen s es ≡ met (view c s) (story s es)
+      unfolding gathered met those remaining
       met-alone [] s g = refl
       met-alone (e ∷ es) s g =
           let ih = met-alone es (step s e) (L .stays s e g) in
-          next (λ (l : List E). heard step shared seen s (e ∷ es) ≡ met (view c s) l) s e es
+          next (λ (l : List E). gathered step shared seen s (e ∷ es) ≡ met (view c s) l) s e es
           (λ p q. met-in s e es (ih ∙ ap (λ (v : Vw). met v (story (step s e) es)) (L .same c s e g p q)) (common e) refl)
           (λ p q. met-other s e es q (common e) refl (own c e) refl ∙ ih ∙ ap (λ (v : Vw). met v (story (step s e) es)) (L .other c s e g q))
           (λ p. met-crossed s e es p (common e) refl ∙ ih ∙ ap (λ (z : S). met (view c z) (story (step s e) es)) (L .crossed s e g p))

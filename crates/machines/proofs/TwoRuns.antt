@@ -4,9 +4,9 @@ use mathlib.Core.List.{List, [], _∷_, map}
 use mathlib.Core.Bool.{Bool, true, false, cond, _&&_, _||_}
 use Prim.Native.Nat.{ℕ}
 use native.Mathlib.Omega.{arith}
-use Rattle.orders.specs.Machine.{those, run, remaining, heard, every}
-use Rattle.orders.proofs.Lists.{those-twice, every-remains, every-heard, heard-map}
-use Rattle.orders.proofs.Story as Y
+use Rattle.machines.specs.Machine.{those, run, remaining, gathered, every}
+use Rattle.machines.proofs.Lists.{those-twice, every-remains, every-gathered, gathered-map}
+use Rattle.machines.proofs.Story as Y
 
 module _ {S E A Vw : Type 0} (step : S → E → S) (says : S → E → A) (view : ℕ → S → Vw) (own : ℕ → E → Bool) (common : E → Bool) (tell : Vw → E → Vw) (answer : Vw → E → A)
     (passes : S → E → Bool) (Good : S → Type 0) (L : Y.Local step says view own common tell answer passes Good) where
@@ -19,13 +19,13 @@ module _ {S E A Vw : Type 0} (step : S → E → S) (says : S → E → A) (view
   -- stories that are alike end alike
   pub alike-view : (c : ℕ) (es fs : List E) (s s′ : S) → Good s → Good s′ → view c s ≡ view c s′ → story c s es ≡ story c s′ fs → view c (run step s es) ≡ view c (run step s′ fs)
   alike-view c es fs s s′ g g′ v h =
-      let between : Y.told step says view own common tell answer (view c s) (story c s es) ≡ Y.told step says view own common tell answer (view c s′) (story c s′ fs) = cc in
+      let between : Y.viewAfter step says view own common tell answer (view c s) (story c s es) ≡ Y.viewAfter step says view own common tell answer (view c s′) (story c s′ fs) = cc in
       Y.alone step says view own common tell answer passes Good L c es s g ∙ between ∙ sym (Y.alone step says view own common tell answer passes Good L c fs s′ g′)
 
-  pub alike-heard : (c : ℕ) (es fs : List E) (s s′ : S) → Good s → Good s′ → view c s ≡ view c s′ → story c s es ≡ story c s′ fs → heard step (hers c) says s es ≡ heard step (hers c) says s′ fs
-  alike-heard c es fs s s′ g g′ v h =
+  pub alike-gathered : (c : ℕ) (es fs : List E) (s s′ : S) → Good s → Good s′ → view c s ≡ view c s′ → story c s es ≡ story c s′ fs → gathered step (hers c) says s es ≡ gathered step (hers c) says s′ fs
+  alike-gathered c es fs s s′ g g′ v h =
       let between : Y.answers step says view own common tell answer c (view c s) (story c s es) ≡ Y.answers step says view own common tell answer c (view c s′) (story c s′ fs) = cc in
-      Y.heard-alone step says view own common tell answer passes Good L c es s g ∙ between ∙ sym (Y.heard-alone step says view own common tell answer passes Good L c fs s′ g′)
+      Y.gathered-alone step says view own common tell answer passes Good L c es s g ∙ between ∙ sym (Y.gathered-alone step says view own common tell answer passes Good L c fs s′ g′)
 
   -- one key's story, told alone
   module _ (c : ℕ) (Lone : S → Type 0) (K : Y.Echo step says view own common tell answer passes Good L c Lone) (es : List E) (s s′ : S) (g : Good s) (g′ : Good s′) (l : Lone s′) (v : view c s ≡ view c s′) where
@@ -38,8 +38,8 @@ module _ {S E A Vw : Type 0} (step : S → E → S) (says : S → E → A) (view
     pub projected-view : view c (run step s es) ≡ view c (run step s′ (story c s es))
     projected-view = alike-view c es (story c s es) s s′ g g′ v same-story
 
-    pub projected-heard : heard step (hers c) says s es ≡ heard step (λ s e. own c e) says s′ (story c s es)
-    projected-heard = alike-heard c es (story c s es) s s′ g g′ v same-story ∙ every-heard step passes (λ s e. own c e) says (story c s es) s′ all-pass
+    pub projected-gathered : gathered step (hers c) says s es ≡ gathered step (λ s e. own c e) says s′ (story c s es)
+    projected-gathered = alike-gathered c es (story c s es) s s′ g g′ v same-story ∙ every-gathered step passes (λ s e. own c e) says (story c s es) s′ all-pass
 
   -- at each common call the states, the call itself with them
   abbrev stage : S → E → S × E
@@ -52,12 +52,12 @@ module _ {S E A Vw : Type 0} (step : S → E → S) (says : S → E → A) (view
     none : Stages []
     more : {s : S} {e : E} {xs : List (S × E)} → Good s → common e ≡ true → Stages xs → Stages ((s, e) ∷ xs)
 
-  stages : (es : List E) (s : S) → Good s → Stages (heard step shared stage s es)
-  unfolding heard
+  stages : (es : List E) (s : S) → Good s → Stages (gathered step shared stage s es)
+  unfolding gathered
   stages [] s g = none
   stages (e ∷ es) s g = by-test (common e) refl (stages es (step s e) (L .stays s e g))
     where
-      by-test : (b : Bool) → common e ≡ b → Stages (heard step shared stage (step s e) es) → Stages (cond b ((s, e) ∷ heard step shared stage (step s e) es) (heard step shared stage (step s e) es))
+      by-test : (b : Bool) → common e ≡ b → Stages (gathered step shared stage (step s e) es) → Stages (cond b ((s, e) ∷ gathered step shared stage (step s e) es) (gathered step shared stage (step s e) es))
       by-test true p r = more g p r
       by-test false p r = r
 
@@ -82,17 +82,17 @@ module _ {S E A Vw : Type 0} (step : S → E → S) (says : S → E → A) (view
         let rest : map spoken xs ≡ map spoken ys = agree r r′ (λ c. let k = h c in cc) in
         cc
 
-    pub alike-common : (es fs : List E) (s s′ : S) → Good s → Good s′ → ((c : ℕ) → view c s ≡ view c s′) → ((c : ℕ) → story c s es ≡ story c s′ fs) → heard step shared says s es ≡ heard step shared says s′ fs
+    pub alike-common : (es fs : List E) (s s′ : S) → Good s → Good s′ → ((c : ℕ) → view c s ≡ view c s′) → ((c : ℕ) → story c s es ≡ story c s′ fs) → gathered step shared says s es ≡ gathered step shared says s′ fs
     alike-common es fs s s′ g g′ v h =
         let met = Y.met step says view own common tell answer in
-        sym (heard-map step shared stage spoken es s)
+        sym (gathered-map step shared stage spoken es s)
         ∙ agree (stages es s g) (stages fs s′ g′) (λ c.
         let w = v c in
         let k = h c in
         let between : met (view c s) (story c s es) ≡ met (view c s′) (story c s′ fs) = cc in
-        heard-map step shared stage (at c) es s
+        gathered-map step shared stage (at c) es s
         ∙ Y.met-alone step says view own common tell answer passes Good L c es s g
         ∙ between
         ∙ sym (Y.met-alone step says view own common tell answer passes Good L c fs s′ g′)
-        ∙ sym (heard-map step shared stage (at c) fs s′))
-        ∙ heard-map step shared stage spoken fs s′
+        ∙ sym (gathered-map step shared stage (at c) fs s′))
+        ∙ gathered-map step shared stage spoken fs s′

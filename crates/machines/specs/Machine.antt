@@ -1,4 +1,4 @@
--- A machine that takes one call after the other: its runs, the calls that are crossed out, and what is heard of the others.
+-- A machine that takes one call after the other: its runs, the calls that are crossed out, and what is gathered of the others.
 use mathlib.Core.List.{List, [], _∷_}
 use mathlib.Core.Bool.{Bool, true, cond, _&&_}
 
@@ -17,10 +17,10 @@ unfoldable pub remaining : {S E : Type 0} → (S → E → S) → (S → E → B
 remaining step test s [] = []
 remaining step test s (e ∷ es) = cond (test s e) (e ∷ remaining step test (step s e) es) (remaining step test (step s e) es)
 
--- what is heard of them, in their order
-unfoldable pub heard : {S E A : Type 0} → (S → E → S) → (S → E → Bool) → (S → E → A) → S → List E → List A
-heard step test says s [] = []
-heard step test says s (e ∷ es) = cond (test s e) (says s e ∷ heard step test says (step s e) es) (heard step test says (step s e) es)
+-- what is gathered of them, in their order
+unfoldable pub gathered : {S E A : Type 0} → (S → E → S) → (S → E → Bool) → (S → E → A) → S → List E → List A
+gathered step test says s [] = []
+gathered step test says s (e ∷ es) = cond (test s e) (says s e ∷ gathered step test says (step s e) es) (gathered step test says (step s e) es)
 
 -- each call passes the test at the state in which it comes
 unfoldable pub every : {S E : Type 0} → (S → E → S) → (S → E → Bool) → S → List E → Bool
