@@ -7,7 +7,7 @@ use native.Mathlib.Omega.{arith}
 use lib.Dec.{eqb}
 use borrow.Author.Tests.{eqb-true, eqb-false, eq-eqb, ne-eqb, not-false}
 use Rattle.table.specs.declared.Table.{Table}
-use Rattle.sweeping.specs.declared.ages.Tally.{Tally}
+use Rattle.sweeping.specs.Sweep.{Tally}
 use Rattle.table.specs.Rows.{ownerOf, freshTable, placeAt, rowOf, isSpare, lowestFree, isFree}
 use Rattle.pushing.specs.Joining.{never, since}
 use Rattle.pushing.specs.Push.{Way, refuse, replace, keepAt, openAt, end}

@@ -9,7 +9,7 @@ use lib.ListN.{length}
 use borrow.Author.Tests.{eqb-true, eqb-false, eq-eqb, ne-eqb, ltb-true, not-true}
 use Rattle.numbers.specs.Numbers.{gives}
 use Rattle.table.specs.declared.Table.{Table}
-use Rattle.sweeping.specs.declared.ages.Tally.{Tally}
+use Rattle.sweeping.specs.Sweep.{Tally}
 use Rattle.table.specs.Search.{lowest}
 use Rattle.table.specs.Rows.{freshTable, rowOf, spareRow, lowestFree, withKey, withPlace}
 use Rattle.pushing.specs.Joining.{Held, Kept, nothing, kept, Fragments, andNew, Since, never, since}

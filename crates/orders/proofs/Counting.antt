@@ -9,10 +9,10 @@ use borrow.Author.Tests.{ltb-true, ltb-false, lt-ltb, le-ltb, eqb-true, eqb-fals
 use Rattle.table.specs.declared.Table.{Table}
 use Rattle.sweeping.specs.declared.Counts.{Counts}
 use Rattle.sweeping.specs.declared.Swept.{Swept}
-use Rattle.sweeping.specs.declared.ages.Tally.{Tally}
+use Rattle.sweeping.specs.Sweep.{Tally}
 use Rattle.table.specs.Rows.{Place, ownerOf, placeAt, rowOf, without}
 use Rattle.pushing.specs.Joining.{heldIn, never, since}
-use Rattle.sweeping.specs.Sweep.{expired, tallied, tally, lackOf, counted, sweptRow, sweptRows, swept}
+use Rattle.sweeping.specs.Sweep.{expired, tallied, tally, lackOf, plusOne, sweptRow, sweptRows, swept}
 use Rattle.table.proofs.Sound.{Sound, row-holds}
 use Rattle.sweeping.proofs.Sound.{sweep-sound}
 use Rattle.orders.specs.Runs.{State, Holding, holding, holdsNothing}
@@ -37,7 +37,7 @@ tally-without t row r ne (suc n) =
 
 -- one row's share
 unfoldable rowShare : Table → ℕ → ℕ → Counts
-rowShare t time row = cond (expired t time row) (counted (lackOf (tally t row 32)) noneDropped) noneDropped
+rowShare t time row = cond (expired t time row) (plusOne (lackOf (tally t row 32)) noneDropped) noneDropped
 
 unfoldable rowsTotal : Table → ℕ → ℕ → Counts
 rowsTotal t time zero = noneDropped
@@ -54,7 +54,7 @@ module _ (t : Table) (s : Sound t) (time : ℕ) where
     as-tally : tally u r 32 ≡ tally t r 32
 
   later-by : (n r : ℕ) → n < 16 → n < r → (b : Bool) → (w : Swept) → Sound (w .table) → Later (w .table) r
-      → Later (cond b (record { table = without (w .table) n; counts = counted (lackOf (tally (w .table) n 32)) (w .counts) }) w .table) r
+      → Later (cond b (record { table = without (w .table) n; counts = plusOne (lackOf (tally (w .table) n 32)) (w .counts) }) w .table) r
   later-by n r h l false w s₁ k = k
   later-by n r h l true w s₁ k =
       let off : r ≡ n → ⊥ = λ e. omega arith in
@@ -74,7 +74,7 @@ module _ (t : Table) (s : Sound t) (time : ℕ) where
   row-share n h w k =
       by-age (expired (w .table) time n) ∙ rw (k .as-used, k .as-first, k .as-tally)
     where
-      by-age : (b : Bool) → cond b (record { table = without (w .table) n; counts = counted (lackOf (tally (w .table) n 32)) (w .counts) }) w .counts ≡ plus (w .counts) (cond b (counted (lackOf (tally (w .table) n 32)) noneDropped) noneDropped)
+      by-age : (b : Bool) → cond b (record { table = without (w .table) n; counts = plusOne (lackOf (tally (w .table) n 32)) (w .counts) }) w .counts ≡ plus (w .counts) (cond b (plusOne (lackOf (tally (w .table) n 32)) noneDropped) noneDropped)
       by-age true = counted-plus (lackOf (tally (w .table) n 32)) (w .counts)
       by-age false = sym (plus-none (w .counts))
 
@@ -94,9 +94,9 @@ module _ (z : State) (s : Sound (z .table)) (time : ℕ) where
   share-row : (k row : ℕ) → rowOf t k ≡ row → row < 16 → shareOf k ≡ rowShare t time row
   unfolding share rowShare
   share-row k row e h =
-      ap (λ (b : Bool). cond b (counted (lackOf (tallyOf (holding k z .fragments) 256)) noneDropped) noneDropped) (due-is t time k row e h)
-      ∙ ap (λ (r : ℕ). cond (expired t time row) (counted (lackOf (tallyOf (heldIn t (z .store) r) 256)) noneDropped) noneDropped) e
-      ∙ ap (λ (y : Tally). cond (expired t time row) (counted (lackOf y) noneDropped) noneDropped) (sym (tally-held t s (z .store) row))
+      ap (λ (b : Bool). cond b (plusOne (lackOf (tallyOf (holding k z .fragments) 256)) noneDropped) noneDropped) (due-is t time k row e h)
+      ∙ ap (λ (r : ℕ). cond (expired t time row) (plusOne (lackOf (tallyOf (heldIn t (z .store) r) 256)) noneDropped) noneDropped) e
+      ∙ ap (λ (y : Tally). cond (expired t time row) (plusOne (lackOf y) noneDropped) noneDropped) (sym (tally-held t s (z .store) row))
 
   share-none : (k : ℕ) → 16 ≤ rowOf t k → shareOf k ≡ noneDropped
   unfolding share

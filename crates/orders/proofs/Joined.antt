@@ -7,7 +7,7 @@ use native.Mathlib.Omega.{arith}
 use lib.Dec.{ltb}
 use borrow.Author.Tests.{ltb-true, ltb-false, lt-ltb, le-ltb, eq-eqb}
 use Rattle.table.specs.Search.{lowest, some}
-use Rattle.pushing.specs.Joining.{Held, Kept, nothing, kept, Fragments, isKept, isLast, unlike, inconsistentWith, reach, gapped, payloads}
+use Rattle.pushing.specs.Joining.{Held, Kept, nothing, kept, Fragments, isKept, isLast, unlike, inconsistentWith, reach, gapped, inOrder, payloads}
 use Rattle.pushing.specs.Push.{end, missing, messageWay, joinWay}
 use Rattle.table.proofs.Search.{lowest-before, lowest-is, lowest-none}
 use Rattle.pushing.proofs.Pieces.{some-at}
@@ -43,7 +43,7 @@ module _ (new : Held) (fs : Fragments) (h : ℕ → Held) (n : ℕ) (in-byte : n
 
   -- the pieces in number order
   payloads-are : (piece : ℕ → List ℕ) → ((k : ℕ) → k < n → h k .payload ≡ piece k) → (m : ℕ) → m ≤ n → payloads fs m ≡ pieces piece m
-  unfolding payloads pieces
+  unfolding inOrder pieces
   payloads-are piece same zero l = refl
   payloads-are piece same (suc m) l = rw (payloads-are piece same m (omega arith), there m (omega arith), same m (omega arith))
 

@@ -7,9 +7,9 @@ use lib.ListN.{getD}
 use borrow.Author.Tests.{lt-ltb, le-ltb}
 use Rattle.table.specs.declared.Table.{Table}
 use Rattle.table.specs.Rows.{rowOf}
-use Rattle.pushing.specs.Joining.{nothing, Since, never, since, heldBy, firstTime}
+use Rattle.pushing.specs.Joining.{nothing, Since, never, since, due as isOld, heldBy, firstTime}
 use Rattle.sweeping.specs.Sweep.{expired, swept}
-use Rattle.pushing.proofs.Aged.{isOld, sweep-told}
+use Rattle.pushing.proofs.Aged.{sweep-told}
 use Rattle.table.proofs.Sound.{Sound, row-holds}
 use Rattle.orders.specs.Runs.{State, holding, holdsNothing}
 use Rattle.orders.specs.Shares.{due}

@@ -7,7 +7,7 @@ use native.Mathlib.Omega.{arith}
 use lib.Dec.{eqb}
 use borrow.Author.Tests.{eqb-true, eqb-false, eq-eqb, ne-eqb}
 use Rattle.table.specs.declared.Table.{Table}
-use Rattle.sweeping.specs.declared.ages.Tally.{Tally}
+use Rattle.sweeping.specs.Sweep.{Tally}
 use Rattle.table.specs.Rows.{ownerOf, placeAt, bytesAt}
 use Rattle.pushing.specs.Joining.{Held, Kept, nothing, kept, Fragments, heldIn, andNew}
 use Rattle.sweeping.specs.Sweep.{tally}

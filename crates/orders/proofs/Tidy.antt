@@ -11,7 +11,7 @@ use Rattle.table.specs.declared.Table.{Table}
 use Rattle.pushing.specs.declared.Arrival.{Arrival}
 use Rattle.table.specs.Rows.{Place, ownerOf, freePlace, freshTable, placeAt, rowOf, withKey, withPlace, without}
 use Rattle.pushing.specs.Push.{Way, placeFor, tableBy}
-use Rattle.sweeping.specs.Sweep.{expired, tally, lackOf, counted, sweptRow, sweptRows}
+use Rattle.sweeping.specs.Sweep.{expired, tally, lackOf, plusOne, sweptRow, sweptRows}
 use Rattle.pushing.specs.Made.{Made, byFresh, byPush, bySweep}
 use Rattle.pushing.proofs.Ways.{Went, went, went-refuse, went-replace, went-keep, went-open, went-end}
 use Rattle.table.proofs.Sound.{Sound, open-sound}
@@ -67,7 +67,7 @@ sweep-tidy t s y time zero h = y
 sweep-tidy t s y time (suc n) h = by-age (expired (sweptRows t time n .table) time n) (sweep-tidy t s y time n (omega arith))
   where
     by-age : (b : Bool) → Tidy (sweptRows t time n .table)
-        → Tidy (cond b (record { table = without (sweptRows t time n .table) n; counts = counted (lackOf (tally (sweptRows t time n .table) n 32)) (sweptRows t time n .counts) }) (sweptRows t time n) .table)
+        → Tidy (cond b (record { table = without (sweptRows t time n .table) n; counts = plusOne (lackOf (tally (sweptRows t time n .table) n 32)) (sweptRows t time n .counts) }) (sweptRows t time n) .table)
     by-age true y′ = drop-tidy (sweptRows t time n .table) (sweep-sound t s time n (omega arith)) y′ n (omega arith)
     by-age false y′ = y′
 

@@ -7,7 +7,7 @@ use native.Mathlib.Omega.{arith}
 use lib.Dec.{eqb}
 use borrow.Author.Tests.{eqb-true, eqb-false, eq-eqb, not-true}
 use Rattle.sweeping.specs.declared.Counts.{Counts}
-use Rattle.sweeping.specs.Sweep.{Lack, emptyFragments, noneMarkedLast, fewerKept, neitherOf, counted}
+use Rattle.sweeping.specs.Sweep.{Lack, emptyFragments, noneMarkedLast, fewerKept, neitherOf, plusOne}
 use Rattle.orders.specs.Shares.{noneDropped, plus, total, isIn, distinct}
 use Rattle.machines.proofs.Lists.{left-true, right-true}
 
@@ -24,11 +24,11 @@ none-plus c = four (plus noneDropped c) c (omega arith) (omega arith) (omega ari
 swap : (c d e : Counts) → plus (plus c d) e ≡ plus (plus c e) d
 swap c d e = four (plus (plus c d) e) (plus (plus c e) d) (omega arith) (omega arith) (omega arith) (omega arith)
 
-pub counted-plus : (l : Lack) (c : Counts) → counted l c ≡ plus c (counted l noneDropped)
-counted-plus emptyFragments c = four (counted emptyFragments c) (plus c (counted emptyFragments noneDropped)) refl (omega arith) (omega arith) (omega arith)
-counted-plus noneMarkedLast c = four (counted noneMarkedLast c) (plus c (counted noneMarkedLast noneDropped)) (omega arith) refl (omega arith) (omega arith)
-counted-plus fewerKept c = four (counted fewerKept c) (plus c (counted fewerKept noneDropped)) (omega arith) (omega arith) refl (omega arith)
-counted-plus neitherOf c = four (counted neitherOf c) (plus c (counted neitherOf noneDropped)) (omega arith) (omega arith) (omega arith) refl
+pub counted-plus : (l : Lack) (c : Counts) → plusOne l c ≡ plus c (plusOne l noneDropped)
+counted-plus emptyFragments c = four (plusOne emptyFragments c) (plus c (plusOne emptyFragments noneDropped)) refl (omega arith) (omega arith) (omega arith)
+counted-plus noneMarkedLast c = four (plusOne noneMarkedLast c) (plus c (plusOne noneMarkedLast noneDropped)) (omega arith) refl (omega arith) (omega arith)
+counted-plus fewerKept c = four (plusOne fewerKept c) (plus c (plusOne fewerKept noneDropped)) (omega arith) (omega arith) refl (omega arith)
+counted-plus neitherOf c = four (plusOne neitherOf c) (plus c (plusOne neitherOf noneDropped)) (omega arith) (omega arith) (omega arith) refl
 
 pub total-same : (f g : ℕ → Counts) (ks : List ℕ) → ((k : ℕ) → isIn k ks ≡ true → f k ≡ g k) → total f ks ≡ total g ks
 unfolding total isIn

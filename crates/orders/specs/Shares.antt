@@ -4,9 +4,9 @@ use mathlib.Core.Bool.{Bool, true, false, cond, not, _&&_, _||_}
 use Prim.Native.Nat.{ℕ, zero, suc, max, _+_}
 use lib.Dec.{eqb, leb}
 use Rattle.sweeping.specs.declared.Counts.{Counts}
-use Rattle.sweeping.specs.declared.ages.Tally.{Tally}
+use Rattle.sweeping.specs.Sweep.{Tally}
 use Rattle.pushing.specs.Joining.{Kept, nothing, kept, Fragments, Since, never, since}
-use Rattle.sweeping.specs.Sweep.{elapsed, lackOf, counted}
+use Rattle.sweeping.specs.Sweep.{elapsed, lackOf, plusOne}
 use Rattle.orders.specs.Runs.{Holding}
 
 -- how many fragments, 1 more than the highest number, and if one is marked last: among the numbers below n
@@ -31,7 +31,7 @@ noneDropped = record { empty = 0; unmarked = 0; incomplete = 0; neither = 0 }
 
 -- a number is one byte: below 256
 unfoldable pub share : ℕ → Holding → Counts
-share time v = cond (due time (v .first)) (counted (lackOf (tallyOf (v .fragments) 256)) noneDropped) noneDropped
+share time v = cond (due time (v .first)) (plusOne (lackOf (tallyOf (v .fragments) 256)) noneDropped) noneDropped
 
 abbrev pub plus : Counts → Counts → Counts
 plus c d = record { empty = c .empty + d .empty; unmarked = c .unmarked + d .unmarked; incomplete = c .incomplete + d .incomplete; neither = c .neither + d .neither }

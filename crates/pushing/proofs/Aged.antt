@@ -4,29 +4,24 @@ use mathlib.Core.List.{List}
 use mathlib.Core.Bool.{Bool, true, false, cond, _&&_, false≢true}
 use Prim.Native.Nat.{ℕ, zero, suc, _-_, _≤_, _<_}
 use native.Mathlib.Omega.{arith}
-use lib.Dec.{eqb, leb, ltb}
+use lib.Dec.{eqb, ltb}
 use lib.ListN.{getD}
 use borrow.Author.Tests.{eqb-true, eqb-false, ltb-true, ltb-false, lt-ltb}
 use Rattle.table.specs.declared.Table.{Table}
 use Rattle.sweeping.specs.declared.Swept.{Swept}
 use Rattle.table.specs.Rows.{rowOf, without}
-use Rattle.pushing.specs.Joining.{nothing, heldBy, Since, never, since, firstTime}
-use Rattle.sweeping.specs.Sweep.{elapsed, expired, tally, lackOf, counted, sweptRow, sweptRows, swept}
+use Rattle.pushing.specs.Joining.{nothing, heldBy, never, due, firstTime}
+use Rattle.sweeping.specs.Sweep.{isOld, expired, tally, lackOf, plusOne, sweptRow, sweptRows, swept}
 use Rattle.table.proofs.Sound.{Sound, row-holds, no-row, dropped-other}
 use Rattle.sweeping.proofs.Sound.{sweep-sound}
 use Rattle.pushing.proofs.Apart.{Untouched, time-after-drop, row-after-drop, drop-untouched, drop-gone}
 use Rattle.pushing.proofs.Own.{absent, absent-since}
 
--- a first time that is 3,000 milliseconds back
-abbrev pub isOld : ℕ → Since → Bool
-isOld time never = false
-isOld time (since first) = leb 3000 (elapsed time first)
-
 swept-table : (time row : ℕ) (z : Swept) → sweptRow time row z .table ≡ cond (expired (z .table) time row) (without (z .table) row) (z .table)
 unfolding sweptRow
 swept-table time row z = by-age (expired (z .table) time row)
   where
-    by-age : (b : Bool) → cond b (record { table = without (z .table) row; counts = counted (lackOf (tally (z .table) row 32)) (z .counts) }) z .table ≡ cond b (without (z .table) row) (z .table)
+    by-age : (b : Bool) → cond b (record { table = without (z .table) row; counts = plusOne (lackOf (tally (z .table) row 32)) (z .counts) }) z .table ≡ cond b (without (z .table) row) (z .table)
     by-age true = refl
     by-age false = refl
 
@@ -61,7 +56,7 @@ module _ (t : Table) (s : Sound t) (store : List ℕ) (time key : ℕ) where
   row = rowOf t key
 
   abbrev old : Bool
-  old = leb 3000 (elapsed time (getD (t .firsts) row 0))
+  old = isOld time (getD (t .firsts) row 0)
 
   -- after n rows the key is as it was, or dropped
   data Fate (n : ℕ) : Type 0 where
@@ -72,7 +67,7 @@ module _ (t : Table) (s : Sound t) (store : List ℕ) (time key : ℕ) where
     abbrev s′ : Sound (after n)
     s′ = sweep-sound t s time n (omega arith)
 
-    expired-is : expired (after n) time n ≡ (getD (t .used) n false && leb 3000 (elapsed time (getD (t .firsts) n 0)))
+    expired-is : expired (after n) time n ≡ (getD (t .used) n false && isOld time (getD (t .firsts) n 0))
     expired-is = rw (later n (omega arith) n (omega arith) .0, later n (omega arith) n (omega arith) .1)
 
     both : (a b : Bool) → (a && b) ≡ true → (a ≡ true) × (b ≡ true)
@@ -85,7 +80,7 @@ module _ (t : Table) (s : Sound t) (store : List ℕ) (time key : ℕ) where
     not-key e ne c = by-end (ltb (rowOf (after n) key) 16) refl
       where
         used : getD (after n .used) n false ≡ true
-        used = both (getD (after n .used) n false) (leb 3000 (elapsed time (getD (after n .firsts) n 0))) e .0
+        used = both (getD (after n .used) n false) (isOld time (getD (after n .firsts) n 0)) e .0
 
         by-end : (b : Bool) → ltb (rowOf (after n) key) 16 ≡ b → ⊥
         by-end false q = no-row (after n) s′ key (ltb-false _ _ q) n used c
@@ -105,7 +100,7 @@ module _ (t : Table) (s : Sound t) (store : List ℕ) (time key : ℕ) where
         by-row true f l₂ =
             let same : row ≡ n = eqb-true _ _ f in
             let used : getD (t .used) row false ≡ true = row-holds t key (omega arith) .0 in
-            let young : (getD (t .used) row false && old) ≡ false = ap (λ (k : ℕ). getD (t .used) k false && leb 3000 (elapsed time (getD (t .firsts) k 0))) same ∙ sym expired-is ∙ x in
+            let young : (getD (t .used) row false && old) ≡ false = ap (λ (k : ℕ). getD (t .used) k false && isOld time (getD (t .firsts) k 0)) same ∙ sym expired-is ∙ x in
             rw used at young
 
     dropped-on : Fate n → expired (after n) time n ≡ true → after (suc n) ≡ without (after n) n → Fate (suc n)
@@ -116,8 +111,8 @@ module _ (t : Table) (s : Sound t) (store : List ℕ) (time key : ℕ) where
         by-row : (b : Bool) → eqb row n ≡ b → Fate (suc n)
         by-row true f =
             let same : row ≡ n = eqb-true _ _ f in
-            let aged = both (getD (t .used) n false) (leb 3000 (elapsed time (getD (t .firsts) n 0))) (sym expired-is ∙ x) in
-            goes (omega arith) (ap (λ (k : ℕ). leb 3000 (elapsed time (getD (t .firsts) k 0))) same ∙ aged .1) (subst (λ (z : Table). 16 ≤ rowOf z key) (sym q) (drop-gone (after n) s′ n h key (r ∙ same)))
+            let aged = both (getD (t .used) n false) (isOld time (getD (t .firsts) n 0)) (sym expired-is ∙ x) in
+            goes (omega arith) (ap (λ (k : ℕ). isOld time (getD (t .firsts) k 0)) same ∙ aged .1) (subst (λ (z : Table). 16 ≤ rowOf z key) (sym q) (drop-gone (after n) s′ n h key (r ∙ same)))
         by-row false f =
             let ne : row ≡ n → ⊥ = eqb-false _ _ f in
             let other = not-key x (λ e. ne (sym r ∙ e)) in
@@ -137,22 +132,22 @@ module _ (t : Table) (s : Sound t) (store : List ℕ) (time key : ℕ) where
   fates zero h = stays (subst (λ (z : Table). Untouched key t z store store) (sym start) ((λ k. refl), refl)) (ap (λ (z : Table). rowOf z key) start) (λ l. absurd (omega arith))
   fates (suc n) h = on n (omega arith) (fates n (omega arith)) (expired (after n) time n) refl
 
-  age : (b : Bool) → ltb row 16 ≡ b → isOld time (firstTime t key) ≡ (b && old)
+  age : (b : Bool) → ltb row 16 ≡ b → due time (firstTime t key) ≡ (b && old)
   unfolding firstTime
   age true e = rw e
   age false e = rw e
 
   -- what the key holds after a sweep, and its first time
-  pub sweep-told : ((k : ℕ) → heldBy (swept t time .table) store key k ≡ cond (isOld time (firstTime t key)) nothing (heldBy t store key k)) × (firstTime (swept t time .table) key ≡ cond (isOld time (firstTime t key)) never (firstTime t key))
+  pub sweep-told : ((k : ℕ) → heldBy (swept t time .table) store key k ≡ cond (due time (firstTime t key)) nothing (heldBy t store key k)) × (firstTime (swept t time .table) key ≡ cond (due time (firstTime t key)) never (firstTime t key))
   sweep-told = by-fate (fates 16 (omega arith))
     where
-      by-fate : Fate 16 → ((k : ℕ) → heldBy (after 16) store key k ≡ cond (isOld time (firstTime t key)) nothing (heldBy t store key k)) × (firstTime (after 16) key ≡ cond (isOld time (firstTime t key)) never (firstTime t key))
+      by-fate : Fate 16 → ((k : ℕ) → heldBy (after 16) store key k ≡ cond (due time (firstTime t key)) nothing (heldBy t store key k)) × (firstTime (after 16) key ≡ cond (due time (firstTime t key)) never (firstTime t key))
       by-fate (stays u r l) = rw (young (ltb row 16) refl) u
         where
-          young : (b : Bool) → ltb row 16 ≡ b → isOld time (firstTime t key) ≡ false
+          young : (b : Bool) → ltb row 16 ≡ b → due time (firstTime t key) ≡ false
           young true e = age true e ∙ l (ltb-true _ _ e)
           young false e = age false e
       by-fate (goes l o g) =
-          let aged : isOld time (firstTime t key) ≡ true = age true (lt-ltb _ _ l) ∙ o in
+          let aged : due time (firstTime t key) ≡ true = age true (lt-ltb _ _ l) ∙ o in
           let s″ = sweep-sound t s time 16 (omega arith) in
           rw aged ((λ k. absent (after 16) s″ key g store k), absent-since (after 16) s″ key g)

@@ -14,7 +14,7 @@ use Rattle.pushing.specs.declared.choose.Change.the-variants.{Stay, PutA
 use Rattle.pushing.specs.declared.choose.Chosen.{Chosen}
 use Rattle.table.specs.Rows.{ownerOf, rowOf, withPlace, without, droppedKey}
 use Rattle.pushing.specs.Push.{Way, end, keepWay, joinedWith, wayBy, way, placeFor, tableBy, storeBy, outputBy, answerBy, Goes}
-use Rattle.pushing.specs.Leaves.{lowestFreeIn, spareRowIn, numberedIn, joinWayIn, changeBy, Chooses, opened}
+use Rattle.pushing.specs.PrivateSteps.{lowestFreeIn, spareRowIn, numberedIn, joinWayIn, changeBy, Chooses, opened}
 use Rattle.pushing.proofs.Ways.{same-joins, Went, went, went-refuse, went-replace, went-keep, went-open, went-end}
 use Rattle.table.proofs.Sound.{Sound, used-row, place-holds}
 use Rattle.pushing.proofs.Pieces.{placesOf, judged}

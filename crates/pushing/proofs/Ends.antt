@@ -6,7 +6,7 @@ use Rattle.numbers.specs.Numbers.{gives}
 use Rattle.pushing.specs.declared.Pushed.{Pushed}
 use Rattle.pushing.specs.declared.choose.Chosen.{Chosen}
 use Rattle.pushing.specs.Push.{Heard, Way, end, pushedOf, over}
-use Rattle.pushing.specs.Leaves.{endChange, Chooses}
+use Rattle.pushing.specs.PrivateSteps.{endChange, Chooses}
 
 pub ends : (w : Way) (h : Heard) (bytes : List ℕ) → w ≡ end h bytes → (row : ℕ) (z : Pushed) → pushedOf z ≡ gives h → (r : Chosen) → (r .change ≡ endChange row) × (r .answer ≡ z)
     → (out out′ : List ℕ) → out′ ≡ over bytes out → Chooses w row r out out′

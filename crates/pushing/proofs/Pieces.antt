@@ -16,9 +16,9 @@ use Rattle.pushing.specs.declared.join.Verdict.{Verdict}
 use Rattle.pushing.specs.declared.join.Verdict.the-variants.{Inconsistent, Missing, MissingLast, Message}
 use Rattle.table.specs.Search.{lowest, some}
 use Rattle.table.specs.Rows.{Place, ownerOf, placeAt, placeOf, bytesAt}
-use Rattle.pushing.specs.Joining.{Held, Kept, nothing, kept, Fragments, isKept, heldOf, heldIn, andNew, keptAt, unlike, inconsistentWith, reach, gapped, isLast, payloadOf, payloads}
+use Rattle.pushing.specs.Joining.{Held, Kept, nothing, kept, Fragments, isKept, heldOf, heldIn, andNew, keptAt, unlike, inconsistentWith, reach, gapped, isLast, payloadOf, inOrder, payloads}
 use Rattle.pushing.specs.Push.{messageWay, joinWay, joinedWith, over}
-use Rattle.pushing.specs.Leaves.{Places, placesIn, numberedIn, unlikeIn, beyondIn, pieceAt, sizeAt, markedAt, pieceBytes, sizeTo, piecesTo, isGap, countFor, verdictFor, joinWayIn}
+use Rattle.pushing.specs.PrivateSteps.{Places, placesIn, numberedIn, unlikeIn, beyondIn, pieceAt, sizeAt, markedAt, pieceBytes, sizeTo, piecesTo, isGap, countFor, verdictFor, joinWayIn}
 use Rattle.table.proofs.Search.{lowest-le, lowest-holds, lowest-before, lowest-same}
 use Rattle.table.proofs.Sound.{Sound, owned-place, place-holds, not-held, held-at}
 
@@ -39,6 +39,12 @@ some-same p q n m there back = by-ends (ltb (lowest p n) n) refl (ltb (lowest q 
     by-ends true e false f = absurd (omega (arith, ltb-false (lowest q m) m f, there (lowest p n) (ltb-true _ _ e) (lowest-holds p n (ltb-true _ _ e))))
     by-ends false e true f = absurd (omega (arith, ltb-false (lowest p n) n e, back (lowest q m) (ltb-true _ _ f) (lowest-holds q m (ltb-true _ _ f))))
     by-ends false e false f = e ∙ sym f
+
+-- pieces that are the same
+pub in-order-same : (p q : ℕ → List ℕ) (n : ℕ) → ((k : ℕ) → k < n → p k ≡ q k) → inOrder p n ≡ inOrder q n
+unfolding inOrder
+in-order-same p q zero same = refl
+in-order-same p q (suc n) same = rw (in-order-same p q n (λ k h. same k (omega arith)), same n (omega arith))
 
 -- one piece more at the output's start
 pub grown : (a b out : List ℕ) → paste (over a out) (length a) b (length b) ≡ over (a ++ b) out
@@ -198,15 +204,15 @@ module _ (sizes owners numbers store : List ℕ) (row number : ℕ) (payload : L
   nth k = pieceBytes sizes store payload (pieceAt owners numbers row number k)
 
   pub pieces-none : [] ≡ upto 0
-  unfolding piecesTo
+  unfolding inOrder
   pieces-none = refl
 
   pub pieces-next : (k : ℕ) → upto k ++ nth k ≡ upto (k + 1)
-  unfolding piecesTo
+  unfolding inOrder
   pieces-next k = sym (ap upto (add-one k))
 
   longer : (k d : ℕ) → length (upto k) ≤ length (upto (k + d))
-  unfolding piecesTo
+  unfolding inOrder
   longer k zero = omega (arith, ap (λ (m : ℕ). length (upto m)) (add-zero k))
   longer k (suc d) = omega (arith, longer k d, ap (λ (m : ℕ). length (upto m)) (add-suc k d), length-append (upto (k + d)) (nth (k + d)))
 
@@ -217,7 +223,7 @@ module _ (sizes owners numbers store : List ℕ) (row number : ℕ) (payload : L
       omega (arith, ap length (pieces-next k), length-append (upto k) (nth k), longer (k + 1) (n - (k + 1)), ap (λ (m : ℕ). length (upto m)) e)
 
   pub pieces-size : ((i : ℕ) → getD sizes i 0 ≤ 1492) → 47744 ≤ length store → (n : ℕ) → length (upto n) ≡ sizeTo sizes owners numbers row number (length payload) n
-  unfolding piecesTo sizeTo
+  unfolding inOrder sizeTo
   pieces-size small long zero = refl
   pieces-size small long (suc n) = length-append (upto n) (nth n) ∙ rw (pieces-size small long n, size-is sizes store payload small long (pieceAt owners numbers row number n))
 
@@ -296,9 +302,7 @@ module _ (t : Table) (store : List ℕ) (row : ℕ) (f : Fragment) (payload : Li
   bytes-are k = by-piece (λ (x : Kept) (i : ℕ). (i ≡ 32 → ⊥) → payloadOf x ≡ cond (ltb i 32) (bytesAt store i (placeAt t i .size)) payload) k (λ n g. refl) (λ n h g. rw (lt-ltb _ _ h)) (λ n h g. absurd (g refl))
 
   pub payloads-are : (n : ℕ) → n ≤ countFor (t .owners) (t .numbers) row (f .number) → payloads fs n ≡ piecesTo (t .sizes) (t .owners) (t .numbers) store row (f .number) payload n
-  unfolding payloads piecesTo
-  payloads-are zero h = refl
-  payloads-are (suc n) h = rw (payloads-are n (omega arith), bytes-are n (no-gap (t .owners) (t .numbers) row (f .number) n (omega arith)))
+  payloads-are n h = in-order-same (λ k. payloadOf (fs k)) (λ k. pieceBytes (t .sizes) store payload (pieceAt (t .owners) (t .numbers) row (f .number) k)) n (λ k l. bytes-are k (no-gap (t .owners) (t .numbers) row (f .number) k (omega arith)))
 
   module _ (s : Sound t) (byte : f .number < 256) (once : 32 ≤ placeOf t row (f .number)) where
     -- a place of the row has a number of its own, and stands for that number

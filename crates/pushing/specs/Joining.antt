@@ -7,7 +7,8 @@ use lib.ListN.{getD}
 use Rattle.pushing.specs.declared.Fragment.{Fragment}
 use Rattle.table.specs.declared.Table.{Table}
 use Rattle.table.specs.Search.{lowest, some}
-use Rattle.table.specs.Rows.{placeAt, placeOf, rowOf, bytesAt}
+use Rattle.sweeping.specs.Sweep.{isOld}
+use Rattle.table.specs.Rows.{keys, places, placeAt, placeOf, rowOf, bytesAt}
 
 -- "A fragment is its version, type, number, last mark and payload"; the number is where it stands among the key's fragments
 pub record Held : Type 0 where
@@ -34,7 +35,7 @@ heldOf f payload = record { version = f .version; message-type = f .«message_ty
 -- what place i holds, its bytes from the store
 unfoldable pub keptAt : Table → List ℕ → ℕ → Kept
 keptAt t store i =
-    cond (ltb i 32)
+    cond (ltb i places)
     (kept (record { version = placeAt t i .version; message-type = placeAt t i .message-type; last = placeAt t i .last; payload = bytesAt store i (placeAt t i .size) }))
     nothing
 
@@ -50,8 +51,13 @@ pub data Since : Type 0 where
   never : Since
   since : ℕ → Since
 
+-- "drops a key exactly when elapsed is at least 3,000"
+abbrev pub due : ℕ → Since → Bool
+due now-ms never = false
+due now-ms (since first) = isOld now-ms first
+
 unfoldable pub firstTime : Table → ℕ → Since
-firstTime t key = cond (ltb (rowOf t key) 16) (since (getD (t .firsts) (rowOf t key) 0)) never
+firstTime t key = cond (ltb (rowOf t key) keys) (since (getD (t .firsts) (rowOf t key) 0)) never
 
 -- "Join it with those kept."
 abbrev pub andNew : Fragments → ℕ → Held → Fragments
@@ -82,6 +88,10 @@ abbrev pub payloadOf : Kept → List ℕ
 payloadOf nothing = []
 payloadOf (kept h) = h .payload
 
-unfoldable pub payloads : Fragments → ℕ → List ℕ
-payloads fs zero = []
-payloads fs (suc n) = payloads fs n ++ payloadOf (fs n)
+-- the first n of some pieces, one behind the other
+unfoldable pub inOrder : (ℕ → List ℕ) → ℕ → List ℕ
+inOrder piece zero = []
+inOrder piece (suc n) = inOrder piece n ++ piece n
+
+abbrev pub payloads : Fragments → ℕ → List ℕ
+payloads fs = inOrder (λ k. payloadOf (fs k))

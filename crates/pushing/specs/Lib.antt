@@ -2,4 +2,4 @@ pub mod Joining
 pub mod Push
 pub mod Show
 pub mod Made
-pub mod Leaves
+pub mod PrivateSteps

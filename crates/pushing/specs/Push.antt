@@ -12,7 +12,7 @@ use Rattle.pushing.specs.declared.Fragment.{Fragment}
 use Rattle.pushing.specs.declared.Arrival.{Arrival}
 use Rattle.pushing.specs.declared.Pushed.{Pushed}
 use Rattle.pushing.specs.declared.Pushed.the-variants.{WaitingForMoreFragments, DuplicatedFragment, InconsistentMetadata, MissingFragments, MissingLastFragment, Single, Joined, Refused}
-use Rattle.table.specs.Rows.{Place, ownerOf, rowOf, spareRow, placeOf, lowestFree, withKey, withPlace, droppedKey}
+use Rattle.table.specs.Rows.{keys, places, placeSize, storeSize, Place, ownerOf, rowOf, spareRow, placeOf, lowestFree, withKey, withPlace, droppedKey}
 use Rattle.pushing.specs.Joining.{Held, Fragments, heldOf, heldIn, andNew, inconsistentWith, gapped, isLast, reach, payloads}
 
 -- what push answers where it does not refuse
@@ -53,10 +53,10 @@ pub data Way : Type 0 where
 unfoldable pub wayBy : (stored size place : ℕ) → Bool → (keeps joins : Way) → Way
 wayBy stored size place last keeps joins =
     -- 1. "Refusals 11, then 12."
-    cond (ltb stored 47744) (refuse 11 [])
-    (cond (ltb 1492 size) (refuse 12 [])
+    cond (ltb stored storeSize) (refuse 11 [])
+    (cond (ltb placeSize size) (refuse 12 [])
     -- 2. "The key already holds this fragment number: the new fragment replaces the old, [..] nothing is joined. [..] even if marked last."
-    (cond (ltb place 32) (replace place)
+    (cond (ltb place places) (replace place)
     -- 3. "Not marked last: refusal 10, or kept"
     (cond (not last) keeps
     -- 4. "Marked last: it needs no place. Join it with those kept."
@@ -65,9 +65,9 @@ wayBy stored size place last keeps joins =
 -- 3. by the lowest free place, the lowest row that no key has, and the key's row. 10: "when 32 places are used, or when it needs a new key and 16 are used"
 unfoldable pub keepWay : (free spare row : ℕ) → Way
 keepWay free spare row =
-    cond (leb 32 free) (refuse 10 [])
-    (cond (ltb row 16) (keepAt free)
-    (cond (leb 16 spare) (refuse 10 [])
+    cond (leb places free) (refuse 10 [])
+    (cond (ltb row keys) (keepAt free)
+    (cond (leb keys spare) (refuse 10 [])
     (openAt free spare)))
 
 -- 4. a message of n fragments; room is the output's length. 13: "two or more fragments join, but into more bytes than the output has; gives the length"
@@ -111,9 +111,9 @@ tableBy (end h bytes) t a size = droppedKey t (rowOf t (a .key))
 -- to the store: "writes its payload's bytes there, no others",
 abbrev pub storeBy : Way → List ℕ → List ℕ → List ℕ
 storeBy (refuse n values) store payload = store
-storeBy (replace i) store payload = paste store (i * 1492) payload (length payload)
-storeBy (keepAt i) store payload = paste store (i * 1492) payload (length payload)
-storeBy (openAt i row) store payload = paste store (i * 1492) payload (length payload)
+storeBy (replace i) store payload = paste store (i * placeSize) payload (length payload)
+storeBy (keepAt i) store payload = paste store (i * placeSize) payload (length payload)
+storeBy (openAt i row) store payload = paste store (i * placeSize) payload (length payload)
 storeBy (end h bytes) store payload = store
 
 -- to the output: "Output bytes past the message stay as lent; for any other answer and for a single, all do",

@@ -8,17 +8,21 @@ use crate::look::find_free;
 use crate::look::find_numbered;
 use crate::look::find_spare;
 use numbers::Refusal;
+use table::KEYS;
+use table::PLACE_SIZE;
+use table::PLACES;
+use table::STORE_SIZE;
 ghost use mathlib.Core.Path.{_≡_};
 ghost use Prim.Native.Nat.{ℕ, _≤_};
 ghost use lib.ListN.{length, getD};
 ghost use Rattle.pushing.specs.declared.Pushed.the-variants.{Refused};
 ghost use Rattle.pushing.specs.declared.choose.Change.the-variants.{Stay};
-ghost use Rattle.table.specs.Rows.{ownerOf};
+ghost use Rattle.table.specs.Rows.{keys, places, placeSize, storeSize, ownerOf};
 ghost use Rattle.pushing.specs.Push.{answerBy, pushedOf, keepWay, messageWay, wayBy};
-ghost use Rattle.pushing.specs.Leaves.{lowestFreeIn, spareRowIn, numberedIn, placesIn, piecesTo, joinWayIn, changeBy, endChange, Chooses};
+ghost use Rattle.pushing.specs.PrivateSteps.{lowestFreeIn, spareRowIn, numberedIn, placesIn, piecesTo, joinWayIn, changeBy, endChange, Chooses};
 
 // What becomes of the table.
-pub enum Change {
+pub(crate) enum Change {
     Stay,
     // the fragment goes to a place, under a row, which gets the key if it was spare
     PutAt(usize, usize, bool),
@@ -26,20 +30,20 @@ pub enum Change {
     DropKey,
 }
 
-pub struct Chosen {
+pub(crate) struct Chosen {
     pub change: Change,
     pub answer: Pushed,
 }
 
-// The place in which a row holds a number, 32 where it holds none; a new key's row, 16, holds nothing.
-fn held_at<'a>(owners: &'a [u8; 32], numbers: &'a [u8; 32], row: usize, number: u8) -> usize
-    requires { ⌜ (16 ≤ row → 32 ≤ numberedIn (now owners) (now numbers) (ownerOf row) number) ⌝ }
+// The place in which a row holds a number, `PLACES` where it holds none; a new key's row, `KEYS`, holds nothing.
+fn held_at<'a>(owners: &'a [u8; PLACES], numbers: &'a [u8; PLACES], row: usize, number: u8) -> usize
+    requires { ⌜ (keys ≤ row → places ≤ numberedIn (now owners) (now numbers) (ownerOf row) number) ⌝ }
     ensures { λ r. ⌜ r ≡ numberedIn (now (owners .entry)) (now (numbers .entry)) (ownerOf row) number ⌝ }
 {
-    if row < 16 {
+    if row < KEYS {
         return find_numbered(owners, numbers, row as u8 + 1, number);
     }
-    32
+    PLACES
 }
 
 // A refusal: nothing changes.
@@ -53,21 +57,21 @@ fn refused(refusal: Refusal) -> Chosen
 }
 
 // Step 3 of push: a fragment that is not marked last is kept, if there is room.
-fn keep<'a>(used: &'a [bool; 16], owners: &'a [u8; 32], row: usize) -> Chosen
+fn keep<'a>(used: &'a [bool; KEYS], owners: &'a [u8; PLACES], row: usize) -> Chosen
     ensures { λ r. ⌜ (pushedOf (r .answer) ≡ answerBy (keepWay (lowestFreeIn (now (owners .entry))) (spareRowIn (now (used .entry))) row)) × (r .change ≡ changeBy (keepWay (lowestFreeIn (now (owners .entry))) (spareRowIn (now (used .entry))) row) row) ⌝ }
 {
     let place = find_free(owners);
-    if 32 <= place {
+    if PLACES <= place {
         return refused(Refusal::TableFull);
     }
-    if row < 16 {
+    if row < KEYS {
         return Chosen {
             change: Change::PutAt(place, row, false),
             answer: Pushed::WaitingForMoreFragments,
         };
     }
     let spare = find_spare(used);
-    if 16 <= spare {
+    if KEYS <= spare {
         return refused(Refusal::TableFull);
     }
     Chosen {
@@ -80,7 +84,7 @@ fn keep<'a>(used: &'a [bool; 16], owners: &'a [u8; 32], row: usize) -> Chosen
 fn ended(row: usize, answer: Pushed) -> Chosen
     ensures { λ r. ⌜ (r .change ≡ endChange row) × (r .answer ≡ answer) ⌝ }
 {
-    if row < 16 {
+    if row < KEYS {
         return Chosen {
             change: Change::DropKey,
             answer,
@@ -94,9 +98,9 @@ fn ended(row: usize, answer: Pushed) -> Chosen
 
 // The message of so many pieces, with so many bytes: it is the payload itself where that is the only piece, and is joined in the output where that has room.
 fn complete<'a>(
-    sizes: &'a [u16; 32],
-    owners: &'a [u8; 32],
-    numbers: &'a [u8; 32],
+    sizes: &'a [u16; PLACES],
+    owners: &'a [u8; PLACES],
+    numbers: &'a [u8; PLACES],
     store: &[u8],
     out: &mut [u8],
     row: usize,
@@ -105,7 +109,7 @@ fn complete<'a>(
     count: usize,
     total: usize,
 ) -> Chosen
-    requires { ⌜ (row ≤ 16) × ((i : ℕ) → getD (now sizes) i 0 ≤ 1492) × (47744 ≤ length (now store)) × (count ≤ 256) × (total ≡ length (piecesTo (now sizes) (now owners) (now numbers) (now store) row number (now payload) count)) ⌝ }
+    requires { ⌜ (row ≤ keys) × ((i : ℕ) → getD (now sizes) i 0 ≤ placeSize) × (storeSize ≤ length (now store)) × (count ≤ 256) × (total ≡ length (piecesTo (now sizes) (now owners) (now numbers) (now store) row number (now payload) count)) ⌝ }
     ensures { λ r. ⌜ Chooses (messageWay count (piecesTo (now (sizes .entry)) (now (owners .entry)) (now (numbers .entry)) (now (store .entry)) row number (now (payload .entry)) count) (length (now (out .entry)))) row r (now (out .entry)) (now (out .exit)) ⌝ }
 {
     if count <= 1 {
@@ -130,19 +134,19 @@ fn complete<'a>(
 
 // Step 4 of push: a fragment marked last ends its key's message, unless the output is too small.
 fn finish<'a>(
-    types: &'a [u16; 32],
-    sizes: &'a [u16; 32],
-    owners: &'a [u8; 32],
-    numbers: &'a [u8; 32],
-    versions: &'a [u8; 32],
-    lasts: &'a [bool; 32],
+    types: &'a [u16; PLACES],
+    sizes: &'a [u16; PLACES],
+    owners: &'a [u8; PLACES],
+    numbers: &'a [u8; PLACES],
+    versions: &'a [u8; PLACES],
+    lasts: &'a [bool; PLACES],
     store: &[u8],
     out: &mut [u8],
     row: usize,
     f: Fragment,
     payload: &[u8],
 ) -> Chosen
-    requires { ⌜ (row ≤ 16) × ((i : ℕ) → getD (now sizes) i 0 ≤ 1492) × (47744 ≤ length (now store)) × (length (now payload) ≤ 1492) ⌝ }
+    requires { ⌜ (row ≤ keys) × ((i : ℕ) → getD (now sizes) i 0 ≤ placeSize) × (storeSize ≤ length (now store)) × (length (now payload) ≤ placeSize) ⌝ }
     ensures { λ r. ⌜ Chooses (joinWayIn (placesIn (now (types .entry)) (now (sizes .entry)) (now (owners .entry)) (now (numbers .entry)) (now (versions .entry)) (now (lasts .entry))) (now (store .entry)) row f (now (payload .entry)) (length (now (out .entry)))) row r (now (out .entry)) (now (out .exit)) ⌝ }
 {
     let size = payload.len();
@@ -166,34 +170,35 @@ fn finish<'a>(
     }
 }
 
-// The way of a push for a key with this row, 16 for a new key. The output is joined here; store and table change behind it.
+// The way of a push for a key with this row, `KEYS` for a new key. The output is joined here; store and table change behind it. Longer than 40 lines: each of
+// the seven lists is lent on its own, and stands on a line of its own, here and in the call.
 pub(crate) fn choose<'a>(
-    used: &'a [bool; 16],
-    types: &'a [u16; 32],
-    sizes: &'a [u16; 32],
-    owners: &'a [u8; 32],
-    numbers: &'a [u8; 32],
-    versions: &'a [u8; 32],
-    lasts: &'a [bool; 32],
+    used: &'a [bool; KEYS],
+    types: &'a [u16; PLACES],
+    sizes: &'a [u16; PLACES],
+    owners: &'a [u8; PLACES],
+    numbers: &'a [u8; PLACES],
+    versions: &'a [u8; PLACES],
+    lasts: &'a [bool; PLACES],
     store: &[u8],
     out: &mut [u8],
     row: usize,
     f: Fragment,
     payload: &[u8],
 ) -> Chosen
-    requires { ⌜ (row ≤ 16) × ((i : ℕ) → getD (now sizes) i 0 ≤ 1492) × (16 ≤ row → 32 ≤ numberedIn (now owners) (now numbers) (ownerOf row) (f .number)) ⌝ }
+    requires { ⌜ (row ≤ keys) × ((i : ℕ) → getD (now sizes) i 0 ≤ placeSize) × (keys ≤ row → places ≤ numberedIn (now owners) (now numbers) (ownerOf row) (f .number)) ⌝ }
     ensures { λ r. ⌜ Chooses (wayBy (length (now (store .entry))) (length (now (payload .entry))) (numberedIn (now (owners .entry)) (now (numbers .entry)) (ownerOf row) (f .number)) (f .last)
         (keepWay (lowestFreeIn (now (owners .entry))) (spareRowIn (now (used .entry))) row)
         (joinWayIn (placesIn (now (types .entry)) (now (sizes .entry)) (now (owners .entry)) (now (numbers .entry)) (now (versions .entry)) (now (lasts .entry))) (now (store .entry)) row f (now (payload .entry)) (length (now (out .entry))))) row r (now (out .entry)) (now (out .exit)) ⌝ }
 {
-    if store.len() < 47744 {
+    if store.len() < STORE_SIZE {
         return refused(Refusal::StoreTooSmall);
     }
-    if 1492 < payload.len() {
+    if PLACE_SIZE < payload.len() {
         return refused(Refusal::PayloadTooLong);
     }
     let place = held_at(owners, numbers, row, f.number);
-    if place < 32 {
+    if place < PLACES {
         return Chosen {
             change: Change::PutAt(place, row, false),
             answer: Pushed::DuplicatedFragment,

@@ -11,6 +11,7 @@ use look::find_key;
 use numbers::Refusal;
 use rows::copy;
 use rows::with_fragment;
+use table::PLACE_SIZE;
 use table::Table;
 use table::without_key;
 ghost use lib.ListN.{length};
@@ -78,7 +79,7 @@ pub fn push_step(t: Table, store: &mut [u8], out: &mut [u8], a: Arrival, payload
     match change {
         Change::Stay => Stepped { table: t, answer },
         Change::PutAt(place, under, opens) => {
-            copy(payload, 0, payload.len(), store, place * 1492);
+            copy(payload, 0, payload.len(), store, place * PLACE_SIZE);
             let kept = with_fragment(t, place, under, opens, a, payload.len());
             Stepped {
                 table: kept,

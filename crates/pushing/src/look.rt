@@ -1,9 +1,12 @@
 // Looking up in the table: one pass for each question, over the lists that it asks, which are lent.
+use table::KEYS;
+use table::PLACES;
 ghost use mathlib.Core.Path.{_≡_};
 ghost use mathlib.Core.Bool.{not, _&&_};
 ghost use Prim.Native.Nat.{_≤_};
 ghost use lib.Dec.{eqb, ltb};
-ghost use Rattle.pushing.specs.Leaves.{rowIn, spareRowIn, lowestFreeIn, numberedIn, unlikeIn, beyondIn};
+ghost use Rattle.table.specs.Rows.{keys, places};
+ghost use Rattle.pushing.specs.PrivateSteps.{rowIn, spareRowIn, lowestFreeIn, numberedIn, unlikeIn, beyondIn};
 
 pub(crate) fn is_key(used: bool, code: u64, key: u64) -> bool
     ensures { λ r. ⌜ r ≡ (used && eqb code key) ⌝ }
@@ -11,12 +14,12 @@ pub(crate) fn is_key(used: bool, code: u64, key: u64) -> bool
     if used { code == key } else { false }
 }
 
-// The row of a key, 16 where there is none.
-pub(crate) fn find_key<'a>(used: &'a [bool; 16], codes: &'a [u64; 16], key: u64) -> usize
-    ensures { λ r. ⌜ (r ≡ rowIn (now (used .entry)) (now (codes .entry)) key) × (r ≤ 16) ⌝ }
+// The row of a key, `KEYS` where there is none.
+pub(crate) fn find_key<'a>(used: &'a [bool; KEYS], codes: &'a [u64; KEYS], key: u64) -> usize
+    ensures { λ r. ⌜ (r ≡ rowIn (now (used .entry)) (now (codes .entry)) key) × (r ≤ keys) ⌝ }
 {
     let mut i: usize = 0;
-    while i < 16 {
+    while i < KEYS {
         if is_key(used[i], codes[i], key) {
             return i;
         }
@@ -25,12 +28,12 @@ pub(crate) fn find_key<'a>(used: &'a [bool; 16], codes: &'a [u64; 16], key: u64)
     i
 }
 
-// The lowest row that no key has, 16 where all have one.
-pub(crate) fn find_spare(used: &[bool; 16]) -> usize
-    ensures { λ r. ⌜ (r ≡ spareRowIn (now (used .entry))) × (r ≤ 16) ⌝ }
+// The lowest row that no key has, `KEYS` where all have one.
+pub(crate) fn find_spare(used: &[bool; KEYS]) -> usize
+    ensures { λ r. ⌜ (r ≡ spareRowIn (now (used .entry))) × (r ≤ keys) ⌝ }
 {
     let mut i: usize = 0;
-    while i < 16 {
+    while i < KEYS {
         if !used[i] {
             return i;
         }
@@ -39,12 +42,12 @@ pub(crate) fn find_spare(used: &[bool; 16]) -> usize
     i
 }
 
-// The lowest free place, 32 where all are used.
-pub(crate) fn find_free(owners: &[u8; 32]) -> usize
-    ensures { λ r. ⌜ (r ≡ lowestFreeIn (now (owners .entry))) × (r ≤ 32) ⌝ }
+// The lowest free place, `PLACES` where all are used.
+pub(crate) fn find_free(owners: &[u8; PLACES]) -> usize
+    ensures { λ r. ⌜ (r ≡ lowestFreeIn (now (owners .entry))) × (r ≤ places) ⌝ }
 {
     let mut i: usize = 0;
-    while i < 32 {
+    while i < PLACES {
         if owners[i] == 0 {
             return i;
         }
@@ -59,17 +62,17 @@ pub(crate) fn is_numbered(of: u8, own: u8, owner: u8, number: u8) -> bool
     if of == owner { own == number } else { false }
 }
 
-// The place of an owner's fragment with this number, 32 where there is none.
+// The place of an owner's fragment with this number, `PLACES` where there is none.
 pub(crate) fn find_numbered<'a>(
-    owners: &'a [u8; 32],
-    numbers: &'a [u8; 32],
+    owners: &'a [u8; PLACES],
+    numbers: &'a [u8; PLACES],
     owner: u8,
     number: u8,
 ) -> usize
-    ensures { λ r. ⌜ (r ≡ numberedIn (now (owners .entry)) (now (numbers .entry)) owner number) × (r ≤ 32) ⌝ }
+    ensures { λ r. ⌜ (r ≡ numberedIn (now (owners .entry)) (now (numbers .entry)) owner number) × (r ≤ places) ⌝ }
 {
     let mut i: usize = 0;
-    while i < 32 {
+    while i < PLACES {
         if is_numbered(owners[i], numbers[i], owner, number) {
             return i;
         }
@@ -98,19 +101,19 @@ pub(crate) fn is_unlike(
     false
 }
 
-// The lowest place of an owner's fragment with another version or type, 32 where there is none.
+// The lowest place of an owner's fragment with another version or type, `PLACES` where there is none.
 pub(crate) fn find_unlike<'a>(
-    owners: &'a [u8; 32],
-    versions: &'a [u8; 32],
-    types: &'a [u16; 32],
+    owners: &'a [u8; PLACES],
+    versions: &'a [u8; PLACES],
+    types: &'a [u16; PLACES],
     owner: u8,
     version: u8,
     message_type: u16,
 ) -> usize
-    ensures { λ r. ⌜ (r ≡ unlikeIn (now (owners .entry)) (now (versions .entry)) (now (types .entry)) owner version «message_type») × (r ≤ 32) ⌝ }
+    ensures { λ r. ⌜ (r ≡ unlikeIn (now (owners .entry)) (now (versions .entry)) (now (types .entry)) owner version «message_type») × (r ≤ places) ⌝ }
 {
     let mut i: usize = 0;
-    while i < 32 {
+    while i < PLACES {
         if is_unlike(
             owners[i],
             versions[i],
@@ -136,17 +139,17 @@ pub(crate) fn is_beyond(of: u8, own: u8, owner: u8, number: usize) -> bool
     false
 }
 
-// The lowest place of an owner's fragment with a number above this one, 32 where there is none.
+// The lowest place of an owner's fragment with a number above this one, `PLACES` where there is none.
 pub(crate) fn find_beyond<'a>(
-    owners: &'a [u8; 32],
-    numbers: &'a [u8; 32],
+    owners: &'a [u8; PLACES],
+    numbers: &'a [u8; PLACES],
     owner: u8,
     number: usize,
 ) -> usize
-    ensures { λ r. ⌜ (r ≡ beyondIn (now (owners .entry)) (now (numbers .entry)) owner number) × (r ≤ 32) ⌝ }
+    ensures { λ r. ⌜ (r ≡ beyondIn (now (owners .entry)) (now (numbers .entry)) owner number) × (r ≤ places) ⌝ }
 {
     let mut i: usize = 0;
-    while i < 32 {
+    while i < PLACES {
         if is_beyond(owners[i], numbers[i], owner, number) {
             return i;
         }

@@ -5,9 +5,9 @@ ghost use mathlib.Core.Path.{_≡_};
 ghost use Prim.Native.Nat.{_+_, _≤_, _<_};
 ghost use lib.ListN.{length, drop};
 ghost use lib.Seq.{paste};
-ghost use Rattle.table.specs.Rows.{withPlace};
+ghost use Rattle.table.specs.Rows.{keys, places, placeSize, withPlace};
 ghost use Rattle.pushing.specs.Push.{placeFor};
-ghost use Rattle.pushing.specs.Leaves.{opened};
+ghost use Rattle.pushing.specs.PrivateSteps.{opened};
 
 // n bytes of src, from the byte `from` on, go to dst, from the byte `at` on.
 pub(crate) fn copy(src: &[u8], from: usize, n: usize, dst: &mut [u8], at: usize)
@@ -30,7 +30,7 @@ pub(crate) fn with_fragment(
     a: Arrival,
     size: usize,
 ) -> Table
-    requires { ⌜ (place < 32) × (row < 16) × (size ≤ 1492) ⌝ }
+    requires { ⌜ (place < places) × (row < keys) × (size ≤ placeSize) ⌝ }
     ensures { λ r. ⌜ r ≡ withPlace (opened opens t row a) place (placeFor row (a .fragment) size) ⌝ }
 {
     let mut n = t;

@@ -1,3 +1,3 @@
 pub mod Sweeping
 pub mod Sound
-pub mod Firm
+pub mod Claims

@@ -1,7 +1,7 @@
 -- Laws of the sweep: what one place, one key and one row add.
 use mathlib.Core.Path.{_≡_, refl, sym, ap}
-use mathlib.Core.Bool.{Bool, true, false, cond, _||_}
-use Prim.Native.Nat.{ℕ, zero, suc, max, _+_, _≤_, _<_}
+use mathlib.Core.Bool.{Bool, true, false, cond}
+use Prim.Native.Nat.{ℕ, zero, suc, _+_, _≤_, _<_}
 use native.Mathlib.Omega.{arith}
 use native.Mathlib.Numerals.{add-one}
 use lib.Dec.{eqb}
@@ -9,13 +9,12 @@ use borrow.Author.Tests.{eq-eqb, ne-eqb, lt-ltb, le-ltb}
 use Rattle.table.specs.declared.Table.{Table}
 use Rattle.sweeping.specs.declared.Counts.{Counts}
 use Rattle.sweeping.specs.declared.Swept.{Swept}
-use Rattle.sweeping.specs.declared.ages.Tally.{Tally}
-use Rattle.table.specs.Rows.{Place, ownerOf, placeAt, without}
-use Rattle.sweeping.specs.Sweep.{tallied, tally, Lack, emptyFragments, noneMarkedLast, fewerKept, neitherOf, lackOf, counted, expired, sweptRow, sweptRows}
-use Rattle.sweeping.specs.Leaves.{Within, tableWith}
+use Rattle.table.specs.Rows.{places, Place, ownerOf, placeAt, without}
+use Rattle.sweeping.specs.Sweep.{Tally, andOne, noFragments, tallied, tally, Lack, emptyFragments, noneMarkedLast, fewerKept, neitherOf, lackOf, plusOne, expired, noneDropped, sweptRow, sweptRows, sweptAs}
+use Rattle.sweeping.specs.PrivateSteps.{Within, tableWith}
 
 -- places
-pub tally-none : (t : Table) (row : ℕ) → record { many = 0; beyond = 0; marked = false } ≡ tally t row 0
+pub tally-none : (t : Table) (row : ℕ) → noFragments ≡ tally t row 0
 unfolding tally
 tally-none t row = refl
 
@@ -32,7 +31,7 @@ tally-lists t row (suc n) = ap (tallied row (placeAt t n)) (tally-lists t row n)
 pub tallied-many : (row : ℕ) (p : Place) (s : Tally) → tallied row p s .many ≤ s .many + 1
 tallied-many row p s = by-owner (eqb (p .owner) (ownerOf row))
   where
-    by-owner : (b : Bool) → cond b (record { many = s .many + 1; beyond = max (s .beyond) (p .number + 1); marked = s .marked || p .last }) s .many ≤ s .many + 1
+    by-owner : (b : Bool) → cond b (andOne (p .number) (p .last) s) s .many ≤ s .many + 1
     by-owner true = omega arith
     by-owner false = omega arith
 
@@ -56,7 +55,7 @@ module _ (s : Tally) where
       unfolding lackOf
       lack-neither h = rw (ne-eqb _ _ some, mark, le-ltb _ _ h)
 
-pub counted-within : (l : Lack) (c : Counts) (n : ℕ) → Within n c → Within (n + 1) (counted l c)
+pub counted-within : (l : Lack) (c : Counts) (n : ℕ) → Within n c → Within (n + 1) (plusOne l c)
 counted-within emptyFragments c n w = record { empty = omega (arith, w .empty); unmarked = omega (arith, w .unmarked); incomplete = omega (arith, w .incomplete); neither = omega (arith, w .neither) }
 counted-within noneMarkedLast c n w = record { empty = omega (arith, w .empty); unmarked = omega (arith, w .unmarked); incomplete = omega (arith, w .incomplete); neither = omega (arith, w .neither) }
 counted-within fewerKept c n w = record { empty = omega (arith, w .empty); unmarked = omega (arith, w .unmarked); incomplete = omega (arith, w .incomplete); neither = omega (arith, w .neither) }
@@ -67,7 +66,7 @@ within-more m n c h w = record { empty = omega (arith, w .empty); unmarked = ome
 
 -- rows
 module _ (time row : ℕ) (s : Swept) where
-  pub row-dropped : expired (s .table) time row ≡ true → record { table = without (s .table) row; counts = counted (lackOf (tally (s .table) row 32)) (s .counts) } ≡ sweptRow time row s
+  pub row-dropped : expired (s .table) time row ≡ true → record { table = without (s .table) row; counts = plusOne (lackOf (tally (s .table) row places)) (s .counts) } ≡ sweptRow time row s
   unfolding sweptRow
   row-dropped e = rw e
 
@@ -75,7 +74,7 @@ module _ (time row : ℕ) (s : Swept) where
   unfolding sweptRow
   row-stays e = rw e
 
-pub rows-none : (t : Table) (time : ℕ) → record { table = t; counts = record { empty = 0; unmarked = 0; incomplete = 0; neither = 0 } } ≡ sweptRows t time 0
+pub rows-none : (t : Table) (time : ℕ) → sweptAs t noneDropped ≡ sweptRows t time 0
 unfolding sweptRows
 rows-none t time = refl
 

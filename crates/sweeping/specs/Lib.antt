@@ -1,2 +1,3 @@
 pub mod Sweep
-pub mod Leaves
+pub mod PrivateSteps
+pub mod Claims

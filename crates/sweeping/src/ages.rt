@@ -1,14 +1,18 @@
-// What a sweep asks of a row: a key is dropped when 3,000 milliseconds have passed since its first fragment, and counted by what it lacked.
+// What a sweep asks of a row: a key is dropped when its lifetime has passed since its first fragment, and counted by what it lacked.
 use crate::Counts;
+use table::PLACES;
 ghost use mathlib.Core.Path.{_≡_};
 ghost use mathlib.Core.Bool.{_&&_, _||_};
-ghost use Prim.Native.Nat.{max, _+_, _-_, _≤_, _<_};
-ghost use lib.Dec.{leb};
-ghost use Rattle.sweeping.specs.Sweep.{tallied, tally, lackOf, counted};
-ghost use Rattle.sweeping.specs.Leaves.{Within, placeWith, tableWith};
+ghost use Prim.Native.Nat.{max, _<_};
+ghost use Rattle.table.specs.Rows.{keys, places};
+ghost use Rattle.sweeping.specs.Sweep.{isOld, tallied, tally, lackOf, plusOne};
+ghost use Rattle.sweeping.specs.PrivateSteps.{Within, placeWith, tableWith, tallyOf};
+
+// How many milliseconds a key stays.
+const LIFETIME: u64 = 3000;
 
 // What a row holds: how many fragments, 1 more than their highest number (0 where there are none), and if one is marked last.
-pub struct Tally {
+pub(crate) struct Found {
     pub many: usize,
     pub beyond: usize,
     pub marked: bool,
@@ -27,14 +31,14 @@ pub(crate) fn either(a: bool, b: bool) -> bool
 }
 
 // One place more: its owner, number and mark.
-pub(crate) fn with_place(s: Tally, of: u8, number: u8, last: bool, row: usize) -> Tally
-    requires { ⌜ (row < 16) × (s .many < 32) ⌝ }
-    ensures { λ r. ⌜ r ≡ tallied row (placeWith of number last) s ⌝ }
+pub(crate) fn with_place(s: Found, of: u8, number: u8, last: bool, row: usize) -> Found
+    requires { ⌜ (row < keys) × (s .many < places) ⌝ }
+    ensures { λ r. ⌜ tallyOf r ≡ tallied row (placeWith of number last) (tallyOf s) ⌝ }
 {
     let owner = row as u8 + 1;
     if of == owner {
         let own = number as usize;
-        return Tally {
+        return Found {
             many: s.many + 1,
             beyond: larger(s.beyond, own + 1),
             marked: either(s.marked, last),
@@ -44,21 +48,21 @@ pub(crate) fn with_place(s: Tally, of: u8, number: u8, last: bool, row: usize) -
 }
 
 pub(crate) fn tally_of<'a>(
-    owners: &'a [u8; 32],
-    numbers: &'a [u8; 32],
-    lasts: &'a [bool; 32],
+    owners: &'a [u8; PLACES],
+    numbers: &'a [u8; PLACES],
+    lasts: &'a [bool; PLACES],
     row: usize,
-) -> Tally
-    requires { ⌜ row < 16 ⌝ }
-    ensures { λ r. ⌜ r ≡ tally (tableWith (now (owners .entry)) (now (numbers .entry)) (now (lasts .entry))) row 32 ⌝ }
+) -> Found
+    requires { ⌜ row < keys ⌝ }
+    ensures { λ r. ⌜ tallyOf r ≡ tally (tableWith (now (owners .entry)) (now (numbers .entry)) (now (lasts .entry))) row places ⌝ }
 {
-    let mut s = Tally {
+    let mut s = Found {
         many: 0,
         beyond: 0,
         marked: false,
     };
     let mut i: usize = 0;
-    while i < 32 {
+    while i < PLACES {
         s = with_place(s, owners[i], numbers[i], lasts[i], row);
         i += 1;
     }
@@ -66,9 +70,9 @@ pub(crate) fn tally_of<'a>(
 }
 
 // One dropped key more.
-pub(crate) fn with_key_dropped(c: Counts, s: Tally) -> Counts
-    requires { ⌜ Within 16 c ⌝ }
-    ensures { λ r. ⌜ r ≡ counted (lackOf s) c ⌝ }
+pub(crate) fn with_key_dropped(c: Counts, s: Found) -> Counts
+    requires { ⌜ Within keys c ⌝ }
+    ensures { λ r. ⌜ r ≡ plusOne (lackOf (tallyOf s)) c ⌝ }
 {
     let mut more = c;
     if s.many == 0 {
@@ -89,14 +93,14 @@ pub(crate) fn with_key_dropped(c: Counts, s: Tally) -> Counts
 
 // Whether a key is too old. The clock may have gone back.
 pub(crate) fn is_expired(used: bool, first: u64, time: u64) -> bool
-    ensures { λ r. ⌜ r ≡ (used && leb 3000 (time - first)) ⌝ }
+    ensures { λ r. ⌜ r ≡ (used && isOld time first) ⌝ }
 {
     if used {
         if time < first {
             return false;
         }
         let elapsed = time - first;
-        return 3000 <= elapsed;
+        return LIFETIME <= elapsed;
     }
     false
 }

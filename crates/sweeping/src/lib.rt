@@ -5,6 +5,7 @@ mod ages;
 use ages::is_expired;
 use ages::tally_of;
 use ages::with_key_dropped;
+use table::KEYS;
 use table::Table;
 use table::without_key;
 ghost use mathlib.Core.Path.{_≡_};
@@ -24,7 +25,7 @@ pub struct Swept {
     pub counts: Counts,
 }
 
-// The table without the keys that are 3,000 milliseconds old at `time`, and how many they were.
+// The table without the keys that are too old at `time`, and how many they were.
 pub fn sweep_step(t: Table, time: u64) -> Swept
     ensures { λ r. ⌜ r ≡ swept t time ⌝ }
 {
@@ -36,7 +37,7 @@ pub fn sweep_step(t: Table, time: u64) -> Swept
         neither: 0,
     };
     let mut row: usize = 0;
-    while row < 16 {
+    while row < KEYS {
         if is_expired(n.used[row], n.firsts[row], time) {
             let held = tally_of(&n.owners, &n.numbers, &n.lasts, row);
             counts = with_key_dropped(counts, held);

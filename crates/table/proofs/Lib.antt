@@ -2,4 +2,4 @@ pub mod Search
 pub mod Wiped
 pub mod Places
 pub mod Sound
-pub mod Firm
+pub mod Claims

@@ -9,17 +9,9 @@ use lib.ListN.{length, getD, set, replicate, length-set, length-replicate}
 use lib.Seq.{getD-set-same, getD-set-other}
 use borrow.Author.Tests.{eqb-true, eqb-false}
 use Rattle.table.specs.declared.Table.{Table}
+use Rattle.table.specs.Sound.{Long}
 use Rattle.table.specs.Rows.{Place, ownerOf, freePlace, freshTable, placeAt, withPlace, without}
 use Rattle.table.proofs.Wiped.{wiped-length, wiped-at}
-
--- the six lists have their length
-pub record Long (t : Table) : Type 0 where
-  pub types : length (t .«message_types») ≡ 32
-  pub sizes : length (t .sizes) ≡ 32
-  pub owners : length (t .owners) ≡ 32
-  pub numbers : length (t .numbers) ≡ 32
-  pub versions : length (t .versions) ≡ 32
-  pub lasts : length (t .lasts) ≡ 32
 
 pub fresh-long : Long freshTable
 fresh-long = record {

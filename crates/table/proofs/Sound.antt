@@ -1,4 +1,4 @@
--- What holds of every table that the calls make of a fresh one: its lists have their lengths, each place's size and number fit, belong to a row that a key has, and are the only ones with their number there; and no key has two rows.
+-- What holds of a fresh table stays so with each change, and what a search says of such a table.
 use mathlib.Core.Path.{_≡_, refl, sym, ap, _∙_, subst}
 use mathlib.Core.Bool.{Bool, true, false, cond, _&&_, false≢true}
 use Prim.Native.Nat.{ℕ, _≤_, _<_}
@@ -8,23 +8,11 @@ use lib.ListN.{length, getD, length-set, length-replicate, List·getD-eq-default
 use lib.Seq.{getD-set-same, getD-set-other}
 use borrow.Author.Tests.{eqb-true, eq-eqb, ltb-true, ltb-false}
 use Rattle.table.specs.declared.Table.{Table}
+pub use Rattle.table.specs.Sound.{Sound}
+use Rattle.table.specs.Sound.{Long}
 use Rattle.table.specs.Rows.{Place, ownerOf, freePlace, freshTable, placeAt, isRowOf, rowOf, isNumbered, placeOf, withKey, withPlace, without, droppedKey}
 use Rattle.table.proofs.Search.{lowest-holds, lowest-before}
-use Rattle.table.proofs.Places.{Long, fresh-long, put-long, drop-long, all-same, after-set, fresh-place, after-put, after-drop}
-
-pub record Sound (t : Table) : Type 0 where
-  pub codes-long : length (t .codes) ≡ 16
-  pub firsts-long : length (t .firsts) ≡ 16
-  pub places-long : Long t
-  pub used-long : length (t .used) ≡ 16
-  pub small : (i : ℕ) → placeAt t i .size ≤ 1492
-  pub byte : (i : ℕ) → placeAt t i .number < 256
-  -- a place belongs to a row that a key has
-  pub owned : (i row : ℕ) → placeAt t i .owner ≡ ownerOf row → getD (t .used) row false ≡ true
-  -- a row has each number once
-  pub once : (i j row : ℕ) → placeAt t i .owner ≡ ownerOf row → placeAt t j .owner ≡ ownerOf row → placeAt t i .number ≡ placeAt t j .number → i ≡ j
-  -- a key has one row
-  pub keyed : (r s : ℕ) → getD (t .used) r false ≡ true → getD (t .used) s false ≡ true → getD (t .codes) r 0 ≡ getD (t .codes) s 0 → r ≡ s
+use Rattle.table.proofs.Places.{fresh-long, put-long, drop-long, all-same, after-set, fresh-place, after-put, after-drop}
 
 -- a row that a key has is one of the table's
 pub used-row : (t : Table) → Sound t → (row : ℕ) → getD (t .used) row false ≡ true → row < 16

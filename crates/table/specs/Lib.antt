@@ -1,2 +1,4 @@
 pub mod Search
 pub mod Rows
+pub mod Sound
+pub mod Claims

@@ -1,4 +1,4 @@
--- The table's rows and places (document 01, "The table"): "Room: 16 keys; 32 places of 1,492 bytes in a lent store of at least 47,744."
+-- The table's rows and places (document 01, "The table").
 use mathlib.Core.List.{List, [], _∷_}
 use mathlib.Core.Bool.{Bool, true, false, cond, not, _&&_}
 use Prim.Native.Nat.{ℕ, _+_, _*_}
@@ -6,6 +6,19 @@ use lib.Dec.{eqb, ltb}
 use lib.ListN.{take, drop, getD, set, replicate}
 use Rattle.table.specs.declared.Table.{Table}
 use Rattle.table.specs.Search.{lowest}
+
+-- "Room: 16 keys; 32 places of 1,492 bytes in a lent store of at least 47,744."
+abbrev pub keys : ℕ
+keys = 16
+
+abbrev pub places : ℕ
+places = 32
+
+abbrev pub placeSize : ℕ
+placeSize = 1492
+
+abbrev pub storeSize : ℕ
+storeSize = places * placeSize
 
 -- what a place holds: a fragment, but for its payload's bytes; its owner is 1 more than the row that it belongs to, and 0 where the place holds nothing
 pub record Place : Type 0 where
@@ -25,30 +38,30 @@ freePlace = record { message-type = 0; size = 0; owner = 0; number = 0; version 
 abbrev pub freshTable : Table
 freshTable =
     record {
-      codes = replicate 16 0;
-      firsts = replicate 16 0;
-      «message_types» = replicate 32 0;
-      sizes = replicate 32 0;
-      owners = replicate 32 0;
-      numbers = replicate 32 0;
-      versions = replicate 32 0;
-      lasts = replicate 32 false;
-      used = replicate 16 false;
+      codes = replicate keys 0;
+      firsts = replicate keys 0;
+      «message_types» = replicate places 0;
+      sizes = replicate places 0;
+      owners = replicate places 0;
+      numbers = replicate places 0;
+      versions = replicate places 0;
+      lasts = replicate places false;
+      used = replicate keys false;
     }
 
--- the row of a key, 16 where the table holds nothing under it
+-- the row of a key, the number of keys where the table holds nothing under it
 abbrev pub isRowOf : Table → ℕ → ℕ → Bool
 isRowOf t key row = getD (t .used) row false && eqb (getD (t .codes) row 0) key
 
 abbrev pub rowOf : Table → ℕ → ℕ
-rowOf t key = lowest (isRowOf t key) 16
+rowOf t key = lowest (isRowOf t key) keys
 
--- the lowest row that no key has, 16 where all have one
+-- the lowest row that no key has, the number of keys where all have one
 abbrev pub isSpare : Table → ℕ → Bool
 isSpare t row = not (getD (t .used) row false)
 
 abbrev pub spareRow : Table → ℕ
-spareRow t = lowest (isSpare t) 16
+spareRow t = lowest (isSpare t) keys
 
 -- place i, put together from its six lists
 abbrev pub placeAt : Table → ℕ → Place
@@ -62,19 +75,19 @@ placeAt t i =
       last = getD (t .lasts) i false;
     }
 
--- the place in which a row holds the fragment with a number, 32 where it holds none; no place belongs to row 16
+-- the place in which a row holds the fragment with a number, the number of places where it holds none
 abbrev pub isNumbered : (owner number : ℕ) → Place → Bool
 isNumbered owner number p = eqb (p .owner) owner && eqb (p .number) number
 
 abbrev pub placeOf : Table → ℕ → ℕ → ℕ
-placeOf t row number = lowest (λ i. isNumbered (ownerOf row) number (placeAt t i)) 32
+placeOf t row number = lowest (λ i. isNumbered (ownerOf row) number (placeAt t i)) places
 
--- "the lowest free place", 32 where all are used
+-- "the lowest free place", the number of places where all are used
 abbrev pub isFree : Place → Bool
 isFree p = eqb (p .owner) 0
 
 abbrev pub lowestFree : Table → ℕ
-lowestFree t = lowest (λ i. isFree (placeAt t i)) 32
+lowestFree t = lowest (λ i. isFree (placeAt t i)) places
 
 -- the table with a key at a row that was spare, and with a fragment at a place
 abbrev pub withKey : Table → (row key time : ℕ) → Table
@@ -128,8 +141,8 @@ without t row =
 
 -- "the key is dropped", if it is there
 abbrev pub droppedKey : Table → ℕ → Table
-droppedKey t row = cond (ltb row 16) (without t row) t
+droppedKey t row = cond (ltb row keys) (without t row) t
 
 -- the bytes that place i of the store holds
 abbrev pub bytesAt : List ℕ → ℕ → ℕ → List ℕ
-bytesAt store i size = take size (drop (i * 1492) store)
+bytesAt store i size = take size (drop (i * placeSize) store)

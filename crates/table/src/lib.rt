@@ -9,22 +9,31 @@ use freeing::free_numbers;
 ghost use mathlib.Core.Path.{_≡_};
 ghost use Rattle.table.specs.Rows.{freshTable, droppedKey};
 
-// 16 keys, each a row of three lists, and 32 places, each a row of the six others: a kept fragment, but for its payload, which lies in the lent store at
-// 1,492 bytes a place. Each list is an array of its own, which a look-up can be lent.
+// Room for so many keys and fragments, and the bytes of the store that is lent for their payloads.
+pub const KEYS: usize = 16;
+
+pub const PLACES: usize = 32;
+
+pub const PLACE_SIZE: usize = 1492;
+
+pub const STORE_SIZE: usize = PLACES * PLACE_SIZE;
+
+// Each key is a row of three lists, and each place a row of the six others: a kept fragment, but for its payload, which lies in the lent store. Each list is an
+// array of its own, which a look-up can be lent.
 #[repr(C)]
 pub struct Table {
-    pub codes: [u64; 16],
+    pub codes: [u64; KEYS],
     // when the key's first fragment came
-    pub firsts: [u64; 16],
-    pub message_types: [u16; 32],
+    pub firsts: [u64; KEYS],
+    pub message_types: [u16; PLACES],
     // how many bytes the payload has
-    pub sizes: [u16; 32],
+    pub sizes: [u16; PLACES],
     // 1 more than the row of its key, 0 where the place is free
-    pub owners: [u8; 32],
-    pub numbers: [u8; 32],
-    pub versions: [u8; 32],
-    pub lasts: [bool; 32],
-    pub used: [bool; 16],
+    pub owners: [u8; PLACES],
+    pub numbers: [u8; PLACES],
+    pub versions: [u8; PLACES],
+    pub lasts: [bool; PLACES],
+    pub used: [bool; KEYS],
 }
 
 // A table that holds nothing.
@@ -32,24 +41,24 @@ pub fn fresh() -> Table
     ensures { λ r. ⌜ r ≡ freshTable ⌝ }
 {
     Table {
-        codes: [0u64; 16],
-        firsts: [0u64; 16],
-        message_types: [0u16; 32],
-        sizes: [0u16; 32],
-        owners: [0u8; 32],
-        numbers: [0u8; 32],
-        versions: [0u8; 32],
-        lasts: [false; 32],
-        used: [false; 16],
+        codes: [0u64; KEYS],
+        firsts: [0u64; KEYS],
+        message_types: [0u16; PLACES],
+        sizes: [0u16; PLACES],
+        owners: [0u8; PLACES],
+        numbers: [0u8; PLACES],
+        versions: [0u8; PLACES],
+        lasts: [false; PLACES],
+        used: [false; KEYS],
     }
 }
 
-// The table without a row's key: the row and its places are as fresh ones. There are 16 rows; behind them there is no key to drop.
+// The table without a row's key: the row and its places are as fresh ones. Behind the rows there is no key to drop.
 pub fn without_key(t: Table, row: usize) -> Table
     ensures { λ r. ⌜ r ≡ droppedKey t row ⌝ }
 {
     let mut n = t;
-    if row < 16 {
+    if row < KEYS {
         let owner = row as u8 + 1;
         let owners = n.owners;
         n.codes[row] = 0;

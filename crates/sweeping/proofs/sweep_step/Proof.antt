@@ -4,11 +4,10 @@ use mathlib.Core.Logic.{⊎-elim}
 use Prim.Native.Nat.{_+_, _≤_, _-_}
 use native.Mathlib.Omega.{arith}
 use borrow.Author.Tests.{lt-ltb}
-use Rattle.table.specs.Rows.{without, droppedKey}
+use Rattle.table.specs.Rows.{places, without, droppedKey}
 use Rattle.sweeping.specs.declared.Counts.{Counts}
-use Rattle.sweeping.specs.declared.ages.Tally.{Tally}
-use Rattle.sweeping.specs.Sweep.{lackOf, tally, counted, sweptRow, sweptRows, sweptAs}
-use Rattle.sweeping.specs.Leaves.{Within}
+use Rattle.sweeping.specs.Sweep.{Tally, lackOf, tally, plusOne, sweptRow, sweptRows, sweptAs}
+use Rattle.sweeping.specs.PrivateSteps.{Within}
 use Rattle.sweeping.proofs.Sweeping.{tally-lists, counted-within, within-more, row-dropped, row-stays, rows-none, rows-next}
 use borrow.Author.Needs.{needs}
 use Rattle.sweeping.proofs.sweep_step.Statement.{statement}
@@ -58,11 +57,11 @@ loop-again c =
     let n = b .loop .n in
     let counts = b .loop .counts in
     let swept-on : sweptRow (a .time) row (sweptAs n counts) ≡ sweptRows (a .t) (a .time) (row + 1) = ap (sweptRow (a .time) row) (b .loop .inv .1) ∙ rows-next (a .t) (a .time) row in
-    let lack = lackOf (tally n row 32) in
+    let lack = lackOf (tally n row places) in
     let dropped : droppedKey n row ≡ without n row = rw (lt-ltb row 16 (search needs)) in
     ⊎-elim
     (λ w.
-    let counts-are : c .if1 .counts ≡ counted lack counts = w .9 ∙ w .6 .ensures ∙ ap (λ (h : Tally). counted (lackOf h) counts) (w .5 .ensures ∙ tally-lists n row 32) in
+    let counts-are : c .if1 .counts ≡ plusOne lack counts = w .9 ∙ w .6 .ensures ∙ ap (λ (h : Tally). plusOne (lackOf h) counts) (w .5 .ensures ∙ tally-lists n row places) in
     let table-is = w .8 ∙ w .7 .ensures ∙ dropped in (
       search needs,
       (λ j. sweptAs (table-is j) (counts-are j)) ∙ row-dropped (a .time) row (sweptAs n counts) (sym (c .before .is-expired .ensures) ∙ w .0 .taken) ∙ swept-on,

@@ -7,7 +7,7 @@ use denote.Ref.{now}
 use Rattle.pushing.specs.declared.choose.Change.the-variants.{PutAt}
 use Rattle.table.specs.Rows.{ownerOf}
 use Rattle.pushing.specs.Push.{Way, keepWay, pushedOf}
-use Rattle.pushing.specs.Leaves.{placesIn, numberedIn, lowestFreeIn, spareRowIn, joinWayIn}
+use Rattle.pushing.specs.PrivateSteps.{placesIn, numberedIn, lowestFreeIn, spareRowIn, joinWayIn}
 use Rattle.pushing.proofs.Ways.{by-11, by-12, by-replace, by-last, by-keep, keep-output}
 use borrow.Author.Needs.{needs}
 use Rattle.pushing.proofs.choose.choose.Statement.{statement}

@@ -8,7 +8,7 @@ use denote.Ref.{now}
 use Rattle.numbers.specs.Numbers.{gives, refuses}
 use Rattle.pushing.specs.declared.Pushed.the-variants.{Single, Joined}
 use Rattle.pushing.specs.Push.{pushedOf, single, joined}
-use Rattle.pushing.specs.Leaves.{piecesTo}
+use Rattle.pushing.specs.PrivateSteps.{piecesTo}
 use Rattle.pushing.proofs.Ways.{last-single, last-13, last-joined}
 use Rattle.pushing.proofs.Ends.{ends}
 use borrow.Author.Needs.{needs}

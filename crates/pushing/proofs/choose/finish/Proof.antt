@@ -8,7 +8,7 @@ use Rattle.pushing.specs.declared.Pushed.the-variants.{InconsistentMetad
 use Rattle.pushing.specs.declared.join.Verdict.{Verdict}
 use Rattle.pushing.specs.declared.join.Verdict.the-variants.{Message}
 use Rattle.pushing.specs.Push.{inconsistent, missing, missingLast}
-use Rattle.pushing.specs.Leaves.{Places, placesIn, piecesTo, verdictWay, joinWayIn}
+use Rattle.pushing.specs.PrivateSteps.{Places, placesIn, piecesTo, verdictWay, joinWayIn}
 use Rattle.pushing.proofs.Pieces.{counted-as, pieces-size}
 use Rattle.pushing.proofs.Ends.{ends}
 use borrow.Author.Needs.{needs}

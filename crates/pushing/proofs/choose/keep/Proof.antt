@@ -2,7 +2,7 @@
 use mathlib.Core.Path.{refl, ap}
 use denote.Ref.{now}
 use Rattle.pushing.specs.Push.{pushedOf}
-use Rattle.pushing.specs.Leaves.{lowestFreeIn, spareRowIn}
+use Rattle.pushing.specs.PrivateSteps.{lowestFreeIn, spareRowIn}
 use Rattle.pushing.proofs.Ways.{keep-full, keep-there, keep-keys, keep-new}
 use borrow.Author.Needs.{needs}
 use Rattle.pushing.proofs.choose.keep.Statement.{statement}

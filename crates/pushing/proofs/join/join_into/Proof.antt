@@ -7,7 +7,7 @@ use lib.Seq.{paste}
 use native.Mathlib.Omega.{arith}
 use denote.Ref.{now}
 use Rattle.pushing.specs.Push.{over}
-use Rattle.pushing.specs.Leaves.{pieceAt, pieceBytes, piecesTo}
+use Rattle.pushing.specs.PrivateSteps.{pieceAt, pieceBytes, piecesTo}
 use Rattle.pushing.proofs.Pieces.{pieces-none, pieces-next, next-fits, grown}
 use borrow.Author.Needs.{needs}
 use Rattle.pushing.proofs.join.join_into.Statement.{statement}

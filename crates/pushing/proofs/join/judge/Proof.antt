@@ -6,7 +6,7 @@ use denote.Ref.{now}
 use Rattle.pushing.specs.declared.join.Reach.{Reach}
 use Rattle.pushing.specs.declared.join.Verdict.the-variants.{Message}
 use Rattle.table.specs.Rows.{ownerOf}
-use Rattle.pushing.specs.Leaves.{placesIn, beyondIn, countFor, pieceAt, markedAt, sizeTo}
+use Rattle.pushing.specs.PrivateSteps.{placesIn, beyondIn, countFor, pieceAt, markedAt, sizeTo}
 use Rattle.pushing.proofs.Pieces.{count-some, verdict-unlike, verdict-new, verdict-beyond, verdict-message, verdict-unmarked}
 use borrow.Author.Needs.{needs}
 use Rattle.pushing.proofs.join.judge.Statement.{statement}

@@ -1,6 +1,6 @@
 -- The test is that of `pieceAt`.
 use borrow.Author.Tests.{eq-eqb, ne-eqb}
-use Rattle.pushing.specs.Leaves.{pieceAt}
+use Rattle.pushing.specs.PrivateSteps.{pieceAt}
 use borrow.Author.Needs.{needs}
 use Rattle.pushing.proofs.join.piece_at.Statement.{statement}
 use Rattle.pushing.proofs.join.piece_at.Tie as tie

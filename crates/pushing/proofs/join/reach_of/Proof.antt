@@ -5,7 +5,7 @@ use native.Mathlib.Omega.{arith}
 use denote.Ref.{now}
 use borrow.Author.Tests.{eq-eqb, ne-eqb}
 use Rattle.table.specs.Search.{lowest}
-use Rattle.pushing.specs.Leaves.{pieceAt, sizeAt, sizeTo, isGap}
+use Rattle.pushing.specs.PrivateSteps.{pieceAt, sizeAt, sizeTo, isGap}
 use Rattle.table.proofs.Search.{before-all, found, passed}
 use Rattle.pushing.proofs.Pieces.{at-most, size-none, size-next}
 use borrow.Author.Needs.{needs}

@@ -6,7 +6,7 @@ use borrow.Author.Needs.{needs}
 use Rattle.table.specs.declared.Table.{Table}
 use Rattle.table.specs.Rows.{withPlace}
 use Rattle.pushing.specs.Push.{placeFor}
-use Rattle.pushing.specs.Leaves.{opened}
+use Rattle.pushing.specs.PrivateSteps.{opened}
 use Rattle.pushing.proofs.rows.with_fragment.Statement.{statement}
 use Rattle.pushing.proofs.rows.with_fragment.Tie as tie
 

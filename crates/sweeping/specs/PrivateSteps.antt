@@ -4,7 +4,9 @@ use mathlib.Core.Bool.{Bool}
 use Prim.Native.Nat.{ℕ, _≤_}
 use Rattle.table.specs.declared.Table.{Table}
 use Rattle.sweeping.specs.declared.Counts.{Counts}
+use Rattle.sweeping.specs.declared.ages.Found.{Found}
 use Rattle.table.specs.Rows.{Place}
+use Rattle.sweeping.specs.Sweep.{Tally}
 
 -- what a sweep looks at in a place, and a table of which only that is known
 abbrev pub placeWith : (owner number : ℕ) → Bool → Place
@@ -12,6 +14,10 @@ placeWith owner number last = record { message-type = 0; size = 0; owner = owner
 
 abbrev pub tableWith : (owners numbers : List ℕ) → List Bool → Table
 tableWith owners numbers lasts = record { codes = []; firsts = []; «message_types» = []; sizes = []; owners = owners; numbers = numbers; versions = []; lasts = lasts; used = [] }
+
+-- the tally of what was found
+abbrev pub tallyOf : Found → Tally
+tallyOf s = record { many = s .many; beyond = s .beyond; marked = s .marked }
 
 -- no count is above n
 pub record Within (n : ℕ) (c : Counts) : Type 0 where

@@ -15,27 +15,28 @@ use Rattle.pushing.specs.declared.choose.Change.{Change}
 use Rattle.pushing.specs.declared.choose.Change.the-variants.{Stay, PutAt, DropKey}
 use Rattle.pushing.specs.declared.choose.Chosen.{Chosen}
 use Rattle.table.specs.Search.{lowest}
-use Rattle.table.specs.Rows.{ownerOf, bytesAt, withKey}
+use Rattle.table.specs.Rows.{keys, places, ownerOf, bytesAt, withKey}
+use Rattle.pushing.specs.Joining.{inOrder}
 use Rattle.pushing.specs.Push.{Way, refuse, replace, keepAt, openAt, end, inconsistent, missing, missingLast, messageWay, pushedOf, answerBy, outputBy}
 
 -- the look-ups, in the lists that they are lent
 abbrev pub rowIn : List Bool → List ℕ → ℕ → ℕ
-rowIn used codes key = lowest (λ row. getD used row false && eqb (getD codes row 0) key) 16
+rowIn used codes key = lowest (λ row. getD used row false && eqb (getD codes row 0) key) keys
 
 abbrev pub spareRowIn : List Bool → ℕ
-spareRowIn used = lowest (λ row. not (getD used row false)) 16
+spareRowIn used = lowest (λ row. not (getD used row false)) keys
 
 abbrev pub lowestFreeIn : List ℕ → ℕ
-lowestFreeIn owners = lowest (λ i. eqb (getD owners i 0) 0) 32
+lowestFreeIn owners = lowest (λ i. eqb (getD owners i 0) 0) places
 
 abbrev pub numberedIn : (owners numbers : List ℕ) → (owner number : ℕ) → ℕ
-numberedIn owners numbers owner number = lowest (λ i. eqb (getD owners i 0) owner && eqb (getD numbers i 0) number) 32
+numberedIn owners numbers owner number = lowest (λ i. eqb (getD owners i 0) owner && eqb (getD numbers i 0) number) places
 
 abbrev pub unlikeIn : (owners versions types : List ℕ) → (owner version type : ℕ) → ℕ
-unlikeIn owners versions types owner version type = lowest (λ i. eqb (getD owners i 0) owner && not (eqb (getD versions i 0) version && eqb (getD types i 0) type)) 32
+unlikeIn owners versions types owner version type = lowest (λ i. eqb (getD owners i 0) owner && not (eqb (getD versions i 0) version && eqb (getD types i 0) type)) places
 
 abbrev pub beyondIn : (owners numbers : List ℕ) → (owner number : ℕ) → ℕ
-beyondIn owners numbers owner number = lowest (λ i. eqb (getD owners i 0) owner && ltb number (getD numbers i 0)) 32
+beyondIn owners numbers owner number = lowest (λ i. eqb (getD owners i 0) owner && ltb number (getD numbers i 0)) places
 
 -- the six lists of a table's places
 pub record Places : Type 0 where
@@ -49,30 +50,32 @@ pub record Places : Type 0 where
 abbrev pub placesIn : (message-types sizes owners numbers versions : List ℕ) → List Bool → Places
 placesIn message-types sizes owners numbers versions lasts = record { message-types = message-types; sizes = sizes; owners = owners; numbers = numbers; versions = versions; lasts = lasts }
 
--- where the piece with number k lies: in a place below 32; 32 where there is none; 33 where it is the new fragment
+-- where the piece with number k lies: in a place, at the number of places where there is none, and one behind that where it is the new fragment
+abbrev pub newPiece : ℕ
+newPiece = places + 1
+
 unfoldable pub pieceAt : (owners numbers : List ℕ) → (row number k : ℕ) → ℕ
-pieceAt owners numbers row number k = cond (eqb k number) 33 (numberedIn owners numbers (ownerOf row) k)
+pieceAt owners numbers row number k = cond (eqb k number) newPiece (numberedIn owners numbers (ownerOf row) k)
 
 abbrev pub sizeAt : List ℕ → (size piece : ℕ) → ℕ
-sizeAt sizes size piece = cond (ltb piece 32) (getD sizes piece 0) size
+sizeAt sizes size piece = cond (ltb piece places) (getD sizes piece 0) size
 
 abbrev pub markedAt : List Bool → Bool → ℕ → Bool
-markedAt lasts last piece = cond (ltb piece 32) (getD lasts piece false) last
+markedAt lasts last piece = cond (ltb piece places) (getD lasts piece false) last
 
 unfoldable pub pieceBytes : (sizes store payload : List ℕ) → ℕ → List ℕ
-pieceBytes sizes store payload piece = cond (ltb piece 32) (bytesAt store piece (getD sizes piece 0)) payload
+pieceBytes sizes store payload piece = cond (ltb piece places) (bytesAt store piece (getD sizes piece 0)) payload
 
 -- the first n pieces: how many bytes they have, and the bytes
 unfoldable pub sizeTo : (sizes owners numbers : List ℕ) → (row number size n : ℕ) → ℕ
 sizeTo sizes owners numbers row number size zero = 0
 sizeTo sizes owners numbers row number size (suc n) = sizeTo sizes owners numbers row number size n + sizeAt sizes size (pieceAt owners numbers row number n)
 
-unfoldable pub piecesTo : (sizes owners numbers store : List ℕ) → (row number : ℕ) → List ℕ → ℕ → List ℕ
-piecesTo sizes owners numbers store row number payload zero = []
-piecesTo sizes owners numbers store row number payload (suc n) = piecesTo sizes owners numbers store row number payload n ++ pieceBytes sizes store payload (pieceAt owners numbers row number n)
+abbrev pub piecesTo : (sizes owners numbers store : List ℕ) → (row number : ℕ) → List ℕ → ℕ → List ℕ
+piecesTo sizes owners numbers store row number payload = inOrder (λ k. pieceBytes sizes store payload (pieceAt owners numbers row number k))
 
 abbrev pub isGap : (owners numbers : List ℕ) → (row number k : ℕ) → Bool
-isGap owners numbers row number k = eqb (pieceAt owners numbers row number k) 32
+isGap owners numbers row number k = eqb (pieceAt owners numbers row number k) places
 
 abbrev pub countFor : (owners numbers : List ℕ) → (row number : ℕ) → ℕ
 countFor owners numbers row number = lowest (isGap owners numbers row number) 256
@@ -82,9 +85,9 @@ reachFor sizes owners numbers row number size = record { count = countFor owners
 
 unfoldable pub verdictFor : Places → ℕ → Fragment → ℕ → Verdict
 verdictFor p row f size =
-    cond (ltb (unlikeIn (p .owners) (p .versions) (p .message-types) (ownerOf row) (f .version) (f .«message_type»)) 32) Inconsistent
+    cond (ltb (unlikeIn (p .owners) (p .versions) (p .message-types) (ownerOf row) (f .version) (f .«message_type»)) places) Inconsistent
     (cond (ltb (countFor (p .owners) (p .numbers) row (f .number)) (f .number)) Missing
-    (cond (ltb (beyondIn (p .owners) (p .numbers) (ownerOf row) (countFor (p .owners) (p .numbers) row (f .number))) 32) Missing
+    (cond (ltb (beyondIn (p .owners) (p .numbers) (ownerOf row) (countFor (p .owners) (p .numbers) row (f .number))) places) Missing
     (cond (markedAt (p .lasts) (f .last) (pieceAt (p .owners) (p .numbers) row (f .number) (countFor (p .owners) (p .numbers) row (f .number) - 1)))
     (Message (countFor (p .owners) (p .numbers) row (f .number)) (sizeTo (p .sizes) (p .owners) (p .numbers) row (f .number) size (countFor (p .owners) (p .numbers) row (f .number))))
     MissingLast)))
@@ -101,7 +104,7 @@ joinWayIn p store row f payload room = verdictWay (verdictFor p row f (length pa
 
 -- what each way does to the table, for a key with this row
 abbrev pub endChange : ℕ → Change
-endChange row = cond (ltb row 16) DropKey Stay
+endChange row = cond (ltb row keys) DropKey Stay
 
 abbrev pub changeBy : Way → ℕ → Change
 changeBy (refuse n values) row = Stay

@@ -1,0 +1,30 @@
+-- What holds of every table that the calls make of a fresh one: its lists have their lengths, each place's size and number fit, belong to a row that a key has, and are the only ones with their number there; and no key has two rows.
+use mathlib.Core.Path.{_≡_}
+use mathlib.Core.Bool.{true, false}
+use Prim.Native.Nat.{ℕ, _≤_, _<_}
+use lib.ListN.{length, getD}
+use Rattle.table.specs.declared.Table.{Table}
+use Rattle.table.specs.Rows.{keys, places, placeSize, ownerOf, placeAt}
+
+-- the six lists have their length
+pub record Long (t : Table) : Type 0 where
+  pub types : length (t .«message_types») ≡ places
+  pub sizes : length (t .sizes) ≡ places
+  pub owners : length (t .owners) ≡ places
+  pub numbers : length (t .numbers) ≡ places
+  pub versions : length (t .versions) ≡ places
+  pub lasts : length (t .lasts) ≡ places
+
+pub record Sound (t : Table) : Type 0 where
+  pub codes-long : length (t .codes) ≡ keys
+  pub firsts-long : length (t .firsts) ≡ keys
+  pub places-long : Long t
+  pub used-long : length (t .used) ≡ keys
+  pub small : (i : ℕ) → placeAt t i .size ≤ placeSize
+  pub byte : (i : ℕ) → placeAt t i .number < 256
+  -- a place belongs to a row that a key has
+  pub owned : (i row : ℕ) → placeAt t i .owner ≡ ownerOf row → getD (t .used) row false ≡ true
+  -- a row has each number once
+  pub once : (i j row : ℕ) → placeAt t i .owner ≡ ownerOf row → placeAt t j .owner ≡ ownerOf row → placeAt t i .number ≡ placeAt t j .number → i ≡ j
+  -- a key has one row
+  pub keyed : (r s : ℕ) → getD (t .used) r false ≡ true → getD (t .used) s false ≡ true → getD (t .codes) r 0 ≡ getD (t .codes) s 0 → r ≡ s
