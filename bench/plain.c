@@ -1,7 +1,5 @@
 /* The same calls in plain C, as one would write them by hand: nothing copied but the payloads, the same checks and the same refusals. */
-#undef PLAIN
-#define PLAIN
-#include "ashlar.h"
+#include "calls.h"
 #include <string.h>
 
 AshlarWalk plain_walk(const uint8_t *p, size_t n) {

@@ -1,5 +1,5 @@
 /* Finding over lists of records that no walk need have made: the cases are named, and what has to be answered is written from document 01. */
-#include "../bench/ashlar.h"
+#include "../include/ashlar.h"
 #include <stdio.h>
 
 /* an association (kind 0x92) whose last byte is bad, one that joined, an end marker */

@@ -1,8 +1,6 @@
 /* hostile CALLS SEED: so many random calls. Each slice ends at a page that can't be touched, lengths are any, tables are those that the calls made. Every answer is one of
    document 01's numbers for its call and the same as that of the plain C of bench/plain.c, and so is every byte that was lent. */
-#include "../bench/ashlar.h"
-#define PLAIN
-#include "../bench/ashlar.h"
+#include "../bench/calls.h"
 #include <stdio.h>
 #include <stdlib.h>
 #include <string.h>

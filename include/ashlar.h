@@ -1,0 +1,215 @@
+/* Ashlargale for C: messages of IEEE 1905.1 and Wi-Fi Multi-AP taken apart, and put together from fragments.
+
+   The payload of a message (of a CMDU, behind its header of eight bytes) is a row of TLVs: a type byte, the length of the value in two bytes, the higher one
+   first, and the value. ashlar_walk counts them and ashlar_walk_into lists them; ashlar_find looks in such a list for a TLV of one of 21 kinds, and
+   ashlar_read_kind reads the value of one.
+   A message longer than a frame comes in fragments, numbered from 0, the last one marked: ashlar_push keeps them in a table and joins them, ashlar_show says
+   where the message lies, and ashlar_sweep drops what has waited for three seconds.
+
+   The archive libashlar.a is for x86-64 with the System V calling convention. It wants nothing but memcpy and memset, and takes no heap and at most 2,048 bytes of stack.
+
+   Every call takes any bytes, lengths and numbers, and answers or refuses by a number of AshlarRefusal. A call that refuses leaves all that it was lent as it was.
+   What a call can't see is expected of the caller:
+   - A slice is passed as two parameters, a pointer and how many elements lie there (bytes, or TLVs of a list). They exist for as long as the call takes. An empty
+     slice may have any pointer that is not null.
+   - What is lent to be written (list, table, store, out) overlaps nothing else that is lent to the same call.
+   - Pointers are aligned as their types are, and a bool is 0 or 1.
+   - A table is one that ashlar_fresh made and only ashlar_push and ashlar_sweep altered. With it goes one store, always the same, which ashlar_push alone
+     writes; what it holds at first doesn't matter.
+   - There are no globals, so threads need no lock but for what they share: one table, with its store, is in one call at a time. */
+#ifndef ASHLAR_H
+#define ASHLAR_H
+#include <stdbool.h>
+#include <stddef.h>
+#include <stdint.h>
+
+#ifdef __cplusplus
+extern "C" {
+#endif
+
+/* ---- Sizes ---- */
+
+#define ASHLAR_KEYS 16                  /* messages that a table holds fragments of at once, at most */
+#define ASHLAR_PLACES 32                /* fragments that a table holds at once, at most */
+#define ASHLAR_PAYLOAD 1492             /* bytes of a fragment's payload, at most */
+#define ASHLAR_STORE 47744              /* bytes of the store that a table wants, at least: ASHLAR_PLACES times ASHLAR_PAYLOAD */
+#define ASHLAR_MESSAGE 49236            /* bytes of a joined message, at most: those of all places, and the last fragment's, which takes none */
+#define ASHLAR_TABLE 528                /* bytes of an AshlarTable */
+#define ASHLAR_OLD 3000                 /* milliseconds after which ashlar_sweep drops a message that is not whole */
+#define ASHLAR_TLVS(size) ((size) / 3)  /* TLVs of a payload of so many bytes, at most: into a list as long ashlar_walk_into never refuses with 14 */
+
+/* ---- Refusals ---- */
+
+/* What a field `refusal` says. 6 to 9 are given by no call of this header: they belong to calls that reach single entries and write, and that C doesn't have. */
+typedef enum {
+    ASHLAR_OK = 0,                 /* Nothing is refused: the other fields hold the answer. */
+    ASHLAR_TOO_FEW_BYTES = 1,      /* Fewer than three bytes are left where a TLV has to begin. The payload is cut or no row of TLVs: give it up. `at` says where. */
+    ASHLAR_RUNS_PAST_END = 2,      /* A TLV declares a longer value than bytes are left. The payload is cut or no row of TLVs: give it up. `at` says where. */
+    ASHLAR_CUT_SHORT = 3,          /* A value ends inside its kind's layout, as where a count promises more entries than there are: pass the TLV over. */
+    ASHLAR_LEFT_OVER = 4,          /* A value has bytes behind its layout, in a kind that takes none (0, 6, 7, 30): pass the TLV over. */
+    ASHLAR_BAD_VALUE = 5,          /* A role that is not 0, an association byte that is neither 0x80 nor 0, or profile 0: pass the TLV over. */
+    ASHLAR_NO_ENTRY = 6,           /* A list has no entry with the numbers asked for. Not given to C. */
+    ASHLAR_NO_ROOM = 7,            /* The lent room is smaller than what is to be written. Not given to C. */
+    ASHLAR_VALUE_TOO_LONG = 8,     /* A value to be written has more than 65,535 bytes. Not given to C. */
+    ASHLAR_NEVER_READ = 9,         /* A record to be written that no reading gives. Not given to C. */
+    ASHLAR_TABLE_FULL = 10,        /* All places are taken, or a new message comes while all keys are: sweep, or drop the fragment. */
+    ASHLAR_STORE_TOO_SMALL = 11,   /* The store has fewer than ASHLAR_STORE bytes: a fault of the caller's. */
+    ASHLAR_PAYLOAD_TOO_LONG = 12,  /* A fragment's payload has more than ASHLAR_PAYLOAD bytes: drop the fragment. */
+    ASHLAR_OUTPUT_TOO_SMALL = 13,  /* The message is whole but longer than the output. `length` says how long: push the same fragment again with an output of so many bytes. */
+    ASHLAR_LIST_TOO_SHORT = 14,    /* The payload has more TLVs than the list has elements. `at` is the offset of the first TLV without one: come with a longer list. */
+    ASHLAR_NOT_FOUND = 15,         /* No TLV of this kind that reads stands in the list, from the place asked for on. */
+    ASHLAR_UNKNOWN_KIND = 16       /* The code is none of AshlarCode. */
+} AshlarRefusal;
+
+/* ---- Kinds ---- */
+
+/* The 21 kinds by the type byte of their TLVs. Those that are lists begin with a count in one byte (in 30, below the first level, in two) unless said otherwise. */
+typedef enum {
+    ASHLAR_END_OF_MESSAGE = 0,                /* no bytes */
+    ASHLAR_AL_MAC_ADDRESS = 1,                /* an address of 6 bytes */
+    ASHLAR_MAC_ADDRESS = 2,                   /* an address of 6 bytes */
+    ASHLAR_DEVICE_BRIDGING_CAPABILITY = 4,    /* a list of lists of addresses */
+    ASHLAR_NON_1905_NEIGHBOR_DEVICES = 6,     /* an address, then addresses to the end, which are the list */
+    ASHLAR_1905_NEIGHBOR_DEVICE = 7,          /* an address, then entries of 7 bytes to the end, which are the list */
+    ASHLAR_LINK_METRIC_QUERY = 8,             /* a type byte; an address only if it is 1; a metrics byte */
+    ASHLAR_LINK_METRIC_RESULT_CODE = 12,      /* 1 byte */
+    ASHLAR_SEARCHED_ROLE = 13,                /* 1 byte, 0 */
+    ASHLAR_SUPPORTED_ROLE = 15,               /* 1 byte, 0 */
+    ASHLAR_SUPPORTED_FREQ_BAND = 16,          /* 1 byte */
+    ASHLAR_IPV4 = 23,                         /* a list of: an address, a list of 9 bytes each */
+    ASHLAR_IPV6 = 24,                         /* a list of: 22 bytes, a list of 33 bytes each */
+    ASHLAR_PROFILE_VERSION = 26,              /* 1 byte */
+    ASHLAR_L2_NEIGHBOR_DEVICE = 30,           /* a list of: an address, a list of: an address, a list of addresses */
+    ASHLAR_SUPPORTED_SERVICE = 0x80,          /* a list of 1 byte each */
+    ASHLAR_AP_OPERATIONAL_BSS = 0x83,         /* a list of: an address, a list of: an address, a list of 1 byte each (a name) */
+    ASHLAR_CLIENT_ASSOCIATION = 0x92,         /* two addresses and a byte, 0x80 joined or 0 left */
+    ASHLAR_MULTI_AP_PROFILE = 0xB3,           /* 1 byte, not 0 */
+    ASHLAR_PROFILE_2_AP_CAPABILITY = 0xB4,    /* 4 bytes */
+    ASHLAR_BSS_CONFIGURATION_REPORT = 0xB7    /* a list of: an address, a list of: 8 bytes, a list of 1 byte each (a name) */
+} AshlarCode;
+
+/* ---- Structs ---- */
+
+/* A TLV of a payload. Its value is the `length` bytes that begin at payload + offset + 3. */
+typedef struct {
+    uint8_t tlv_type; /* its type byte */
+    uint16_t length;  /* bytes of its value */
+    size_t offset;    /* where its type byte stands in the payload, from 0 */
+} AshlarTlv;
+
+/* What a walk answers. */
+typedef struct {
+    size_t count;    /* how many TLVs the payload has; 0 where refused */
+    size_t at;       /* where refused, the offset of the TLV that can't be read (1, 2) or has no element (14); else 0 */
+    uint8_t refusal; /* an AshlarRefusal */
+} AshlarWalk;
+
+/* What a value reads as. Where refused, all else is 0. */
+typedef struct {
+    size_t entries;  /* of a list, how many entries its outermost level has; else 0 */
+    size_t consumed; /* how many bytes of the value its kind's layout takes, from the first on */
+    size_t rest;     /* how many bytes are behind these: they belong to no field, and may be passed over */
+    bool is_list;    /* whether the kind is a list's */
+    uint8_t refusal; /* an AshlarRefusal */
+} AshlarKind;
+
+/* What a search answers. */
+typedef struct {
+    size_t place;    /* the number of the TLV in the list, from 0; 0 where refused */
+    uint8_t refusal; /* an AshlarRefusal */
+} AshlarFound;
+
+/* The fragments that are held, but for their payloads. To be looked at only: what an element holds where it is not used means nothing.
+   A row of `codes`, `firsts` and `used` is a message that waits; a row of the others is a place, with a fragment of it. */
+typedef struct {
+    uint64_t codes[ASHLAR_KEYS];            /* the key of the message */
+    uint64_t firsts[ASHLAR_KEYS];           /* the time at which its first fragment came */
+    uint16_t message_types[ASHLAR_PLACES];  /* the message type that the fragment said */
+    uint16_t sizes[ASHLAR_PLACES];          /* bytes of its payload, which begins in the store at the place's number times ASHLAR_PAYLOAD */
+    uint8_t owners[ASHLAR_PLACES];          /* 1 more than its message's row, 0 where the place is free */
+    uint8_t numbers[ASHLAR_PLACES];         /* its number */
+    uint8_t versions[ASHLAR_PLACES];        /* the message version that it said */
+    bool lasts[ASHLAR_PLACES];              /* whether it is marked last */
+    bool used[ASHLAR_KEYS];                 /* whether the row holds a message */
+} AshlarTable;
+
+/* What the header of a fragment says. */
+typedef struct {
+    uint16_t message_type;
+    uint8_t version; /* the message version */
+    uint8_t number;  /* the fragment's number, from 0 */
+    bool last;       /* whether it is marked last: bit 7 of the header's flags */
+} AshlarFragment;
+
+/* A fragment that comes in, but for its payload. */
+typedef struct {
+    uint64_t key;            /* whose fragment: the sender's six bytes as a number, the first byte highest, times 65,536, plus the message id */
+    uint64_t time;           /* now, in milliseconds of a clock of the caller's */
+    AshlarFragment fragment;
+} AshlarArrival;
+
+/* What a field `answer` says. With 3 to 7 the message is at its end, and its key holds nothing any more. */
+typedef enum {
+    ASHLAR_REFUSED = 0,      /* see `refusal` */
+    ASHLAR_WAITING = 1,      /* the fragment is kept, and more are to come */
+    ASHLAR_DUPLICATED = 2,   /* a fragment with this number was kept already, and this one stands in its place; nothing is joined, even if it is marked last */
+    ASHLAR_INCONSISTENT = 3, /* the last one came, but the fragments don't agree on version and type */
+    ASHLAR_MISSING = 4,      /* the last one came, but the numbers are not 0 to n-1: one is lost, or came after the last */
+    ASHLAR_MISSING_LAST = 5, /* the last one came, but a fragment with a higher number is kept, which isn't marked */
+    ASHLAR_SINGLE = 6,       /* the message is whole: this fragment alone, so its bytes are the payload's */
+    ASHLAR_JOINED = 7        /* the message is whole: its bytes are the output's first ones */
+} AshlarAnswer;
+
+/* What a push answers. */
+typedef struct {
+    size_t length;   /* of 6 and 7, the bytes of the message; of refusal 13, the bytes that the output wants; else 0 */
+    uint8_t answer;  /* an AshlarAnswer */
+    uint8_t refusal; /* an AshlarRefusal */
+} AshlarPushed;
+
+/* Where a message lies: the first `length` bytes of the output or of the payload. */
+typedef struct {
+    size_t length;  /* 0 where there is no message */
+    bool in_output; /* of the output, else of the payload that was pushed */
+} AshlarShown;
+
+/* How many messages a sweep dropped, by what they lacked. */
+typedef struct {
+    uint8_t empty;      /* no fragment is kept */
+    uint8_t unmarked;   /* none of the fragments is marked last */
+    uint8_t incomplete; /* one is marked last, but there are fewer than the highest number plus 1 */
+    uint8_t neither;    /* one is marked last, and there are as many: a duplicate was marked, and completes nothing */
+} AshlarCounts;
+
+/* ---- Calls ---- */
+
+/* The TLVs of a payload, counted. Refusals: 1, 2. */
+AshlarWalk ashlar_walk(const uint8_t *payload, size_t payload_length);
+
+/* The TLVs of a payload, counted, and listed in the first elements of `list`, which has `list_length`; the others stay as they are. Refusals: 1, 2, 14. */
+AshlarWalk ashlar_walk_into(AshlarTlv *list, size_t list_length, const uint8_t *payload, size_t payload_length);
+
+/* The value of a TLV, read as the kind with this code. Refusals: 3, 4, 5, 16. */
+AshlarKind ashlar_read_kind(uint8_t code, const uint8_t *value, size_t value_length);
+
+/* The first TLV of the list, from the place `from` on, that has this code, lies inside the payload, and whose value reads: from 0 the first of all, from the place of an answer
+   plus 1 the next one. Refusals: 15, 16. */
+AshlarFound ashlar_find(const AshlarTlv *list, size_t list_length, const uint8_t *payload, size_t payload_length, uint8_t code, size_t from);
+
+/* A table that holds nothing. */
+AshlarTable ashlar_fresh(void);
+
+/* A fragment comes in. `out` gets the bytes of a message that is joined of several fragments; bytes of it behind the message, and all of it for any other answer, stay as
+   they are. Refusals: 10, 11, 12, 13. */
+AshlarPushed ashlar_push(AshlarTable *table, uint8_t *store, size_t store_length, uint8_t *out, size_t out_length, AshlarArrival arrival, const uint8_t *payload, size_t payload_length);
+
+/* Where the message of a push lies, given that push's answer, payload and output. */
+AshlarShown ashlar_show(AshlarPushed pushed, const uint8_t *payload, size_t payload_length, const uint8_t *out, size_t out_length);
+
+/* Messages whose first fragment came ASHLAR_OLD milliseconds or longer before `time` are dropped, with all their fragments, and counted. A clock that went back drops none. */
+AshlarCounts ashlar_sweep(AshlarTable *table, uint64_t time);
+
+#ifdef __cplusplus
+}
+#endif
+#endif

@@ -1,0 +1,243 @@
+/* The header against the archive, the one thing that no proof ties together: the order of a struct's fields in memory and of a call's parameters, the numbers of refusals and answers,
+   the sizes. Each is seen by a call that gives it, with values that tell fields and parameters apart. */
+#include "../include/ashlar.h"
+#include <stdio.h>
+#include <string.h>
+
+static int failed;
+/* the refusals and the answers of push that were seen, a bit for each */
+static unsigned refusals, answers;
+
+static void check(const char *name, bool good) {
+    failed += !good;
+    printf("%s header: %s\n", good ? "ok" : "FAILED", name);
+}
+
+static uint8_t payload[ASHLAR_PAYLOAD + 1], store[ASHLAR_STORE], out[ASHLAR_MESSAGE];
+
+/* ---- Walking ---- */
+
+/* TLVs at 0, 5 and 8, the last with a length of two bytes, and one that begins at 267 */
+static const uint8_t row[270] = {0x92, 0, 2, 0xAA, 0xBB, 7, 0, 0, 0x83, 1, 0, [267] = 1, 0, 9};
+
+static void walks(void) {
+    AshlarTlv list[4];
+    AshlarWalk w = ashlar_walk(row, 267);
+    check("ashlar_walk: count", w.count == 3 && w.at == 0 && w.refusal == ASHLAR_OK);
+    w = ashlar_walk(row, 269);
+    check("ashlar_walk: 1, and at", w.count == 0 && w.at == 267 && w.refusal == ASHLAR_TOO_FEW_BYTES);
+    refusals |= 1u << w.refusal;
+    w = ashlar_walk(row, 270);
+    check("ashlar_walk: 2, and at", w.count == 0 && w.at == 267 && w.refusal == ASHLAR_RUNS_PAST_END);
+    refusals |= 1u << w.refusal;
+
+    memset(list, 0xEE, sizeof list);
+    w = ashlar_walk_into(list, 2, row, 267);
+    check("ashlar_walk_into: 14, and at", w.count == 0 && w.at == 8 && w.refusal == ASHLAR_LIST_TOO_SHORT);
+    check("ashlar_walk_into: a refusal leaves the list", list[0].tlv_type == 0xEE && list[1].offset == (size_t)0xEEEEEEEEEEEEEEEE);
+    refusals |= 1u << w.refusal;
+    w = ashlar_walk_into(list, 4, row, 269);
+    check("ashlar_walk_into: 1 before 14", w.at == 267 && w.refusal == ASHLAR_TOO_FEW_BYTES);
+    w = ashlar_walk_into(list, 4, row, 267);
+    check("ashlar_walk_into: count", w.count == 3 && w.at == 0 && w.refusal == ASHLAR_OK);
+    check("AshlarTlv: tlv_type", list[0].tlv_type == 0x92 && list[1].tlv_type == 7 && list[2].tlv_type == 0x83 && list[3].tlv_type == 0xEE);
+    check("AshlarTlv: length", list[0].length == 2 && list[1].length == 0 && list[2].length == 256 && list[3].length == 0xEEEE);
+    check("AshlarTlv: offset", list[0].offset == 0 && list[1].offset == 5 && list[2].offset == 8 && list[3].offset == (size_t)0xEEEEEEEEEEEEEEEE);
+
+    AshlarTlv most[ASHLAR_TLVS(9)];
+    w = ashlar_walk_into(most, ASHLAR_TLVS(9), store, 9);
+    check("ASHLAR_TLVS: as many as a payload can have", w.count == ASHLAR_TLVS(9) && w.refusal == ASHLAR_OK);
+}
+
+/* ---- Reading and finding ---- */
+
+/* a value of each kind, one entry at each level of a list, and what is answered where its last byte lacks */
+static const struct {
+    const char *name;
+    uint8_t code, cut;
+    bool is_list;
+    size_t size;
+    uint8_t value[57];
+} kinds[] = {
+    {"END_OF_MESSAGE", ASHLAR_END_OF_MESSAGE, 0, false, 0, {0}},
+    {"AL_MAC_ADDRESS", ASHLAR_AL_MAC_ADDRESS, 3, false, 6, {0}},
+    {"MAC_ADDRESS", ASHLAR_MAC_ADDRESS, 3, false, 6, {0}},
+    {"DEVICE_BRIDGING_CAPABILITY", ASHLAR_DEVICE_BRIDGING_CAPABILITY, 3, true, 8, {1, 1}},
+    {"NON_1905_NEIGHBOR_DEVICES", ASHLAR_NON_1905_NEIGHBOR_DEVICES, 4, true, 12, {0}},
+    {"1905_NEIGHBOR_DEVICE", ASHLAR_1905_NEIGHBOR_DEVICE, 4, true, 13, {0}},
+    {"LINK_METRIC_QUERY", ASHLAR_LINK_METRIC_QUERY, 3, false, 8, {1}},
+    {"LINK_METRIC_RESULT_CODE", ASHLAR_LINK_METRIC_RESULT_CODE, 3, false, 1, {9}},
+    {"SEARCHED_ROLE", ASHLAR_SEARCHED_ROLE, 3, false, 1, {0}},
+    {"SUPPORTED_ROLE", ASHLAR_SUPPORTED_ROLE, 3, false, 1, {0}},
+    {"SUPPORTED_FREQ_BAND", ASHLAR_SUPPORTED_FREQ_BAND, 3, false, 1, {9}},
+    {"IPV4", ASHLAR_IPV4, 3, true, 17, {1, [7] = 1}},
+    {"IPV6", ASHLAR_IPV6, 3, true, 57, {1, [23] = 1}},
+    {"PROFILE_VERSION", ASHLAR_PROFILE_VERSION, 3, false, 1, {9}},
+    {"L2_NEIGHBOR_DEVICE", ASHLAR_L2_NEIGHBOR_DEVICE, 3, true, 23, {1, [8] = 1, [16] = 1}},
+    {"SUPPORTED_SERVICE", ASHLAR_SUPPORTED_SERVICE, 3, true, 2, {1}},
+    {"AP_OPERATIONAL_BSS", ASHLAR_AP_OPERATIONAL_BSS, 3, true, 16, {1, [7] = 1, [14] = 1}},
+    {"CLIENT_ASSOCIATION", ASHLAR_CLIENT_ASSOCIATION, 3, false, 13, {[12] = 0x80}},
+    {"MULTI_AP_PROFILE", ASHLAR_MULTI_AP_PROFILE, 3, false, 1, {9}},
+    {"PROFILE_2_AP_CAPABILITY", ASHLAR_PROFILE_2_AP_CAPABILITY, 3, false, 4, {0}},
+    {"BSS_CONFIGURATION_REPORT", ASHLAR_BSS_CONFIGURATION_REPORT, 3, true, 18, {1, [7] = 1, [16] = 1}},
+};
+
+static uint8_t refusal_of(uint8_t code, const char *value, size_t size) {
+    AshlarKind k = ashlar_read_kind(code, (const uint8_t *)value, size);
+    refusals |= 1u << k.refusal;
+    return k.entries || k.consumed || k.rest || k.is_list ? 255 : k.refusal;
+}
+
+static void reads(void) {
+    char name[64];
+    for (size_t i = 0; i < sizeof kinds / sizeof *kinds; i++) {
+        size_t size = kinds[i].size;
+        AshlarKind k = ashlar_read_kind(kinds[i].code, kinds[i].value, size);
+        bool good = k.refusal == ASHLAR_OK && k.consumed == size && k.rest == 0 && k.is_list == kinds[i].is_list && k.entries == kinds[i].is_list;
+        if (size) good &= ashlar_read_kind(kinds[i].code, kinds[i].value, size - 1).refusal == kinds[i].cut;
+        snprintf(name, sizeof name, "AshlarCode: %s", kinds[i].name);
+        check(name, good);
+    }
+    AshlarKind k = ashlar_read_kind(ASHLAR_MAC_ADDRESS, row, 8);
+    check("AshlarKind of a record with a rest", k.entries == 0 && k.consumed == 6 && k.rest == 2 && !k.is_list && k.refusal == ASHLAR_OK);
+    k = ashlar_read_kind(ASHLAR_SUPPORTED_SERVICE, (const uint8_t *)"\3abcde", 6);
+    check("AshlarKind of a list with a rest", k.entries == 3 && k.consumed == 4 && k.rest == 2 && k.is_list && k.refusal == ASHLAR_OK);
+    check("ashlar_read_kind: 3", refusal_of(ASHLAR_SUPPORTED_SERVICE, "\5abcde", 5) == ASHLAR_CUT_SHORT);
+    check("ashlar_read_kind: 4", refusal_of(ASHLAR_END_OF_MESSAGE, "a", 1) == ASHLAR_LEFT_OVER);
+    check("ashlar_read_kind: 5", refusal_of(ASHLAR_MULTI_AP_PROFILE, "\0", 1) == ASHLAR_BAD_VALUE);
+    check("ashlar_read_kind: 16", refusal_of(3, "abc", 3) == ASHLAR_UNKNOWN_KIND);
+}
+
+static void finds(void) {
+    /* roles: 1 does not read, 0 does; kind 1 at two places, so that a code and a place that are mixed up show */
+    static const uint8_t roles[] = {13, 0, 1, 1, 13, 0, 1, 0, 1, 0, 6, 1, 2, 3, 4, 5, 6, 2, 0, 6, 1, 2, 3, 4, 5, 6, 13, 0, 1, 0};
+    AshlarTlv list[ASHLAR_TLVS(sizeof roles)];
+    size_t n = ashlar_walk_into(list, ASHLAR_TLVS(sizeof roles), roles, sizeof roles).count;
+    AshlarFound f = ashlar_find(list, n, roles, sizeof roles, ASHLAR_SEARCHED_ROLE, 0);
+    check("ashlar_find: place", n == 5 && f.place == 1 && f.refusal == ASHLAR_OK);
+    f = ashlar_find(list, n, roles, sizeof roles, ASHLAR_SEARCHED_ROLE, 2);
+    check("ashlar_find: from", f.place == 4 && f.refusal == ASHLAR_OK);
+    f = ashlar_find(list, n, roles, sizeof roles, 2, 1);
+    check("ashlar_find: the code comes before from", f.place == 3 && f.refusal == ASHLAR_OK);
+    f = ashlar_find(list, n, roles, sizeof roles - 1, ASHLAR_SEARCHED_ROLE, 2);
+    check("ashlar_find: 15", f.place == 0 && f.refusal == ASHLAR_NOT_FOUND);
+    refusals |= 1u << f.refusal;
+    f = ashlar_find(list, 2, roles, sizeof roles, 1, 0);
+    check("ashlar_find: the list's length", f.refusal == ASHLAR_NOT_FOUND);
+    f = ashlar_find(list, n, roles, sizeof roles, 3, 0);
+    check("ashlar_find: 16", f.place == 0 && f.refusal == ASHLAR_UNKNOWN_KIND);
+    refusals |= 1u << f.refusal;
+}
+
+/* ---- The table ---- */
+
+static AshlarTable table;
+
+static AshlarArrival piece(uint64_t key, uint8_t number, bool last) { return (AshlarArrival){.key = key, .time = 5000, .fragment = {.message_type = 0x1234, .version = 0x56, .number = number, .last = last}}; }
+
+static AshlarPushed pushed(AshlarArrival a, size_t size) {
+    AshlarPushed p = ashlar_push(&table, store, sizeof store, out, sizeof out, a, payload, size);
+    answers |= 1u << p.answer;
+    refusals |= 1u << p.refusal;
+    return p;
+}
+
+static bool answered(AshlarPushed p, uint8_t answer, size_t length) { return p.answer == answer && p.length == length && p.refusal == ASHLAR_OK; }
+
+/* a refusal is told so, and leaves the table */
+static void refused(const char *name, AshlarArrival a, size_t store_size, size_t out_size, size_t size, uint8_t refusal, size_t length) {
+    AshlarTable before = table;
+    AshlarPushed p = ashlar_push(&table, store, store_size, out, out_size, a, payload, size);
+    answers |= 1u << p.answer;
+    refusals |= 1u << p.refusal;
+    check(name, p.refusal == refusal && p.answer == ASHLAR_REFUSED && p.length == length && !memcmp(&before, &table, sizeof table));
+}
+
+static void fields(void) {
+    static const AshlarTable nothing;
+    table = ashlar_fresh();
+    check("ASHLAR_TABLE, ashlar_fresh: all its bytes are 0", sizeof table == ASHLAR_TABLE && !memcmp(&table, &nothing, sizeof table));
+    check("AshlarAnswer: waiting", answered(pushed(piece(0x1122334455667788, 7, false), 10), ASHLAR_WAITING, 0));
+    AshlarArrival other = {.key = 99, .time = 6000, .fragment = {.message_type = 0x4321, .version = 0x65, .number = 8}};
+    check("AshlarAnswer: waiting, another key", answered(pushed(other, 20), ASHLAR_WAITING, 0));
+    check("AshlarTable: codes, AshlarArrival: key", table.codes[0] == 0x1122334455667788 && table.codes[1] == 99);
+    check("AshlarTable: firsts, AshlarArrival: time", table.firsts[0] == 5000 && table.firsts[1] == 6000);
+    check("AshlarTable: message_types, AshlarFragment: message_type", table.message_types[0] == 0x1234 && table.message_types[1] == 0x4321);
+    check("AshlarTable: sizes", table.sizes[0] == 10 && table.sizes[1] == 20);
+    check("AshlarTable: owners", table.owners[0] == 1 && table.owners[1] == 2 && table.owners[2] == 0);
+    check("AshlarTable: numbers, AshlarFragment: number", table.numbers[0] == 7 && table.numbers[1] == 8);
+    check("AshlarTable: versions, AshlarFragment: version", table.versions[0] == 0x56 && table.versions[1] == 0x65);
+    check("AshlarTable: used", table.used[0] && table.used[1] && !table.used[2]);
+    check("ASHLAR_PAYLOAD: a place in the store", !memcmp(store, payload, 10) && store[10] == 0 && !memcmp(store + ASHLAR_PAYLOAD, payload, 20));
+    bool unmarked = !table.lasts[0] && !table.lasts[1];
+    other.fragment.last = true;
+    check("AshlarAnswer: duplicated", answered(pushed(other, 30), ASHLAR_DUPLICATED, 0));
+    check("AshlarTable: lasts, AshlarFragment: last", unmarked && !table.lasts[0] && table.lasts[1] && table.sizes[1] == 30);
+}
+
+static void pushes(void) {
+    table = ashlar_fresh();
+    pushed(piece(1, 0, false), 5);
+    AshlarArrival a = piece(1, 1, true);
+    a.fragment.version = 1;
+    check("AshlarAnswer: inconsistent", answered(pushed(a, 5), ASHLAR_INCONSISTENT, 0));
+    check("AshlarAnswer: missing", answered(pushed(piece(1, 1, true), 5), ASHLAR_MISSING, 0));
+    pushed(piece(1, 1, false), 5);
+    check("AshlarAnswer: missing the last", answered(pushed(piece(1, 0, true), 5), ASHLAR_MISSING_LAST, 0));
+
+    AshlarPushed p = pushed(piece(1, 0, true), 11);
+    AshlarShown s = ashlar_show(p, payload, 11, out, sizeof out);
+    check("AshlarAnswer: single, and its length", answered(p, ASHLAR_SINGLE, 11) && out[0] == 0);
+    check("AshlarShown of a single", s.length == 11 && !s.in_output);
+    pushed(piece(1, 0, false), 5);
+    refused("AshlarPushed: 13, and the length that it wants", piece(1, 1, true), sizeof store, 11, 7, ASHLAR_OUTPUT_TOO_SMALL, 12);
+    p = pushed(piece(1, 1, true), 7);
+    s = ashlar_show(p, payload, 7, out, sizeof out);
+    check("AshlarAnswer: joined, and its length", answered(p, ASHLAR_JOINED, 12) && !memcmp(out, payload, 5) && !memcmp(out + 5, payload, 7) && out[12] == 0);
+    check("AshlarShown of a joined one", s.length == 12 && s.in_output);
+    s = ashlar_show((AshlarPushed){.length = 5, .answer = ASHLAR_SINGLE}, payload, 5, out, 4);
+    AshlarShown t = ashlar_show((AshlarPushed){.length = 5, .answer = ASHLAR_JOINED}, payload, 4, out, 5);
+    check("ashlar_show: the payload comes before the output", s.length == 5 && !s.in_output && t.length == 5 && t.in_output);
+    s = ashlar_show((AshlarPushed){.length = 5, .answer = ASHLAR_SINGLE}, payload, 4, out, 5);
+    t = ashlar_show((AshlarPushed){.length = 5, .answer = ASHLAR_JOINED}, payload, 5, out, 4);
+    check("ashlar_show: nothing of a slice that is too short", s.length == 0 && !s.in_output && t.length == 0 && t.in_output);
+}
+
+static void limits(void) {
+    table = ashlar_fresh();
+    refused("ASHLAR_STORE: 11 with a byte less", piece(1, 0, false), ASHLAR_STORE - 1, sizeof out, 5, ASHLAR_STORE_TOO_SMALL, 0);
+    refused("ASHLAR_PAYLOAD: 12 with a byte more", piece(1, 0, false), sizeof store, sizeof out, ASHLAR_PAYLOAD + 1, ASHLAR_PAYLOAD_TOO_LONG, 0);
+    for (uint64_t key = 0; key < ASHLAR_KEYS; key++) pushed(piece(key, 0, false), 5);
+    refused("ASHLAR_KEYS: 10 with one more", piece(ASHLAR_KEYS, 0, false), sizeof store, sizeof out, 5, ASHLAR_TABLE_FULL, 0);
+    table = ashlar_fresh();
+    for (int n = 0; n < ASHLAR_PLACES; n++) pushed(piece(1, (uint8_t)n, false), ASHLAR_PAYLOAD);
+    refused("ASHLAR_PLACES: 10 with one more", piece(1, ASHLAR_PLACES, false), sizeof store, sizeof out, 5, ASHLAR_TABLE_FULL, 0);
+    check("ASHLAR_MESSAGE: the longest that can be joined", answered(pushed(piece(1, ASHLAR_PLACES, true), ASHLAR_PAYLOAD), ASHLAR_JOINED, ASHLAR_MESSAGE));
+}
+
+/* one key with none marked last, two with a marked one that others lack, three with neither, and four that hold nothing, which sweep takes though no call leaves them so */
+static void sweeps(void) {
+    table = ashlar_fresh();
+    pushed(piece(1, 0, false), 5);
+    for (uint64_t key = 2; key < 4; key++) pushed(piece(key, 1, false), 5), pushed(piece(key, 1, true), 5);
+    for (uint64_t key = 4; key < 7; key++) pushed(piece(key, 0, false), 5), pushed(piece(key, 0, true), 5);
+    for (int row = 6; row < 10; row++) table.used[row] = true, table.firsts[row] = 5000;
+    AshlarTable before = table;
+    AshlarCounts c = ashlar_sweep(&table, 5000 + ASHLAR_OLD - 1);
+    check("ASHLAR_OLD: none a millisecond before", !(c.empty || c.unmarked || c.incomplete || c.neither) && !memcmp(&before, &table, sizeof table));
+    c = ashlar_sweep(&table, 5000 + ASHLAR_OLD);
+    check("AshlarCounts: empty", c.empty == 4);
+    check("AshlarCounts: unmarked", c.unmarked == 1);
+    check("AshlarCounts: incomplete", c.incomplete == 2);
+    check("AshlarCounts: neither", c.neither == 3);
+    before = ashlar_fresh();
+    check("ashlar_sweep: what is dropped leaves nothing", !memcmp(&before, &table, sizeof table));
+}
+
+int main(void) {
+    for (size_t i = 0; i < sizeof payload; i++) payload[i] = (uint8_t)(i + 1);
+    walks(), reads(), finds(), fields(), pushes(), limits(), sweeps();
+    check("every refusal that a call can give came: 1 to 5 and 10 to 16", (refusals & ~1u) == 0x1FC3E);
+    check("every answer of push came: 0 to 7", answers == 0xFF);
+    return failed != 0;
+}
