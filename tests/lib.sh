@@ -32,11 +32,12 @@ told() { # NAME STATUS
 }
 
 # A C program over the archive of exported calls: tests/NAME.c and the sources named, built, and run with the arguments. It prints lines that begin 'ok ' or
-# 'FAILED ', which are counted; the last line has the counts. Installs the Debian packages that it needs (as root); where they can't be had it says so and fails.
+# 'FAILED ', which are counted; the last line has the counts.
 c_program() { # NAME SOURCES ARGUMENTS..
-    local name=$1 sources=$2 work=target/$1 archive=target/staticlib/libashlar.a emulator=qemu-x86_64 status
+    local name=$1 sources=$2 work=target/$1 status
     shift 2
-    c_program_built || return 1
+    # shellcheck disable=SC2086
+    c_built "$name" "tests/$name.c" $sources || return 1
     ${emulator:+"$emulator"} "$work/$name" "$@" >"$work/lines"
     status=$?
     cat "$work/lines"
@@ -49,8 +50,20 @@ c_program() { # NAME SOURCES ARGUMENTS..
     [ "$failed" -eq 0 ] && [ "$passed" -gt 0 ]
 }
 
-# The archive is proved and built anew where a file of crates/ is newer than it.
-c_program_built() {
+# Builds target/NAME/NAME of C sources and the archive of exported calls; `emulator` then says what has to run it, where something has to. Installs the Debian packages that
+# it needs (as root); where they can't be had it says so and fails, with the counts in the last line.
+c_built() { # NAME SOURCES..
+    local name=$1 work=target/$1
+    shift
+    archive_built "$name" || return 1
+    "$cross-gcc" -O2 -std=gnu11 -Wall -Wextra -Werror -static -Iinclude "$@" "$archive" -o "$work/$name" >"$work/gcc.log" 2>&1 ||
+        lacking "the program could not be built; $work/gcc.log says why"
+}
+
+# The archive of exported calls, proved and built anew where a file of crates/ is newer than it, and what builds and takes apart programs for x86-64.
+archive=target/staticlib/libashlar.a
+archive_built() { # NAME
+    local name=$1 work=target/$1
     # what bench/need calls where a package can't be had
     fail() {
         lacking "$*"
@@ -58,16 +71,13 @@ c_program_built() {
     }
     # shellcheck source=bench/need
     . bench/need
-    [ "$(uname -m)" != x86_64 ] || emulator=
+    emulator=
+    [ "$(uname -m)" = x86_64 ] || emulator=qemu-x86_64
     # shellcheck disable=SC2086
     need $cross_compiler $cross_library ${emulator:+qemu-user}
     mkdir -p "$work" || return 1
-    if [ ! -f "$archive" ] || [ -n "$(find crates crates.txt -newer "$archive" | head -n 1)" ]; then
-        rt staticlib ashlar >"$work/rt.log" 2>&1 || lacking "the archive could not be proved and built; $work/rt.log says why" || return 1
-    fi
-    # shellcheck disable=SC2086
-    "$cross-gcc" -O2 -std=gnu11 -Wall -Wextra -static "tests/$name.c" $sources "$archive" -o "$work/$name" >"$work/gcc.log" 2>&1 ||
-        lacking "the program could not be built; $work/gcc.log says why"
+    [ -f "$archive" ] && [ -z "$(find crates crates.txt -newer "$archive" | head -n 1)" ] && return 0
+    rt staticlib ashlar >"$work/rt.log" 2>&1 || lacking "the archive could not be proved and built; $work/rt.log says why"
 }
 
 lacking() { # WHY
