@@ -1,59 +1,40 @@
 -- Over the list that a walk made of a payload, what a record reads as is what the TLV that stands there reads as: so `find` gives the first TLV of the
 -- payload of the kind that reads, in the words of framing alone.
-use mathlib.Core.Path.{_≡_, refl, sym, ap, _∙_, subst}
+use mathlib.Core.Path.{_≡_, refl, sym, ap, _∙_}
 use mathlib.Core.Bool.{Bool, true, false, cond}
 use mathlib.Core.List.{List, [], _++_}
-use Prim.Native.Nat.{ℕ, zero, suc, _+_, _*_, _<_}
-use native.Mathlib.Omega.{arith}
+use Prim.Native.Nat.{ℕ, _+_, _<_}
 use lib.Dec.{eqb}
-use lib.ListN.{length, take, drop, getD, length-drop}
-use lib.Seq.{getD-drop, drop-drop}
+use lib.ListN.{length, take, drop, getD}
+use lib.Seq.{drop-drop}
 use borrow.Author.Tests.{le-leb}
 use Rattle.numbers.specs.Numbers.{Answer, gives, refuses, andThen}
-use Rattle.framing.specs.Tlv.{TlvRead, readTlv, declared, valueIn}
-use Rattle.framing.proofs.Reading.{whole}
+use Rattle.framing.specs.Tlv.{TlvRead, valueIn}
 use Rattle.records.specs.declared.Record.{Record}
 use Rattle.kinds.specs.Kinds.{isKind, Typed, readKind}
 use Rattle.walking.specs.declared.Tlv.{Tlv}
 use Rattle.walking.specs.Walk.{walkOf, filled, noTlv}
-use Rattle.walking.specs.Steps.{recordAt}
-use Rattle.walking.proofs.Chained.{Chained, none, more, Inside, of-walk, inside}
+use Rattle.walking.proofs.Chained.{of-walk, stands}
 use Rattle.finding.specs.Finding.{Hit, readsAs, findFrom, firstOf, findInPayload}
 use Rattle.finding.specs.Claims.{tlvAs}
 use Rattle.finding.proofs.First.{is-first, unchanged}
 
 module _ (p : List ℕ) where
-  -- a record of the walk is the one that stands at its offset
-  stands : {at : ℕ} {ts : List Tlv} → Chained p at ts → (i : ℕ) → i < length ts → getD ts i noTlv ≡ recordAt p (getD ts i noTlv .offset)
-  stands none i h = absurd (omega arith)
-  stands (more k c) zero h = refl
-  stands (more k c) (suc i) h = stands c i (omega arith)
-
   by-code : (b : Bool) (x : Answer (Typed Record)) → cond (cond b true false) x (refuses 15 []) ≡ cond b x (refuses 15 [])
   by-code true x = refl
   by-code false x = refl
 
-  here : (code at : ℕ) → Inside p (recordAt p at) → readsAs code p (recordAt p at) ≡ tlvAs code (drop at p)
-  unfolding readsAs
-  here code at i =
-      let s : List ℕ = drop at p in
-      let n : ℕ = getD p (at + 1) 0 * 256 + getD p (at + 2) 0 in
-      let d : n ≡ declared s = rw (getD-drop at p 1 0, getD-drop at p 2 0) in
-      let e = whole s n d (omega (arith, i .head, length-drop at p)) (omega (arith, i .all, length-drop at p)) in
-      let z : at + 0 ≡ at = omega arith in
-      let b : getD s 0 0 ≡ getD p at 0 = getD-drop at p 0 0 ∙ ap (λ (k : ℕ). getD p k 0) z in
-      ap (λ (b : Bool). cond (cond (eqb (getD p at 0) code) b false) (readKind code (take n (drop (at + 3) p))) (refuses 15 [])) (le-leb (at + 3 + n) (length p) (i .all))
-      ∙ by-code (eqb (getD p at 0) code) (readKind code (take n (drop (at + 3) p)))
-      ∙ ap (λ (l : List ℕ). cond (eqb (getD p at 0) code) (readKind code (take n l)) (refuses 15 [])) (sym (drop-drop 3 at p))
-      ∙ ap (λ (k : ℕ). cond (eqb k code) (readKind code (take n (drop 3 s))) (refuses 15 [])) (sym b)
-      ∙ ap (λ (x : Answer TlvRead). andThen x (λ t. cond (eqb (t .tlv-type) code) (readKind code (valueIn (gives t) s)) (refuses 15 []))) e
-
   pub as-tlv : (code k : ℕ) → k < length (walkOf p .tlvs)
       → readsAs code p (getD (walkOf p .tlvs) k noTlv) ≡ tlvAs code (drop (getD (walkOf p .tlvs) k noTlv .offset) p)
+  unfolding readsAs
   as-tlv code k l =
       let t : Tlv = getD (walkOf p .tlvs) k noTlv in
-      let e : t ≡ recordAt p (t .offset) = stands (of-walk p) k l in
-      ap (readsAs code p) e ∙ here code (t .offset) (subst (Inside p) e (inside p (of-walk p) k l))
+      let s : List ℕ = drop (t .offset) p in
+      let o = stands p (of-walk p) k l in
+      ap (λ (b : Bool). cond (cond (eqb (t .«tlv_type») code) b false) (readKind code (take (t .length) (drop (t .offset + 3) p))) (refuses 15 [])) (le-leb (t .offset + 3 + t .length) (length p) (o .inside))
+      ∙ by-code (eqb (t .«tlv_type») code) (readKind code (take (t .length) (drop (t .offset + 3) p)))
+      ∙ ap (λ (l : List ℕ). cond (eqb (t .«tlv_type») code) (readKind code (take (t .length) l)) (refuses 15 [])) (sym (drop-drop 3 (t .offset) p))
+      ∙ ap (λ (x : Answer TlvRead). andThen x (λ t. cond (eqb (t .tlv-type) code) (readKind code (valueIn (gives t) s)) (refuses 15 []))) (o .reads-as)
 
   -- what is found among the walk's records is the TLV of that number, read where it stands
   pub found-is-tlv : (code from : ℕ) (h : Hit) → gives h ≡ findFrom code (walkOf p .tlvs) p from → gives (h .reading) ≡ tlvAs code (drop (h .tlv .offset) p)

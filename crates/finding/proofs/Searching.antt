@@ -3,21 +3,18 @@
 use mathlib.Core.Path.{_≡_, refl, sym, ap, _∙_}
 use mathlib.Core.Bool.{Bool, true, false, cond}
 use mathlib.Core.List.{List, [], _∷_}
-use Prim.Native.Nat.{ℕ, suc, _+_, _-_, _≤_, _<_}
+use Prim.Native.Nat.{ℕ, suc, _+_, _-_, _≤_}
 use native.Mathlib.Omega.{arith}
 use lib.Dec.{ltb}
-use lib.ListN.{length, drop, getD, length-drop, drop-of-length-le}
-use lib.Seq.{drop-drop, getD-drop}
+use lib.ListN.{length, drop, drop-of-length-le}
 use borrow.Author.Tests.{ltb-true, ltb-false}
-use Rattle.numbers.specs.Numbers.{Answer, gives, refuses, andThen, isGiven}
-use Rattle.numbers.proofs.Firm.{never}
+use Rattle.numbers.specs.Numbers.{Answer, gives, refuses, isGiven}
 use Rattle.records.specs.declared.Record.{Record}
-use Rattle.framing.specs.Tlv.{TlvRead, readTlv}
-use Rattle.framing.proofs.Reading.{reads}
 use Rattle.kinds.specs.Kinds.{isKind, Typed}
 use Rattle.walking.specs.declared.Tlv.{Tlv}
-use Rattle.walking.specs.Walk.{Walk, step, walkFrom, walkOf, countOr, counted}
-use Rattle.walking.proofs.Walking.{at-end, turn}
+use Rattle.walking.specs.Walk.{Ahead, ended, passed, stepAt, Walk, walkBy, walkFrom, walkOf, counted}
+use Rattle.walking.proofs.Stepping.{passes, turn}
+use Rattle.walking.proofs.Listed as Counted
 use Rattle.finding.specs.Finding.{Hit, readsAs, thereOr, firstOf, findFrom, findInPayload}
 use Rattle.finding.proofs.Passing.{first-nil, first-cons, or-behind}
 
@@ -65,7 +62,7 @@ pub record Searching (code : ℕ) (p : List ℕ) (from at place : ℕ) : Type 0 
   pub few : place ≤ at
   pub most : ℕ
   pub enough : length p - at ≤ most
-  pub will : rest code p from place (walkFrom most (drop at p) at .tlvs) ≡ firstOf code p from (drop from (walkOf p .tlvs))
+  pub will : rest code p from place (walkFrom most p at .tlvs) ≡ firstOf code p from (drop from (walkOf p .tlvs))
 
 pub begins : (code : ℕ) (p : List ℕ) (from : ℕ) → Searching code p from 0 0
 unfolding walkOf
@@ -81,60 +78,38 @@ begins code p from =
     }
 
 module _ (code : ℕ) (p : List ℕ) (from at place : ℕ) (w : Searching code p from at place) where
-  pub ends : length p ≤ at → refuses 15 [] ≡ firstOf code p from (drop from (walkOf p .tlvs))
-  ends l =
-      let z : drop at p ≡ [] = drop-of-length-le p l in
-      let i : walkFrom (w .most) (drop at p) at ≡ record { tlvs = []; end = gives at } = rw z (at-end (w .most) at) in
-      sym (rest-nil code p from place) ∙ sym (ap (λ (v : Walk). rest code p from place (v .tlvs)) i) ∙ w .will
+  abbrev on : ℕ → Walk
+  on next = walkFrom (w .most - 1) p next
 
-  module _ (l : at < length p) where
-    abbrev on : ℕ → Walk
-    on n = walkFrom (w .most - 1) (drop n (drop at p)) (at + n)
+  by-step : (a : Answer Ahead) → a ≡ stepAt p at → rest code p from place (walkBy at a on .tlvs) ≡ firstOf code p from (drop from (walkOf p .tlvs))
+  by-step a e = ap (λ (x : Answer Ahead). rest code p from place (walkBy at x on .tlvs)) e ∙ sym (ap (λ (v : Walk). rest code p from place (v .tlvs)) (turn (w .most) p at (w .enough))) ∙ w .will
 
-    -- the turn at `at` is one step of the walk
-    stepped : walkFrom (w .most) (drop at p) at ≡ step at (readTlv (drop at p)) on
-    stepped = turn (w .most) (drop at p) at (omega (arith, length-drop at p)) (omega (arith, w .enough))
+  pub ends : gives ended ≡ stepAt p at → refuses 15 [] ≡ firstOf code p from (drop from (walkOf p .tlvs))
+  ends e = sym (rest-nil code p from place) ∙ by-step (gives ended) e
 
-    one : rest code p from place (step at (readTlv (drop at p)) on .tlvs) ≡ firstOf code p from (drop from (walkOf p .tlvs))
-    one = sym (ap (λ (v : Walk). rest code p from place (v .tlvs)) stepped) ∙ w .will
+  pub stops : (n : ℕ) (vs : List ℕ) → refuses n vs ≡ stepAt p at → refuses 15 [] ≡ firstOf code p from (drop from (walkOf p .tlvs))
+  stops n vs e = sym (rest-nil code p from place) ∙ by-step (refuses n vs) e
 
-    pub stops : (n : ℕ) (vs : List ℕ) → refuses n vs ≡ readTlv (drop at p) → refuses 15 [] ≡ firstOf code p from (drop from (walkOf p .tlvs))
-    stops n vs e = sym (rest-nil code p from place) ∙ (rw (← e) at one)
+  module _ (t : Tlv) (next : ℕ) (e : gives (passed t next) ≡ stepAt p at) (a : Answer Hit) (says : SaysFrom code p t place from a) where
+    abbrev behind : Answer Hit
+    behind = rest code p from (place + 1) (on next .tlvs)
 
-    module _ (t : TlvRead) (e : gives t ≡ readTlv (drop at p)) where
-      pub fits : (3 ≤ t .consumed) × (at + t .consumed ≤ length p)
-      fits = let r = reads (drop at p) t e in (omega (arith, r .all), omega (arith, r .inside, length-drop at p))
+    looked : cond (isGiven a) a behind ≡ firstOf code p from (drop from (walkOf p .tlvs))
+    looked = from-behind (ltb place from) (readsAs code p t) place t a says behind ∙ sym (rest-cons code p from place t (on next .tlvs)) ∙ by-step (gives (passed t next)) e
 
-      -- the record that the walk makes of it
-      abbrev here : Tlv
-      here = record { «tlv_type» = t .tlv-type; length = t .value-length; offset = at }
+    pub goes-on : isGiven a ≡ false → Searching code p from next (place + 1)
+    goes-on h =
+        let o = passes p at t next e in
+        record {
+          within = o .inside;
+          few = omega (arith, o .behind, w .few);
+          most = w .most - 1;
+          enough = omega (arith, o .behind, w .enough);
+          will = ap (λ (b : Bool). cond b a behind) (sym h) ∙ looked;
+        }
 
-      -- a length in two bytes
-      pub narrow : getD p (at + 1) 0 < 256 → getD p (at + 2) 0 < 256 → t .value-length < 65536
-      narrow h l = omega (arith, reads (drop at p) t e .long, getD-drop at p 1 0, getD-drop at p 2 0)
-
-      abbrev behind : Answer Hit
-      behind = rest code p from (place + 1) (walkFrom (w .most - 1) (drop (at + t .consumed) p) (at + t .consumed) .tlvs)
-
-      looked : (a : Answer Hit) → SaysFrom code p here place from a → cond (isGiven a) a behind ≡ firstOf code p from (drop from (walkOf p .tlvs))
-      looked a says =
-          from-behind (ltb place from) (readsAs code p here) place here a says behind
-          ∙ ap (λ (s : List ℕ). cond (ltb place from) (rest code p from (place + 1) (walkFrom (w .most - 1) s (at + t .consumed) .tlvs)) (thereOr (readsAs code p here) place here (rest code p from (place + 1) (walkFrom (w .most - 1) s (at + t .consumed) .tlvs)))) (sym (drop-drop (t .consumed) at p))
-          ∙ sym (rest-cons code p from place here (on (t .consumed) .tlvs))
-          ∙ ap (λ (x : Answer TlvRead). rest code p from place (step at x on .tlvs)) e
-          ∙ one
-
-      pub goes-on : (a : Answer Hit) → SaysFrom code p here place from a → isGiven a ≡ false → Searching code p from (at + t .consumed) (place + 1)
-      goes-on a says h = record {
-        within = fits .1;
-        few = omega (arith, fits .0, w .few);
-        most = w .most - 1;
-        enough = omega (arith, fits .0, w .enough);
-        will = ap (λ (b : Bool). cond b a behind) (sym h) ∙ looked a says;
-      }
-
-      pub found : (a : Answer Hit) → SaysFrom code p here place from a → isGiven a ≡ true → a ≡ firstOf code p from (drop from (walkOf p .tlvs))
-      found a says h = ap (λ (b : Bool). cond b a behind) (sym h) ∙ looked a says
+    pub found : isGiven a ≡ true → a ≡ firstOf code p from (drop from (walkOf p .tlvs))
+    found h = ap (λ (b : Bool). cond b a behind) (sym h) ∙ looked
 
 -- the whole answer: 16, then the walk's refusal, then what the search found
 module _ (code : ℕ) (p : List ℕ) (from : ℕ) where
@@ -142,18 +117,10 @@ module _ (code : ℕ) (p : List ℕ) (from : ℕ) where
   unfolding findInPayload
   no-kind e = rw e
 
-  end-refused : (end : Answer ℕ) (m n : ℕ) (vs : List ℕ) (x : Answer Hit) → refuses n vs ≡ countOr end (gives m) → refuses n vs ≡ andThen end (λ at. x)
-  end-refused (gives at) m n vs x e = never _ _ _ (sym e)
-  end-refused (refuses k us) m n vs x e = let i : n ≡ k = cc in let j : vs ≡ us = cc in rw (i, j)
-
   pub unwalked : isKind code ≡ true → (n : ℕ) (vs : List ℕ) → refuses n vs ≡ counted (walkOf p) → refuses n vs ≡ findInPayload code p from
   unfolding findInPayload
-  unwalked e n vs c = rw e (end-refused (walkOf p .end) (length (walkOf p .tlvs)) n vs _ c)
-
-  end-given : (end : Answer ℕ) (m n : ℕ) (x : Answer Hit) → gives n ≡ countOr end (gives m) → x ≡ andThen end (λ at. x)
-  end-given (gives at) m n x e = refl
-  end-given (refuses k us) m n x e = never _ _ _ e
+  unwalked e n vs c = rw e (Counted.stops (walkOf p .end) (length (walkOf p .tlvs)) n vs c _)
 
   pub walked : isKind code ≡ true → (n : ℕ) → gives n ≡ counted (walkOf p) → (a : Answer Hit) → a ≡ firstOf code p from (drop from (walkOf p .tlvs)) → a ≡ findInPayload code p from
   unfolding findInPayload findFrom
-  walked e n c a f = f ∙ rw e (end-given (walkOf p .end) (length (walkOf p .tlvs)) n (firstOf code p from (drop from (walkOf p .tlvs))) c)
+  walked e n c a f = f ∙ rw e (Counted.follows (walkOf p .end) (length (walkOf p .tlvs)) n c (firstOf code p from (drop from (walkOf p .tlvs))))

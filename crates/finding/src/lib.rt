@@ -1,8 +1,8 @@
 // Finding: the first readable record of a kind, in a lent list of TLV records or in a payload.
-use framing::Read;
 use kinds::KindRead;
 use numbers::Refusal;
 use records::Record;
+use walking::Stepped;
 use walking::Tlv;
 use walking::Walked;
 ghost use mathlib.Core.Path.{_≡_};
@@ -173,31 +173,24 @@ fn search(payload: &[u8], code: u8, from: usize) -> Found
 {
     let mut at = 0;
     let mut place = 0;
-    while at < payload.len() {
-        match framing::read_tlv(&payload[at..]) {
-            Read::Whole {
-                tlv_type,
-                length,
-                consumed,
-            } => {
-                let tlv = Tlv {
-                    tlv_type,
-                    length: length as u16,
-                    offset: at,
-                };
+    loop {
+        match walking::step(payload, at) {
+            Stepped::End => {
+                return Found::Refused(Refusal::NotFound);
+            }
+            Stepped::Tlv { tlv, next } => {
                 let found = look_from(tlv, payload, code, place, from);
                 if is_hit(found) {
                     return found;
                 }
-                at += consumed;
+                at = next;
                 place += 1;
             }
-            Read::Refused(_) => {
+            Stepped::Refused { refusal: _, at: _ } => {
                 return Found::Refused(Refusal::NotFound);
             }
         }
     }
-    Found::Refused(Refusal::NotFound)
 }
 
 // The same without a list: the first readable TLV of the kind in a payload, by its number among the payload's TLVs, from 0, at `from` or behind it.

@@ -7,9 +7,9 @@ use native.Mathlib.Numerals.{add-one}
 use lib.ListN.{length, getD, take, drop, set, length-set, take-append-drop}
 use lib.Seq.{take-suc, take-suc-set, drop-set-lt}
 use Rattle.walking.specs.declared.Tlv.{Tlv}
-use Rattle.walking.specs.Walk.{walkOf, noTlv}
-use Rattle.walking.specs.Steps.{recordAt, behind, IsNumber, Fillable}
-use Rattle.walking.proofs.Chained.{Inside, of-walk, first, inside, next}
+use Rattle.walking.specs.Walk.{stepAt, walkOf, noTlv}
+use Rattle.walking.specs.PrivateSteps.{tlvBy, nextTo, IsNumber, Fillable}
+use Rattle.walking.proofs.Chained.{of-walk, first, stands, next}
 
 module _ (p : List ℕ) where
   abbrev pub ts : List Tlv
@@ -18,20 +18,19 @@ module _ (p : List ℕ) where
   abbrev pub Is : ℕ → Tlv → Type 0
   Is = IsNumber p
 
-  pub is-first : (r : Tlv) → (0 + 3 ≤ length p → r ≡ recordAt p 0) → Is 0 r
-  is-first r said l =
-      let e = first p (of-walk p) l in
-      said (subst (λ (t : Tlv). t .offset + 3 ≤ length p) e (inside p (of-walk p) 0 l .head)) ∙ sym e
+  pub is-first : (r : Tlv) → r ≡ tlvBy (stepAt p 0) → Is 0 r
+  is-first r said l = said ∙ first p (of-walk p) l
 
   module _ (i : ℕ) (t : Tlv) (is : Is i t) (l : i < length ts) where
-    pub fits : behind t ≤ length p
-    fits = subst (λ (u : Tlv). behind u ≤ length p) (sym (is l)) (inside p (of-walk p) i l .all)
+    pub fits : nextTo t ≤ length p
+    fits = subst (λ (u : Tlv). nextTo u ≤ length p) (sym (is l)) (stands p (of-walk p) i l .inside)
 
-    pub is-next : (r : Tlv) → (behind t + 3 ≤ length p → r ≡ recordAt p (behind t)) → Is (i + 1) r
+    pub is-next : (r : Tlv) → r ≡ tlvBy (stepAt p (nextTo t)) → Is (i + 1) r
     is-next r said l′ =
-        let m : suc i < length ts = omega (arith, add-one i) in
-        let e : getD ts (i + 1) noTlv ≡ recordAt p (behind t) = ap (λ (n : ℕ). getD ts n noTlv) (add-one i) ∙ next p (of-walk p) i m ∙ ap (λ (u : Tlv). recordAt p (behind u)) (sym (is l)) in
-        said (subst (λ (u : Tlv). u .offset + 3 ≤ length p) e (inside p (of-walk p) (i + 1) l′ .head)) ∙ sym e
+        said
+        ∙ ap (λ (u : Tlv). tlvBy (stepAt p (nextTo u))) (is l)
+        ∙ next p (of-walk p) i (omega (arith, add-one i))
+        ∙ ap (λ (n : ℕ). getD ts n noTlv) (sym (add-one i))
 
   module _ (n : ℕ) (ys : List Tlv) where
     pub record Filled (i : ℕ) (t : Tlv) (zs : List Tlv) : Type 0 where
@@ -46,7 +45,7 @@ module _ (p : List ℕ) where
       begins = record { within = omega arith; long = refl; front = refl; back = refl; is = able .starts }
 
       module _ (i : ℕ) (t : Tlv) (zs : List Tlv) (f : Filled i t zs) where
-        pub goes-on : i < n → (r : Tlv) → (behind t + 3 ≤ length p → r ≡ recordAt p (behind t)) → Filled (i + 1) r (set zs i t)
+        pub goes-on : i < n → (r : Tlv) → r ≡ tlvBy (stepAt p (nextTo t)) → Filled (i + 1) r (set zs i t)
         goes-on l r said =
             let h : i < length zs = omega (arith, f .long, able .fits) in
             let k : i < length ts = omega (arith, able .few) in
@@ -58,7 +57,7 @@ module _ (p : List ℕ) where
               is = is-next i t (f .is) k r said;
             }
 
-        pub has-next : i < n → behind t ≤ length p
+        pub has-next : i < n → nextTo t ≤ length p
         has-next l = fits i t (f .is) (omega (arith, able .few))
 
         pub ends : n ≤ i → zs ≡ take n ts ++ drop n ys

@@ -4,5 +4,6 @@ pub mod Elem
 pub mod Filled
 pub mod Firm
 pub mod Listed
+pub mod Stepping
 pub mod Walking
 pub mod Written

@@ -8,68 +8,57 @@ use lib.Dec.{ltb}
 use lib.ListN.{length, take, drop}
 use lib.Seq.{take-length}
 use borrow.Author.Tests.{lt-ltb, le-ltb, ltb-false}
-use Rattle.numbers.specs.Numbers.{Answer, gives, refuses}
+use Rattle.numbers.specs.Numbers.{Answer, gives, refuses, andThen}
+use Rattle.numbers.proofs.Firm.{never}
+use Rattle.numbers.proofs.Answers.{given}
 use Rattle.walking.specs.declared.Tlv.{Tlv}
-use Rattle.walking.specs.Walk.{Walk, walkOf, countOr, counted, listed, filled, offsetAt}
-use Rattle.walking.specs.Steps.{fills, Plan, Fillable}
+use Rattle.walking.specs.Walk.{Walk, walkOf, counted, listed, filled, offsetAt}
+use Rattle.walking.specs.PrivateSteps.{fills, Plan, Fillable}
 
--- the walk's end, where TLVs were counted, and where it was refused
-end-given : (end count : Answer ℕ) (n : ℕ) → gives n ≡ countOr end (gives n) → countOr end count ≡ count
-end-given (gives at) count n e = refl
-end-given (refuses m vs) count n e = let z : _≡_ {A = ℕ} 0 1 = cc in absurd (omega arith)
+-- behind the end of a walk that was counted comes what follows; behind a refusal, nothing
+module _ {B : Type 0} where
+  pub follows : (end : Answer ℕ) (m n : ℕ) → gives n ≡ andThen end (λ _. gives m) → (x : Answer B) → x ≡ andThen end (λ _. x)
+  follows (gives at) m n e x = refl
+  follows (refuses k us) m n e x = never n k us e
 
-end-refused : (end count : Answer ℕ) (m n : ℕ) (vs : List ℕ) → refuses n vs ≡ countOr end (gives m) → refuses n vs ≡ countOr end count
-end-refused (gives at) count m n vs e = let z : _≡_ {A = ℕ} 0 1 = cc in absurd (omega arith)
-end-refused (refuses k us) count m n vs e = e
-
-by-end : (end : Answer ℕ) (m n : ℕ) → gives n ≡ countOr end (gives m) → n ≡ m
-by-end (gives at) m n e = cc
-by-end (refuses k us) m n e = let z : _≡_ {A = ℕ} 0 1 = cc in absurd (omega arith)
+  pub stops : (end : Answer ℕ) (m n : ℕ) (vs : List ℕ) → refuses n vs ≡ andThen end (λ _. gives m) → (x : Answer B) → refuses n vs ≡ andThen end (λ _. x)
+  stops (gives at) m n vs e x = never m n vs (sym e)
+  stops (refuses k us) m n vs e x = let i : n ≡ k = cc in let j : vs ≡ us = cc in rw (i, j)
 
 module _ (w : Walk) where
   pub refused : (room n : ℕ) (vs : List ℕ) → refuses n vs ≡ counted w → refuses n vs ≡ listed room w
-  refused room n vs e = end-refused (w .end) _ (length (w .tlvs)) n vs e
+  refused room n vs e = stops (w .end) (length (w .tlvs)) n vs e _
 
   module _ (n : ℕ) (e : gives n ≡ counted w) where
     pub is-count : n ≡ length (w .tlvs)
-    is-count = by-end (w .end) (length (w .tlvs)) n e
-
-    same : (count : Answer ℕ) → countOr (w .end) count ≡ count
-    same count = end-given (w .end) count n (e ∙ ap (λ (m : ℕ). countOr (w .end) (gives m)) (sym is-count))
+    is-count = given n (length (w .tlvs)) (e ∙ sym (follows (w .end) (length (w .tlvs)) n e (gives (length (w .tlvs)))))
 
     pub too-short : (room : ℕ) → room < n → refuses 14 (offsetAt (w .tlvs) room ∷ []) ≡ listed room w
-    too-short room l = let h : room < length (w .tlvs) = omega (arith, is-count) in rw (lt-ltb room (length (w .tlvs)) h) (sym (same _))
+    too-short room l = let h : room < length (w .tlvs) = omega (arith, is-count) in rw (lt-ltb room (length (w .tlvs)) h) (follows (w .end) (length (w .tlvs)) n e _)
 
     pub enough : (room : ℕ) → n ≤ room → gives n ≡ listed room w
-    enough room l = let h : length (w .tlvs) ≤ room = omega (arith, is-count) in rw (le-ltb room (length (w .tlvs)) h) (rw is-count (sym (same _)))
+    enough room l = let h : length (w .tlvs) ≤ room = omega (arith, is-count) in rw (le-ltb room (length (w .tlvs)) h) (rw is-count (follows (w .end) (length (w .tlvs)) n e _))
 
--- what a plan fills in has room and is there
-few : (end : Answer ℕ) (b : Bool) (vs : List ℕ) (n : ℕ) → fills (countOr end (cond b (refuses 14 vs) (gives n))) ≤ n
-few (gives at) true vs n = omega arith
-few (gives at) false vs n = omega arith
-few (refuses m us) b vs n = omega arith
+-- what an answer fills in is there and has room, and is what the list then holds
+record Fits (a : Answer ℕ) (ts : List Tlv) (room : ℕ) : Type 0 where
+  there : fills a ≤ length ts
+  room-for : fills a ≤ room
+  holds-all : (ys : List Tlv) → take (fills a) ts ++ drop (fills a) ys ≡ filled a ts ys
 
-has-room : (end : Answer ℕ) (b : Bool) (vs : List ℕ) (n room : ℕ) → (b ≡ false → n ≤ room) → fills (countOr end (cond b (refuses 14 vs) (gives n))) ≤ room
-has-room (gives at) true vs n room h = omega arith
-has-room (gives at) false vs n room h = h refl
-has-room (refuses m us) b vs n room h = omega arith
-
-whole : (end : Answer ℕ) (b : Bool) (vs : List ℕ) (ts ys : List Tlv)
-    → take (fills (countOr end (cond b (refuses 14 vs) (gives (length ts))))) ts ++ drop (fills (countOr end (cond b (refuses 14 vs) (gives (length ts))))) ys ≡ filled (countOr end (cond b (refuses 14 vs) (gives (length ts)))) ts ys
-whole (gives at) true vs ts ys = refl
-whole (gives at) false vs ts ys = rw take-length
-whole (refuses m us) b vs ts ys = refl
+by-case : (end : Answer ℕ) (b : Bool) (vs : List ℕ) (ts : List Tlv) (room : ℕ) → (b ≡ false → length ts ≤ room) → Fits (andThen end (λ _. cond b (refuses 14 vs) (gives (length ts)))) ts room
+by-case (gives at) true vs ts room h = record { there = omega arith; room-for = omega arith; holds-all = λ ys. refl }
+by-case (gives at) false vs ts room h = record { there = omega arith; room-for = h refl; holds-all = λ ys. rw take-length }
+by-case (refuses m us) b vs ts room h = record { there = omega arith; room-for = omega arith; holds-all = λ ys. refl }
 
 module _ (p : List ℕ) (room count : ℕ) (first : Tlv) (a : Answer ℕ) (plan : Plan p room count first a) where
   abbrev w : Walk
   w = walkOf p
 
+  fit : Fits (listed room w) (w .tlvs) room
+  fit = by-case (w .end) (ltb room (length (w .tlvs))) _ (w .tlvs) room (ltb-false room (length (w .tlvs)))
+
   pub able : Fillable p first count room
-  able = record {
-    fits = rw (plan .counts) (has-room (w .end) (ltb room (length (w .tlvs))) _ (length (w .tlvs)) room (ltb-false room (length (w .tlvs))));
-    few = rw (plan .counts) (few (w .end) (ltb room (length (w .tlvs))) _ (length (w .tlvs)));
-    starts = plan .starts;
-  }
+  able = record { fits = rw (plan .counts) (fit .room-for); few = rw (plan .counts) (fit .there); starts = plan .starts }
 
   pub holds : (ys : List Tlv) → take count (w .tlvs) ++ drop count ys ≡ filled (listed room w) (w .tlvs) ys
-  holds ys = rw (plan .counts) (whole (w .end) (ltb room (length (w .tlvs))) _ (w .tlvs) ys)
+  holds ys = rw (plan .counts) (fit .holds-all ys)

@@ -1,20 +1,18 @@
 -- The TLVs of a walk that succeeds, written one behind the other, are the payload, byte for byte.
 use mathlib.Core.Path.{_≡_, refl, sym, ap, _∙_, subst}
-use mathlib.Core.Bool.{Bool, true, false}
 use mathlib.Core.List.{List, [], _∷_, _++_}
 use Prim.Native.Nat.{ℕ, zero, suc, _+_, _-_, _<_, _≤_}
 use native.Mathlib.Omega.{arith}
-use lib.Dec.{ltb}
-use lib.ListN.{length, take, drop, getD, length-drop, drop-of-length-le, take-append-drop}
+use lib.ListN.{length, take, drop, drop-of-length-le, take-append-drop}
 use lib.Seq.{drop-drop, getD-drop}
-use borrow.Author.Tests.{ltb-true, ltb-false}
 use Rattle.numbers.specs.Numbers.{Answer, gives, refuses}
-use Rattle.framing.specs.Tlv.{TlvRead, readTlv, valueIn, tlvBytes}
-use Rattle.framing.proofs.Reading.{Reads, reads}
+use Rattle.numbers.proofs.Firm.{never}
+use Rattle.numbers.proofs.Answers.{given}
+use Rattle.framing.specs.Tlv.{readTlv, valueIn, tlvBytes}
 use Rattle.framing.proofs.RoundTrip.{Bytes, written-read}
 use Rattle.walking.specs.declared.Tlv.{Tlv}
-use Rattle.walking.specs.Walk.{Walk, step, walkFrom, walkOf, counted}
-use Rattle.walking.proofs.Walking.{at-end, turn}
+use Rattle.walking.specs.Walk.{Ahead, ended, passed, stepAt, Walk, walkBy, walkFrom, walkOf}
+use Rattle.walking.proofs.Stepping.{Passes, passes, ends}
 
 -- the TLV of a record, with its value from the payload, and TLVs one behind the other
 abbrev pub tlvOf : List ℕ → Tlv → List ℕ
@@ -29,36 +27,27 @@ module _ (p : List ℕ) (bytes : Bytes p) where
   abbrev Says : ℕ → Walk → Type 0
   Says at w = (end : ℕ) → w .end ≡ gives end → (written p (w .tlvs) ≡ drop at p) × (end ≡ length p)
 
-  on-answer : (at : ℕ) (on : ℕ → Walk) → ((n : ℕ) → 3 ≤ n → at + n ≤ length p → Says (at + n) (on n)) → (a : Answer TlvRead) → a ≡ readTlv (drop at p) → Says at (step at a on)
-  on-answer at on next (refuses n vs) e end is = let z : _≡_ {A = ℕ} 0 1 = cc in absurd (omega arith)
-  on-answer at on next (gives t) e end is =
-      let s : List ℕ = drop at p in
-      let r = reads s t e in
-      let n : ℕ = t .consumed in
-      let h = next n (omega (arith, r .all)) (omega (arith, r .inside, r .all, length-drop at p)) end is in
-      let v : valueIn (readTlv s) s ≡ take (t .value-length) (drop (at + 3) p) = rw (← e, drop-drop) in
-      let one : tlvBytes (t .tlv-type) (take (t .value-length) (drop (at + 3) p)) ≡ take n s = ap (tlvBytes (t .tlv-type)) (sym v) ∙ written-read s (λ i. subst (λ (b : ℕ). b < 256) (sym (getD-drop at p i 0)) (bytes (at + i))) t e in
-      (ap (λ (l : List ℕ). l ++ written p (on n .tlvs)) one ∙ ap (λ (l : List ℕ). take n s ++ l) (h .0 ∙ sym (drop-drop n at p)) ∙ take-append-drop n s, h .1)
+  at-last : (at : ℕ) → at ≤ length p → (end : ℕ) → length p ≤ at → gives at ≡ gives end → ([] ≡ drop at p) × (end ≡ length p)
+  at-last at h end l is = (sym (drop-of-length-le p l), omega (arith, given at end is))
 
-  says : (most at : ℕ) → at ≤ length p → length p - at ≤ most → Says at (walkFrom most (drop at p) at)
+  by-step : (at : ℕ) (on : ℕ → Walk) → at ≤ length p → (a : Answer Ahead) → a ≡ stepAt p at → ((t : Tlv) (next : ℕ) → Passes p at t next → Says next (on next)) → Says at (walkBy at a on)
+  by-step at on h (refuses n vs) e then end is = never _ _ _ (sym is)
+  by-step at on h (gives ended) e then end is = at-last at h end (ends p at e) is
+  by-step at on h (gives (passed t next)) e then end is =
+      let s : List ℕ = drop at p in
+      let n : ℕ = 3 + t .length in
+      let o = passes p at t next e in
+      let w = then t next o end is in
+      let f : t .offset + 3 ≡ at + 3 = rw (o .starts) in
+      let far : at + n ≡ next = omega (arith, o .behind) in
+      let v : take (t .length) (drop (t .offset + 3) p) ≡ valueIn (readTlv s) s = rw (← o .reads-as, f, drop-drop) in
+      let one : tlvOf p t ≡ take n s = ap (tlvBytes (t .«tlv_type»)) v ∙ written-read s (λ i. subst (λ (b : ℕ). b < 256) (sym (getD-drop at p i 0)) (bytes (at + i))) _ (o .reads-as) in
+      (ap (λ (l : List ℕ). l ++ written p (on next .tlvs)) one ∙ ap (λ (l : List ℕ). take n s ++ l) (w .0 ∙ ap (λ (m : ℕ). drop m p) (sym far) ∙ sym (drop-drop n at p)) ∙ take-append-drop n s, w .1)
+
+  says : (most at : ℕ) → at ≤ length p → length p - at ≤ most → Says at (walkFrom most p at)
   unfolding walkFrom
-  says zero at l m = λ end is.
-      let h : length p ≤ at = omega arith in
-      let z : drop at p ≡ [] = drop-of-length-le p h in
-      let i : _≡_ {A = ℕ} at end = cc in
-      (sym z, omega arith)
-  says (suc most) at l m = by-bytes (ltb at (length p)) refl (λ n k k′. subst (λ (s : List ℕ). Says (at + n) (walkFrom most s (at + n))) (sym (drop-drop n at p)) (says most (at + n) k′ (omega arith)))
-    where
-      by-bytes : (b : Bool) → ltb at (length p) ≡ b → ((n : ℕ) → 3 ≤ n → at + n ≤ length p → Says (at + n) (walkFrom most (drop n (drop at p)) (at + n))) → Says at (walkFrom (suc most) (drop at p) at)
-      by-bytes true e next =
-          let h = ltb-true at (length p) e in
-          let o : suc most - 1 ≡ most = omega arith in
-          let t = turn (suc most) (drop at p) at (omega (arith, length-drop at p)) (omega arith) in
-          subst (Says at) (sym t) (rw o (on-answer at (λ n. walkFrom most (drop n (drop at p)) (at + n)) next (readTlv (drop at p)) refl))
-      by-bytes false e next =
-          let h = ltb-false at (length p) e in
-          let z : drop at p ≡ [] = drop-of-length-le p h in
-          subst (Says at) (sym (ap (λ (s : List ℕ). walkFrom (suc most) s at) z ∙ at-end (suc most) at)) (λ end is. let i : _≡_ {A = ℕ} at end = cc in (sym z, omega arith))
+  says zero at h m = λ end is. at-last at h end (omega arith) is
+  says (suc most) at h m = by-step at (walkFrom most p) h (stepAt p at) refl (λ t next o. says most next (o .inside) (omega (arith, o .behind)))
 
   pub walk-written : (end : ℕ) → walkOf p .end ≡ gives end → (written p (walkOf p .tlvs) ≡ p) × (end ≡ length p)
   unfolding walkOf

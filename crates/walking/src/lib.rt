@@ -3,10 +3,10 @@ use framing::Read;
 use numbers::Refusal;
 ghost use mathlib.Core.Path.{_≡_};
 ghost use mathlib.Core.List.{_++_};
-ghost use Prim.Native.Nat.{_+_, _*_, _<_, _≤_};
+ghost use Prim.Native.Nat.{_<_, _≤_};
 ghost use lib.ListN.{length, take, drop};
-ghost use Rattle.walking.specs.Walk.{walkedOf, walkOf, counted, listed, filled, offsetAt};
-ghost use Rattle.walking.specs.Steps.{Plan, Fillable, recordAt, behind};
+ghost use Rattle.walking.specs.Walk.{steppedOf, stepAt, walkedOf, walkOf, counted, listed, filled, offsetAt};
+ghost use Rattle.walking.specs.PrivateSteps.{Plan, Fillable, tlvBy, nextTo};
 
 // A TLV of a payload, as a walk lists it: its type, the length of its value, and the offset of its type byte.
 #[repr(C)]
@@ -22,61 +22,84 @@ pub enum Walked {
     Refused { refusal: Refusal, at: usize },
 }
 
+// What a step of the walk finds: the payload's end, or a TLV and where the next step is taken, or the refusal with the offset of the TLV that failed.
+pub enum Stepped {
+    End,
+    Tlv { tlv: Tlv, next: usize },
+    Refused { refusal: Refusal, at: usize },
+}
+
+// One step of the walk, at the offset `at`. Whoever goes over a payload's TLVs goes by this step, from 0 on: where a walk ends is said here alone.
+pub fn step(payload: &[u8], at: usize) -> Stepped
+    ensures { λ r. ⌜ steppedOf r ≡ stepAt (now (payload .entry)) at ⌝ }
+{
+    if payload.len() <= at {
+        return Stepped::End;
+    }
+    match framing::read_tlv(&payload[at..]) {
+        Read::Whole {
+            tlv_type,
+            length,
+            consumed,
+        } => {
+            let tlv = Tlv {
+                tlv_type,
+                length: length as u16,
+                offset: at,
+            };
+            Stepped::Tlv {
+                tlv,
+                next: at + consumed,
+            }
+        }
+        Read::Refused(refusal) => Stepped::Refused { refusal, at },
+    }
+}
+
 // The TLVs of a payload, counted.
 pub fn walk(payload: &[u8]) -> Walked
     ensures { λ r. ⌜ walkedOf r ≡ counted (walkOf (now (payload .entry))) ⌝ }
 {
     let mut at = 0;
     let mut count = 0;
-    while at < payload.len() {
-        match framing::read_tlv(&payload[at..]) {
-            Read::Whole {
-                tlv_type: _,
-                length: _,
-                consumed,
-            } => {
-                at += consumed;
+    loop {
+        match step(payload, at) {
+            Stepped::End => {
+                return Walked::Count(count);
+            }
+            Stepped::Tlv { tlv: _, next } => {
+                at = next;
                 count += 1;
             }
-            Read::Refused(refusal) => {
+            Stepped::Refused { refusal, at } => {
                 return Walked::Refused { refusal, at };
             }
         }
     }
-    Walked::Count(count)
 }
 
-fn wide16(high: u8, low: u8) -> u16
-    ensures { λ r. ⌜ r ≡ high * 256 + low ⌝ }
+// The TLV that a step at `at` passes; where it passes none, one that is not to be used.
+fn tlv_at(payload: &[u8], at: usize) -> Tlv
+    ensures { λ r. ⌜ r ≡ tlvBy (stepAt (now (payload .entry)) at) ⌝ }
 {
-    (high as u16) * 256 + (low as u16)
-}
-
-// The record of the TLV whose type byte stands at `at`; where no header fits there, one that is not to be used.
-fn record_at(payload: &[u8], at: usize) -> Tlv
-    requires { ⌜ at ≤ length (now payload) ⌝ }
-    ensures { λ r. ⌜ (at + 3 ≤ length (now (payload .entry)) → r ≡ recordAt (now (payload .entry)) at) ⌝ }
-{
-    if payload.len() - at < 3 {
-        return Tlv {
-            tlv_type: 0,
-            length: 0,
-            offset: at,
-        };
-    }
-    Tlv {
-        tlv_type: payload[at],
-        length: wide16(payload[at + 1], payload[at + 2]),
-        offset: at,
+    let none = Tlv {
+        tlv_type: 0,
+        length: 0,
+        offset: 0,
+    };
+    match step(payload, at) {
+        Stepped::End => none,
+        Stepped::Tlv { tlv, next: _ } => tlv,
+        Stepped::Refused { refusal: _, at: _ } => none,
     }
 }
 
-// The record of the TLV behind t.
+// The TLV behind t.
 fn next_of(t: Tlv, payload: &[u8]) -> Tlv
-    requires { ⌜ behind t ≤ length (now payload) ⌝ }
-    ensures { λ r. ⌜ (behind t + 3 ≤ length (now (payload .entry)) → r ≡ recordAt (now (payload .entry)) (behind t)) ⌝ }
+    requires { ⌜ nextTo t ≤ length (now payload) ⌝ }
+    ensures { λ r. ⌜ r ≡ tlvBy (stepAt (now (payload .entry)) (nextTo t)) ⌝ }
 {
-    record_at(payload, t.offset + 3 + (t.length as usize))
+    tlv_at(payload, t.offset + 3 + (t.length as usize))
 }
 
 // The offset of TLV number k, from 0, of those that a walk reads.
@@ -84,7 +107,7 @@ fn offset_of(payload: &[u8], k: usize) -> usize
     requires { ⌜ k < length (walkOf (now payload) .tlvs) ⌝ }
     ensures { λ r. ⌜ r ≡ offsetAt (walkOf (now (payload .entry)) .tlvs) k ⌝ }
 {
-    let mut t = record_at(payload, 0);
+    let mut t = tlv_at(payload, 0);
     let mut i = 0;
     while i < k {
         t = next_of(t, payload);
@@ -103,7 +126,7 @@ struct Planned {
 fn plan(payload: &[u8], room: usize) -> Planned
     ensures { λ r. ⌜ Plan (now (payload .entry)) room (r .count) (r .first) (walkedOf (r .answer)) ⌝ }
 {
-    let first = record_at(payload, 0);
+    let first = tlv_at(payload, 0);
     match walk(payload) {
         Walked::Count(count) => {
             if room < count {

@@ -1,12 +1,12 @@
 -- `search` meets its contract: what the loop keeps is `Searching`, and what is left of the payload falls.
 use mathlib.Core.Path.{sym, _∙_, ap}
-use Prim.Native.Nat.{_+_, _-_}
+use Prim.Native.Nat.{_-_}
 use native.Mathlib.Omega.{arith}
 use borrow.Author.Needs.{needs}
 use lib.ListN.{length}
-use Rattle.framing.specs.Tlv.{readOf, readTlv}
-use Rattle.walking.proofs.Walking.{whole-rest}
-use Rattle.finding.proofs.Searching.{Searching, begins, ends, stops, fits, narrow, goes-on, found}
+use Rattle.walking.specs.Walk.{steppedOf}
+use Rattle.walking.proofs.Stepping.{passes}
+use Rattle.finding.proofs.Searching.{Searching, begins, ends, stops, goes-on, found}
 use Rattle.finding.proofs.search.Statement.{statement}
 use Rattle.finding.proofs.search.Tie as tie
 
@@ -19,23 +19,17 @@ abbrev μ-loop : tie.MeasureT-loop
 loop-holds : tie.Need-loop-holds Inv-loop μ-loop
 loop-holds c = begins _ _ _
 
-sub-read-tlv : tie.Need-sub-read-tlv Inv-loop μ-loop
-sub-read-tlv c = search needs
+step-requires : tie.Need-step-requires Inv-loop μ-loop
+step-requires c κs = search needs
 
-part-read-tlv-start : tie.Need-part-read-tlv-start Inv-loop μ-loop
-part-read-tlv-start c = search needs
+enum-told : tie.Need-enum-told Inv-loop μ-loop
+enum-told c = search needs
 
-part-read-tlv-end : tie.Need-part-read-tlv-end Inv-loop μ-loop
-part-read-tlv-end c = search needs
+returns : tie.Need-returns Inv-loop μ-loop
+returns c = ends _ _ _ _ _ (c .before .before .before .loop .inv) (ap steppedOf (sym (c .enum-told .given .1)) ∙ c .before .before .step .ensures)
 
-read-tlv-requires : tie.Need-read-tlv-requires Inv-loop μ-loop
-read-tlv-requires c κs = search needs
-
-enum-known-tlv-type : tie.Need-enum-known-tlv-type Inv-loop μ-loop
-enum-known-tlv-type c = search needs
-
-cast-t17 : tie.Need-cast-t17 Inv-loop μ-loop
-cast-t17 c = record { fits = narrow _ _ _ _ _ (c .before .before .before .before .before .before .loop .inv) (search needs) _ (ap readOf (sym (c .before .tlv-type .given .1)) ∙ c .before .before .before .read-tlv .ensures ∙ ap readTlv (whole-rest (c .before .before .before .before .before .before .before .before .args .payload .now) (c .before .before .before .before .before .before .loop .at))) (c .before .before .before .before .before .before .before .shared-slice-known .given (c .before .before .before .before .before .before .loop .at + 1) .fits) (c .before .before .before .before .before .before .before .shared-slice-known .given (c .before .before .before .before .before .before .loop .at + 2) .fits) }
+enum-known-tlv : tie.Need-enum-known-tlv Inv-loop μ-loop
+enum-known-tlv c = search needs
 
 look-from-requires : tie.Need-look-from-requires Inv-loop μ-loop
 look-from-requires c κs = search needs
@@ -43,29 +37,27 @@ look-from-requires c κs = search needs
 is-hit-requires : tie.Need-is-hit-requires Inv-loop μ-loop
 is-hit-requires c κs = search needs
 
-returns : tie.Need-returns Inv-loop μ-loop
-returns c = found _ _ _ _ _ (c .before .before .before .before .before .before .before .before .before .loop .inv) (search needs) _ (ap readOf (sym (c .before .before .before .before .tlv-type .given .1)) ∙ c .before .before .before .before .before .before .read-tlv .ensures ∙ ap readTlv (whole-rest (c .before .before .before .before .before .before .before .before .before .before .before .args .payload .now) (c .before .before .before .before .before .before .before .before .before .loop .at))) _ (c .before .before .look-from .ensures) (sym (c .before .is-hit .ensures) ∙ c .if1 .taken)
-
-add-at : tie.Need-add-at Inv-loop μ-loop
-add-at c = let u = fits _ _ _ _ _ (c .before .before .before .before .before .before .before .before .before .loop .inv) (search needs) _ (ap readOf (sym (c .before .before .before .before .tlv-type .given .1)) ∙ c .before .before .before .before .before .before .read-tlv .ensures ∙ ap readTlv (whole-rest (c .before .before .before .before .before .before .before .before .before .before .before .args .payload .now) (c .before .before .before .before .before .before .before .before .before .loop .at))) in omega (arith, u .0, u .1)
+returns-2 : tie.Need-returns-2 Inv-loop μ-loop
+returns-2 c = found _ _ _ _ _ (c .before .before .before .before .before .before .before .loop .inv) _ _ (ap steppedOf (sym (c .before .before .before .before .tlv .given .1)) ∙ c .before .before .before .before .before .before .step .ensures) _ (c .before .before .look-from .ensures) (sym (c .before .is-hit .ensures) ∙ c .if1 .taken)
 
 add-place : tie.Need-add-place Inv-loop μ-loop
-add-place c = let u = fits _ _ _ _ _ (c .before .before .before .before .before .before .before .before .before .loop .inv) (search needs) _ (ap readOf (sym (c .before .before .before .before .tlv-type .given .1)) ∙ c .before .before .before .before .before .before .read-tlv .ensures ∙ ap readTlv (whole-rest (c .before .before .before .before .before .before .before .before .before .before .before .args .payload .now) (c .before .before .before .before .before .before .before .before .before .loop .at))) in omega (arith, u .0, u .1, (c .before .before .before .before .before .before .before .before .before .loop .inv) .few)
+add-place c =
+    let o = passes _ _ _ _ (ap steppedOf (sym (c .before .before .before .before .tlv .given .1)) ∙ c .before .before .before .before .before .before .step .ensures) in
+    omega (arith, o .behind, o .inside, c .before .before .before .before .before .before .before .loop .inv .few)
 
 loop-less : tie.Need-loop-less Inv-loop μ-loop
-loop-less c = let u = fits _ _ _ _ _ (c .before .before .before .before .before .before .before .before .before .loop .inv) (search needs) _ (ap readOf (sym (c .before .before .before .before .tlv-type .given .1)) ∙ c .before .before .before .before .before .before .read-tlv .ensures ∙ ap readTlv (whole-rest (c .before .before .before .before .before .before .before .before .before .before .before .args .payload .now) (c .before .before .before .before .before .before .before .before .before .loop .at))) in omega (arith, u .0, u .1)
+loop-less c =
+    let o = passes _ _ _ _ (ap steppedOf (sym (c .before .before .before .before .tlv .given .1)) ∙ c .before .before .before .before .before .before .step .ensures) in
+    omega (arith, o .behind, o .inside)
 
 loop-again : tie.Need-loop-again Inv-loop μ-loop
-loop-again c = goes-on _ _ _ _ _ (c .before .before .before .before .before .before .before .before .before .loop .inv) (search needs) _ (ap readOf (sym (c .before .before .before .before .tlv-type .given .1)) ∙ c .before .before .before .before .before .before .read-tlv .ensures ∙ ap readTlv (whole-rest (c .before .before .before .before .before .before .before .before .before .before .before .args .payload .now) (c .before .before .before .before .before .before .before .before .before .loop .at))) _ (c .before .before .look-from .ensures) (sym (c .before .is-hit .ensures) ∙ c .if1 .left)
+loop-again c = goes-on _ _ _ _ _ (c .before .before .before .before .before .before .before .loop .inv) _ _ (ap steppedOf (sym (c .before .before .before .before .tlv .given .1)) ∙ c .before .before .before .before .before .before .step .ensures) _ (c .before .before .look-from .ensures) (sym (c .before .is-hit .ensures) ∙ c .if1 .left)
 
-enum-told : tie.Need-enum-told Inv-loop μ-loop
-enum-told c = search needs
-
-returns-2 : tie.Need-returns-2 Inv-loop μ-loop
-returns-2 c = stops _ _ _ _ _ (c .before .before .before .before .before .loop .inv) (search needs) _ _ (ap readOf (sym (c .enum-told .given .1)) ∙ c .before .before .read-tlv .ensures ∙ ap readTlv (whole-rest (c .before .before .before .before .before .before .before .args .payload .now) (c .before .before .before .before .before .loop .at)))
+enum-told-2 : tie.Need-enum-told-2 Inv-loop μ-loop
+enum-told-2 c = search needs
 
 returns-3 : tie.Need-returns-3 Inv-loop μ-loop
-returns-3 c = ends _ _ _ _ _ (c .before .loop .inv) (search needs)
+returns-3 c = stops _ _ _ _ _ (c .before .before .before .loop .inv) _ _ (ap steppedOf (sym (c .enum-told2 .given .1)) ∙ c .before .before .step .ensures)
 
 pub search-spec : {M : Type 1} → statement M
 search-spec =
@@ -74,19 +66,15 @@ search-spec =
     Inv-loop
     μ-loop
     loop-holds
-    sub-read-tlv
-    part-read-tlv-start
-    part-read-tlv-end
-    read-tlv-requires
-    enum-known-tlv-type
-    cast-t17
+    step-requires
+    enum-told
+    returns
+    enum-known-tlv
     look-from-requires
     is-hit-requires
-    returns
-    add-at
+    returns-2
     add-place
     loop-less
     loop-again
-    enum-told
-    returns-2
+    enum-told-2
     returns-3)

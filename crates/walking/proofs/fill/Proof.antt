@@ -52,8 +52,8 @@ use Rattle.walking.proofs.Tlv as T
 use Rattle.walking.proofs.Tlv.Laws as T′
 use Rattle.walking.proofs.Elem.{R, mach, vals, tells, makes, scaled}
 use Rattle.walking.proofs.Body.{tyOf, after}
-use Rattle.walking.specs.Walk.{walkOf as payloadWalk}
-use Rattle.walking.specs.Steps.{recordAt, behind, Fillable}
+use Rattle.walking.specs.Walk.{stepAt, walkOf as payloadWalk}
+use Rattle.walking.specs.PrivateSteps.{tlvBy, nextTo, Fillable}
 use Rattle.walking.proofs.Filled.{Filled, begins, goes-on, has-next, ends}
 use Rattle.walking.proofs.next_of as next
 use Rattle.walking.proofs.next_of.Symbol as next-def
@@ -132,14 +132,14 @@ module _ {M : Type 1} (𝓤 : URA M) (H : Heap 𝓤) (A : Atoms 𝓤) (W : Given
     abbrev given-to : Next 𝓤 H A mem run .Ghost
     given-to = (((κ′, tt), (q′, tt), tt, (t, (pay, tt)), passed), tt)
 
-    asked : behind t ≤ length (now pay) → Is R t (mach t ∷ []) → ent 𝓤 (⋆ 𝓤 H A (‵ (flft κ′ q′) ∷ ‵ Pay ∷ [])) (Next 𝓤 H A mem run .pre given-to)
+    asked : nextTo t ≤ length (now pay) → Is R t (mach t ∷ []) → ent 𝓤 (⋆ 𝓤 H A (‵ (flft κ′ q′) ∷ ‵ Pay ∷ [])) (Next 𝓤 H A mem run .pre given-to)
     asked inside gt =
         qed W (‵ (flft κ′ q′) ∷ ‵ Pay ∷ []) ∵ says ! inside $ nothing ! $ move ! (1 ∷ 0 ∷ []) $ join ! $ frame ! $
         nothing ! $ move ! (1 ∷ 0 ∷ []) $ fjoin ! $ owned ! R (Is R) (makes 𝓤 H A) t _ gt $ fjoin ! $ done !
 
     -- of the callee's `ensured`, the clause alone
     abbrev Next-is : Tlv → Type 0
-    Next-is r = behind t + 3 ≤ length (now pay) → r ≡ recordAt (now pay) (behind t)
+    Next-is r = r ≡ tlvBy (stepAt (now pay) (nextTo t))
 
     said : (r : Tlv) → ent 𝓤 (ensured 𝓤 H A next.ended (next.clauses 𝓤 H A mem run) (κ′, tt) (t, (pay, tt)) tt r) (fact 𝓤 (Next-is r))
     said r = exE 𝓤 _ (λ ws. snd∗ 𝓤 (sem 𝓤 H A (lasts next.ended (κ′, tt) (t, (pay, tt)) ws)) (fact 𝓤 (Next-is r)))

@@ -16,11 +16,11 @@ Inv-loop payload k t₀ i₀ t i = (i ≤ k) × (k < length (walkOf payload .tlv
 abbrev μ-loop : tie.MeasureT-loop
 μ-loop payload k t₀ i₀ t i = k - i
 
-record-at-requires : tie.Need-record-at-requires Inv-loop μ-loop
-record-at-requires c κs = search needs
+tlv-at-requires : tie.Need-tlv-at-requires Inv-loop μ-loop
+tlv-at-requires c κs = search needs
 
 loop-holds : tie.Need-loop-holds Inv-loop μ-loop
-loop-holds c = (omega arith, c .before .before .pre, is-first _ _ (c .record-at .ensures))
+loop-holds c = (omega arith, c .before .before .pre, is-first _ _ (c .tlv-at .ensures))
 
 next-of-requires : tie.Need-next-of-requires Inv-loop μ-loop
 next-of-requires c κs = fits _ _ _ (c .before .loop .inv .2) (omega arith)
@@ -46,7 +46,7 @@ offset-of-spec =
     (tie.spec
     Inv-loop
     μ-loop
-    record-at-requires
+    tlv-at-requires
     loop-holds
     next-of-requires
     add-i

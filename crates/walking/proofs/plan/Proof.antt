@@ -2,15 +2,15 @@
 use mathlib.Core.Path.{sym, _∙_, ap}
 use native.Mathlib.Omega.{arith}
 use Rattle.walking.specs.Walk.{walkedOf, walkOf}
-use Rattle.walking.specs.Steps.{fills}
+use Rattle.walking.specs.PrivateSteps.{fills}
 use Rattle.walking.proofs.Filled.{is-first}
 use Rattle.walking.proofs.Listed.{refused, is-count, too-short, enough}
 use borrow.Author.Needs.{needs}
 use Rattle.walking.proofs.plan.Statement.{statement}
 use Rattle.walking.proofs.plan.Tie as tie
 
-record-at-requires : tie.Need-record-at-requires
-record-at-requires c κs = search needs
+tlv-at-requires : tie.Need-tlv-at-requires
+tlv-at-requires c κs = search needs
 
 walk-requires : tie.Need-walk-requires
 walk-requires c κs = search needs
@@ -27,7 +27,7 @@ returns c =
     record {
       answered = rw (c .offset-of .ensures) e;
       counts = ap fills e;
-      starts = is-first _ _ (c .before .before .before .before .before .before .record-at .ensures);
+      starts = is-first _ _ (c .before .before .before .before .before .before .tlv-at .ensures);
     }
 
 enum-known-refusal : tie.Need-enum-known-refusal
@@ -36,18 +36,18 @@ enum-known-refusal c = search needs
 returns-2 : tie.Need-returns-2
 returns-2 c =
     let e = enough (walkOf (c .before .before .before .before .before .before .before .args .payload .now)) _ (ap walkedOf (sym (c .before .before .count .given .1)) ∙ c .before .before .before .before .walk .ensures) _ (c .if1 .left) in
-    record { answered = e; counts = ap fills e; starts = is-first _ _ (c .before .before .before .before .before .record-at .ensures) }
+    record { answered = e; counts = ap fills e; starts = is-first _ _ (c .before .before .before .before .before .tlv-at .ensures) }
 
 returns-3 : tie.Need-returns-3
 returns-3 c =
     let e = refused (walkOf (c .before .before .before .before .before .before .args .payload .now)) _ _ _ (ap walkedOf (sym (c .before .refusal .given .1)) ∙ c .before .before .before .walk .ensures) in
-    record { answered = e; counts = ap fills e; starts = is-first _ _ (c .before .before .before .before .record-at .ensures) }
+    record { answered = e; counts = ap fills e; starts = is-first _ _ (c .before .before .before .before .tlv-at .ensures) }
 
 pub plan-spec : {M : Type 1} → statement M
 plan-spec =
     tie.close
     (tie.spec
-    record-at-requires
+    tlv-at-requires
     walk-requires
     enum-known-count
     offset-of-requires

@@ -1,4 +1,4 @@
--- `walking::walk` meets its contract: a walk of its MIR, by hand: a call of `plan` on plain parameters, and one of `fill`, to which the list is passed on for good.
+-- `walking::walk_into` meets its contract: a walk of its MIR, by hand: a call of `plan` on plain parameters, and one of `fill`, to which the list is passed on for good.
 -- Assumes nothing.
 use mathlib.Core.Path.{_≡_, refl, sym, _∙_, ap, subst}
 use Prim.Native.Nat.{ℕ, _+_, _-_, _*_, _<_, _≤_, _^_}
@@ -45,7 +45,7 @@ use Rattle.walking.proofs.Tlv.Laws as T′
 use Rattle.walking.proofs.Elem.{R, mach, vals, tells, makes}
 use Rattle.walking.proofs.Body.{tyOf}
 use Rattle.walking.specs.Walk.{walkOf as payloadWalk, walkedOf}
-use Rattle.walking.specs.Steps.{Plan, Fillable}
+use Rattle.walking.specs.PrivateSteps.{Plan, Fillable}
 use Rattle.walking.specs.declared.Planned.{Planned}
 use Rattle.walking.proofs.Listed.{able, holds}
 use Rattle.walking.proofs.Planned as P

@@ -1,18 +1,20 @@
 -- What the walk's own private steps promise each other. No contract of a public call cites these.
 use mathlib.Core.Path.{_≡_}
 use mathlib.Core.List.{List}
-use Prim.Native.Nat.{ℕ, _+_, _*_, _<_, _≤_}
+use Prim.Native.Nat.{ℕ, _+_, _<_, _≤_}
 use lib.ListN.{length, getD}
 use Rattle.numbers.specs.Numbers.{Answer, gives, refuses}
 use Rattle.walking.specs.declared.Tlv.{Tlv}
-use Rattle.walking.specs.Walk.{walkOf, listed, noTlv}
+use Rattle.walking.specs.Walk.{Ahead, ended, passed, stepAt, walkOf, listed, noTlv}
 
--- the record of a TLV whose type byte stands at `at`, and where the one behind it stands
-abbrev pub recordAt : List ℕ → ℕ → Tlv
-recordAt p at = record { «tlv_type» = getD p at 0; length = getD p (at + 1) 0 * 256 + getD p (at + 2) 0; offset = at }
+-- the TLV of a step, if it passes one, and where the next one stands
+abbrev pub tlvBy : Answer Ahead → Tlv
+tlvBy (gives (passed t next)) = t
+tlvBy (gives ended) = noTlv
+tlvBy (refuses n vs) = noTlv
 
-abbrev pub behind : Tlv → ℕ
-behind t = t .offset + 3 + t .length
+abbrev pub nextTo : Tlv → ℕ
+nextTo t = t .offset + 3 + t .length
 
 -- t is record number i of the walk, where it has so many
 abbrev pub IsNumber : List ℕ → ℕ → Tlv → Type 0

@@ -1,0 +1,67 @@
+-- `step` meets its contract: the end, or what reads in the part from `at` on.
+use mathlib.Core.Path.{sym, _∙_, ap}
+use Prim.Native.Nat.{_+_}
+use native.Mathlib.Omega.{arith}
+use borrow.Author.Needs.{needs}
+use Rattle.framing.specs.Tlv.{readOf, readTlv}
+use Rattle.walking.proofs.Stepping.{whole-rest, at-end, by-reading, fits, narrow}
+use Rattle.walking.proofs.step.Statement.{statement}
+use Rattle.walking.proofs.step.Tie as tie
+
+returns : tie.Need-returns
+returns c = at-end _ _ (search needs)
+
+sub-read-tlv : tie.Need-sub-read-tlv
+sub-read-tlv c = search needs
+
+part-read-tlv-start : tie.Need-part-read-tlv-start
+part-read-tlv-start c = search needs
+
+part-read-tlv-end : tie.Need-part-read-tlv-end
+part-read-tlv-end c = search needs
+
+read-tlv-requires : tie.Need-read-tlv-requires
+read-tlv-requires c κs = search needs
+
+enum-known-tlv-type : tie.Need-enum-known-tlv-type
+enum-known-tlv-type c = search needs
+
+cast-t15 : tie.Need-cast-t15
+cast-t15 c =
+    let b = c .before .before .before .before .before .before in
+    let a = b .before .args in
+    record { fits = narrow (a .payload .now) (a .at) _ (ap readOf (sym (c .before .tlv-type .given .1)) ∙ c .before .before .before .read-tlv .ensures ∙ ap readTlv (whole-rest (a .payload .now) (a .at))) (b .shared-slice-known .given (a .at + 1) .fits) (b .shared-slice-known .given (a .at + 2) .fits) }
+
+add-t16 : tie.Need-add-t16
+add-t16 c =
+    let a = c .before .before .before .before .before .before .before .args in
+    omega (arith, fits (a .payload .now) (a .at) _ (ap readOf (sym (c .before .tlv-type .given .1)) ∙ c .before .before .before .read-tlv .ensures ∙ ap readTlv (whole-rest (a .payload .now) (a .at))) (search needs))
+
+enum-known-refusal : tie.Need-enum-known-refusal
+enum-known-refusal c = search needs
+
+returns-2 : tie.Need-returns-2
+returns-2 c =
+    let a = c .before .before .before .before .before .before .before .args in
+    by-reading (a .payload .now) (a .at) (search needs) _ (ap readOf (sym (c .before .tlv-type .given .1)) ∙ c .before .before .before .read-tlv .ensures ∙ ap readTlv (whole-rest (a .payload .now) (a .at)))
+
+returns-3 : tie.Need-returns-3
+returns-3 c =
+    let a = c .before .before .before .before .before .before .before .args in
+    by-reading (a .payload .now) (a .at) (search needs) _ (ap readOf (sym (c .before .refusal .given .1)) ∙ c .before .before .before .read-tlv .ensures ∙ ap readTlv (whole-rest (a .payload .now) (a .at)))
+
+pub step-spec : {M : Type 1} → statement M
+step-spec =
+    tie.close
+    (tie.spec
+    returns
+    sub-read-tlv
+    part-read-tlv-start
+    part-read-tlv-end
+    read-tlv-requires
+    enum-known-tlv-type
+    cast-t15
+    add-t16
+    enum-known-refusal
+    returns-2
+    returns-3)

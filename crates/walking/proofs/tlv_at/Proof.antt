@@ -1,0 +1,31 @@
+-- `tlv_at` meets its contract: a case for each that a step can find.
+use mathlib.Core.Path.{sym, _∙_, ap}
+use borrow.Author.Needs.{needs}
+use Rattle.walking.specs.Walk.{steppedOf}
+use Rattle.walking.specs.PrivateSteps.{tlvBy}
+use Rattle.walking.proofs.tlv_at.Statement.{statement}
+use Rattle.walking.proofs.tlv_at.Tie as tie
+
+step-requires : tie.Need-step-requires
+step-requires c κs = search needs
+
+enum-told : tie.Need-enum-told
+enum-told c = search needs
+
+enum-known-tlv : tie.Need-enum-known-tlv
+enum-known-tlv c = search needs
+
+enum-told-2 : tie.Need-enum-told-2
+enum-told-2 c = search needs
+
+returns : tie.Need-returns
+returns c = ap tlvBy (ap steppedOf (sym (c .enum-told .given .1)) ∙ c .before .before .step .ensures)
+
+returns-2 : tie.Need-returns-2
+returns-2 c = ap tlvBy (ap steppedOf (sym (c .before .tlv .given .1)) ∙ c .before .before .before .step .ensures)
+
+returns-3 : tie.Need-returns-3
+returns-3 c = ap tlvBy (ap steppedOf (sym (c .enum-told2 .given .1)) ∙ c .before .before .step .ensures)
+
+pub tlv-at-spec : {M : Type 1} → statement M
+tlv-at-spec = tie.close (tie.spec step-requires enum-told enum-known-tlv enum-told-2 returns returns-2 returns-3)
