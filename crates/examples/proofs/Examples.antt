@@ -2,7 +2,7 @@
 use mathlib.Core.Path.{refl}
 use Rattle.framing.specs.Tlv.{readTlv}
 use Rattle.walking.specs.Walk.{walkOf, walkFrom}
-use Rattle.records.specs.Reading.{readKind as readRecordKindAs, readRecord}
+use Rattle.records.specs.Reading.{empty, fixed, readRecord}
 use Rattle.layouts.specs.Layouts.{layoutOf, isList}
 use Rattle.layouts.specs.Reading.{countAt, listOf, entriesEnd, endOf, readAs, readValue}
 use Rattle.layouts.specs.Access.{childAt, findEntry, spanOf, ofValue, locateEntry}
@@ -11,7 +11,7 @@ use Rattle.orders.proofs.Examples.{stays-at-2999, goes-at-3000, zero-then-last-
 use Rattle.examples.specs.Examples.{Examples}
 
 pub examples : Examples
-unfolding readTlv walkOf walkFrom readRecordKindAs readRecord layoutOf isList countAt listOf entriesEnd endOf readAs readValue childAt findEntry spanOf ofValue locateEntry readKind locateKind
+unfolding readTlv walkOf walkFrom empty fixed readRecord layoutOf isList countAt listOf entriesEnd endOf readAs readValue childAt findEntry spanOf ofValue locateEntry readKind locateKind
 examples = record {
   empty = refl;
   two-bytes = refl;

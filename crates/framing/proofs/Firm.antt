@@ -22,7 +22,7 @@ read-one (Read.Whole t n c) (Read.Refused r) e = never _ _ _ e
 read-one (Read.Refused r) (Read.Whole t n c) e = never _ _ _ (sym e)
 read-one (Read.Refused r) (Read.Refused r′) e = ap Read.Refused (firm TlvRead r r′ e)
 
-written-one : (a b : Written) → writtenOf a ≡ writtenOf b → a ≡ b
+pub written-one : (a b : Written) → writtenOf a ≡ writtenOf b → a ≡ b
 written-one (Written.Bytes n) (Written.Bytes n′) e = ap Written.Bytes (cc)
 written-one (Written.Bytes n) (Written.Refused r) e = never _ _ _ e
 written-one (Written.Refused r) (Written.Bytes n) e = never _ _ _ (sym e)

@@ -6,16 +6,13 @@ use Prim.Native.Nat.{ℕ, _+_, _-_, _≤_}
 use native.Mathlib.Omega.{arith}
 use lib.ListN.{length, take}
 use lib.Seq.{length-take-le}
-use Rattle.numbers.specs.Numbers.{Answer, gives, refuses, andThen, mapped, isGiven}
+use Rattle.numbers.specs.Numbers.{Answer, gives, refuses, andThen, mapped}
 use Rattle.numbers.proofs.Firm.{never}
 use Rattle.numbers.proofs.Answers.{given}
 use Rattle.framing.specs.Tlv.{writeSize, tlvBytes, leaves}
 use Rattle.records.specs.declared.Record.{Record}
-use Rattle.records.specs.declared.Kind.{Kind}
-use Rattle.records.specs.Kinds.{kinds}
-use Rattle.records.specs.Reading.{Reading, withCode, readRecord, sizeOf}
-use Rattle.records.proofs.Ways.{by-code}
-use Rattle.records.proofs.Given.{consumed-within as record-within}
+use Rattle.records.specs.Reading.{Reading, isRecord, readRecord}
+use Rattle.records.proofs.Given.{isKnown, known, consumed-within as record-within}
 use Rattle.layouts.specs.Layouts.{isList}
 use Rattle.layouts.specs.Reading.{Consumed, readValue}
 use Rattle.layouts.specs.Access.{Span, locateEntry, countEntries, partOf}
@@ -28,17 +25,17 @@ pub record Measures (code : ℕ) (s : List ℕ) (n : ℕ) : Type 0 where
   pub inside : n ≤ length s
   pub is : gives (record { held = one tt; consumed = n; rest = length s - n }) ≡ mapped withoutRecord (mapped (oneRecord (length s)) (readRecord code s))
 
-pub measured : (code : ℕ) (s : List ℕ) (n : ℕ) → gives n ≡ sizeOf (readRecord code s) → Measures code s n
+pub measured : (code : ℕ) (s : List ℕ) (n : ℕ) → gives n ≡ mapped (λ (r : Reading). r .consumed) (readRecord code s) → Measures code s n
 measured code s n = by-reading (readRecord code s) refl
   where
-    by-reading : (x : Answer Reading) → x ≡ readRecord code s → gives n ≡ sizeOf x → Measures code s n
+    by-reading : (x : Answer Reading) → x ≡ readRecord code s → gives n ≡ mapped (λ (r : Reading). r .consumed) x → Measures code s n
     by-reading (gives r) f e = let i : n ≡ r .consumed = given n (r .consumed) e in record { inside = omega (arith, i, record-within code s r (sym f)); is = rw (← f, i) }
     by-reading (refuses m vs) f e = never _ _ _ e
 
-pub unmeasured : (code : ℕ) (s : List ℕ) (n : ℕ) (vs : List ℕ) → refuses n vs ≡ sizeOf (readRecord code s) → refuses n vs ≡ mapped withoutRecord (mapped (oneRecord (length s)) (readRecord code s))
+pub unmeasured : (code : ℕ) (s : List ℕ) (n : ℕ) (vs : List ℕ) → refuses n vs ≡ mapped (λ (r : Reading). r .consumed) (readRecord code s) → refuses n vs ≡ mapped withoutRecord (mapped (oneRecord (length s)) (readRecord code s))
 unmeasured code s n vs = by-reading (readRecord code s)
   where
-    by-reading : (x : Answer Reading) → refuses n vs ≡ sizeOf x → refuses n vs ≡ mapped withoutRecord (mapped (oneRecord (length s)) x)
+    by-reading : (x : Answer Reading) → refuses n vs ≡ mapped (λ (r : Reading). r .consumed) x → refuses n vs ≡ mapped withoutRecord (mapped (oneRecord (length s)) x)
     by-reading (gives r) e = never _ _ _ (sym e)
     by-reading (refuses m us) e = let i : n ≡ m = cc in let j : vs ≡ us = cc in rw (i, j)
 
@@ -123,13 +120,13 @@ module _ (code : ℕ) (s : List ℕ) where
     pub of-a-kind : true ≡ isKind code
     of-a-kind = by-list (isList code) refl
       where
-        by-table : (k : Answer Kind) → k ≡ withCode code kinds → (x : Answer Reading) → x ≡ readRecord code s → gives t ≡ mapped (oneRecord (length s)) x → true ≡ isGiven k
-        by-table (gives k) f x g h = refl
-        by-table (refuses n vs) f x g h = never _ _ _ (h ∙ ap (mapped (oneRecord (length s))) (g ∙ sym (by-code code s (refuses n vs) f)))
+        by-record : (x : Answer Reading) → x ≡ readRecord code s → gives t ≡ mapped (oneRecord (length s)) x → true ≡ isRecord code
+        by-record (gives r) g h = ap isKnown g ∙ known code s
+        by-record (refuses n vs) g h = never _ _ _ h
 
         by-list : (b : Bool) → isList code ≡ b → true ≡ isKind code
         by-list true f = rw f
-        by-list false f = rw f (by-table (withCode code kinds) refl (readRecord code s) refl (e ∙ sym (record-reads f)))
+        by-list false f = rw f (by-record (readRecord code s) refl (e ∙ sym (record-reads f)))
 
     pub size : t .consumed ≡ length (take (t .consumed) s)
     size = sym (length-take-le (t .consumed) s (within .inside))

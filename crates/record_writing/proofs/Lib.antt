@@ -2,5 +2,4 @@ pub mod Room
 pub mod Flags
 pub mod ReadBack
 pub mod WriteBack
-pub mod RoundTrip
-pub mod Firm
+pub mod Claims

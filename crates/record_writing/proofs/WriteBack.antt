@@ -1,5 +1,5 @@
 -- A record that was read is written as the bytes that it was read from: a law for each code of one byte, then the kinds.
-use mathlib.Core.Path.{_≡_, refl, sym, ap, _∙_}
+use mathlib.Core.Path.{_≡_, refl, sym, ap}
 use mathlib.Core.Bool.{Bool, true, false, cond}
 use mathlib.Core.List.{List, [], _∷_}
 use Prim.Native.Nat.{ℕ, zero, suc, _+_, _%_, _≤_, _<_}
@@ -8,11 +8,17 @@ use lib.Dec.{leb, ltb, eqb}
 use lib.ListN.{length, getD, take, drop}
 use lib.Seq.{drop-cons}
 use borrow.Author.Tests.{le-leb, ltb-true, lt-ltb, eqb-true, eqb-false}
+use Rattle.numbers.specs.Numbers.{gives, refuses}
+use Rattle.numbers.proofs.Answers.{given}
+use Rattle.numbers.proofs.Firm.{never}
 use Rattle.records.specs.declared.AssociationState.{AssociationState}
-use Rattle.records.specs.declared.Kind.{Kind}
-use Rattle.records.specs.Values.{bandOf, bandByte, versionOf, versionByte, resultOf, resultByte, profileOf, profileByte, stateOf, stateByte, recordIn, bytesOf}
-use Rattle.records.specs.Kinds.{layout, accepted, kindOf}
+use Rattle.records.specs.declared.Record.{Record}
+use Rattle.records.specs.Values.{bandOf, bandByte, versionOf, versionByte, resultOf, resultByte, profileOf, profileByte, stateOf, stateByte, hasAddress, queryIn, bytesOf}
+use Rattle.records.specs.Kinds.{Kind, kindOf}
+use Rattle.records.specs.Reading.{Reading, empty, fixed, readAs}
+use Rattle.records.proofs.Given.{reads}
 use Rattle.record_writing.specs.Writing.{lowestBand, lowestVersion, lowestResult, lowestProfile, readable}
+use Rattle.record_writing.specs.Claims.{Bytes}
 use Rattle.record_writing.proofs.Flags.{flags-kept}
 
 -- n elements from p, one by one
@@ -58,28 +64,42 @@ state-kept b h a = go (eqb b 128) refl where
       let m = eqb-true (b % 128) 0 a in
       omega arith
 
-pub record Kept (k : Kind) (s : List ℕ) : Type 0 where
-  pub same : kindOf (recordIn k s) ≡ k
-  pub bytes : bytesOf (recordIn k s) ≡ take (layout k s) s
-  pub good : readable (recordIn k s) ≡ true
+-- what was read, and the bytes that it was read from
+pub record Kept (k : Kind) (s : List ℕ) (x : Reading) : Type 0 where
+  pub same : kindOf (x .value) ≡ k
+  pub bytes : bytesOf (x .value) ≡ take (x .consumed) s
+  pub good : readable (x .value) ≡ true
 
-query-kept : (s : List ℕ) → layout Kind.LinkMetricQuery s ≤ length s → Kept Kind.LinkMetricQuery s
-query-kept s h = go (eqb (getD s 0 0) 1) refl where
-  go : (x : Bool) → eqb (getD s 0 0) 1 ≡ x → Kept Kind.LinkMetricQuery s
-  go true e = record { same = refl; bytes = simp e (front 8 s (simp e at h)); good = simp e }
-  go false e = record { same = refl; bytes = simp e (front 2 s (simp e at h)); good = simp e }
+-- a layout whose bytes are the record's
+holds : (k : Kind) (n : ℕ) (ok : Bool) (r : Record) (s : List ℕ) (x : Reading) → fixed n ok r s ≡ gives x →
+    (n ≤ length s → ok ≡ true → Kept k s (record { value = r; consumed = n })) → Kept k s x
+holds k n ok r s x e then = let h = reads n ok r s x e in rw (← h .is) (then (h .within) (h .taken))
 
--- each element of a slice of bytes is one
-pub kept : (k : Kind) (s : List ℕ) → ((i : ℕ) → getD s i 0 < 256) → layout k s ≤ length s → accepted k s ≡ true → Kept k s
-kept Kind.EndOfMessage s b h a = record { same = refl; bytes = refl; good = refl }
-kept Kind.AlMacAddress s b h a = record { same = refl; bytes = front 6 s h; good = refl }
-kept Kind.MacAddress s b h a = record { same = refl; bytes = front 6 s h; good = refl }
-kept Kind.SearchedRole s b h a = record { same = refl; bytes = front 1 s h; good = a }
-kept Kind.SupportedRole s b h a = record { same = refl; bytes = front 1 s h; good = a }
-kept Kind.SupportedFreqBand s b h a = let x = band-kept (getD s 0 0) in record { same = refl; bytes = ap (λ (n : ℕ). n ∷ []) (x .0) ∙ front 1 s h; good = x .1 }
-kept Kind.Ieee1905ProfileVersion s b h a = let x = version-kept (getD s 0 0) in record { same = refl; bytes = ap (λ (n : ℕ). n ∷ []) (x .0) ∙ front 1 s h; good = x .1 }
-kept Kind.LinkMetricResultCode s b h a = let x = result-kept (getD s 0 0) in record { same = refl; bytes = ap (λ (n : ℕ). n ∷ []) (x .0) ∙ front 1 s h; good = x .1 }
-kept Kind.LinkMetricQuery s b h a = query-kept s h
-kept Kind.ClientAssociation s b h a = record { same = refl; bytes = rw (state-kept (getD s 12 0) (b 12) a) (front 13 s h); good = refl }
-kept Kind.MultiApProfile s b h a = let x = profile-kept (getD s 0 0) a in record { same = refl; bytes = ap (λ (n : ℕ). n ∷ []) (x .0) ∙ front 1 s h; good = x .1 }
-kept Kind.Profile2ApCapability s b h a = record { same = refl; bytes = rw (flags-kept s (b 2)) (front 4 s h); good = lt-ltb (getD s 2 0 % 8) 8 (omega arith) }
+empty-kept : (s : List ℕ) (x : Reading) → empty Record.EndOfMessage s ≡ gives x → Kept Kind.EndOfMessage s x
+unfolding empty
+empty-kept s x e = go (ltb 0 (length s)) e
+  where
+    go : (more : Bool) → cond more (refuses 4 []) (gives (record { value = Record.EndOfMessage; consumed = 0 })) ≡ gives x → Kept Kind.EndOfMessage s x
+    go true e = never _ _ _ (sym e)
+    go false e = rw (← given _ _ e) (record { same = refl; bytes = refl; good = refl })
+
+query-kept : (s : List ℕ) → let n = cond {A = ℕ} (hasAddress (getD s 0 0)) 8 2 in n ≤ length s → Kept Kind.LinkMetricQuery s (record { value = Record.LinkMetricQuery (queryIn s); consumed = n })
+query-kept s h = go (eqb (getD s 0 0) 1) refl
+  where
+    go : (x : Bool) → eqb (getD s 0 0) 1 ≡ x → Kept Kind.LinkMetricQuery s (record { value = Record.LinkMetricQuery (queryIn s); consumed = cond (hasAddress (getD s 0 0)) 8 2 })
+    go true e = record { same = refl; bytes = simp e (front 8 s (simp e at h)); good = simp e }
+    go false e = record { same = refl; bytes = simp e (front 2 s (simp e at h)); good = simp e }
+
+pub kept : (k : Kind) (s : List ℕ) → Bytes s → (x : Reading) → readAs k s ≡ gives x → Kept k s x
+kept Kind.EndOfMessage s b x e = empty-kept s x e
+kept Kind.AlMacAddress s b x e = holds _ _ _ _ s x e (λ h a. record { same = refl; bytes = front 6 s h; good = refl })
+kept Kind.MacAddress s b x e = holds _ _ _ _ s x e (λ h a. record { same = refl; bytes = front 6 s h; good = refl })
+kept Kind.SearchedRole s b x e = holds _ _ _ _ s x e (λ h a. record { same = refl; bytes = front 1 s h; good = a })
+kept Kind.SupportedRole s b x e = holds _ _ _ _ s x e (λ h a. record { same = refl; bytes = front 1 s h; good = a })
+kept Kind.SupportedFreqBand s b x e = let y = band-kept (getD s 0 0) in holds _ _ _ _ s x e (λ h a. record { same = refl; bytes = rw (y .0) (front 1 s h); good = y .1 })
+kept Kind.Ieee1905ProfileVersion s b x e = let y = version-kept (getD s 0 0) in holds _ _ _ _ s x e (λ h a. record { same = refl; bytes = rw (y .0) (front 1 s h); good = y .1 })
+kept Kind.LinkMetricResultCode s b x e = let y = result-kept (getD s 0 0) in holds _ _ _ _ s x e (λ h a. record { same = refl; bytes = rw (y .0) (front 1 s h); good = y .1 })
+kept Kind.LinkMetricQuery s b x e = holds _ _ _ _ s x e (λ h a. query-kept s h)
+kept Kind.ClientAssociation s b x e = holds _ _ _ _ s x e (λ h a. record { same = refl; bytes = rw (state-kept (getD s 12 0) (b 12) a) (front 13 s h); good = refl })
+kept Kind.MultiApProfile s b x e = holds _ _ _ _ s x e (λ h a. let y = profile-kept (getD s 0 0) a in record { same = refl; bytes = rw (y .0) (front 1 s h); good = y .1 })
+kept Kind.Profile2ApCapability s b x e = holds _ _ _ _ s x e (λ h a. record { same = refl; bytes = rw (flags-kept s (b 2)) (front 4 s h); good = lt-ltb (getD s 2 0 % 8) 8 (omega arith) })

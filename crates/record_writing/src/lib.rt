@@ -13,26 +13,6 @@ ghost use Rattle.records.specs.Values.{bytesOf};
 ghost use Rattle.records.specs.Kinds.{kindOf, codeOf};
 ghost use Rattle.record_writing.specs.Writing.{valueSize, recordSize};
 
-// The code of a record's kind.
-pub fn code_of(item: Record) -> u8
-    ensures { λ r. ⌜ r ≡ codeOf (kindOf item) ⌝ }
-{
-    match item {
-        Record::EndOfMessage => 0,
-        Record::AlMacAddress(_) => 1,
-        Record::MacAddress(_) => 2,
-        Record::SearchedRole(_) => 13,
-        Record::SupportedRole(_) => 15,
-        Record::SupportedFreqBand(_) => 16,
-        Record::Ieee1905ProfileVersion(_) => 26,
-        Record::LinkMetricResultCode(_) => 12,
-        Record::LinkMetricQuery(_) => 8,
-        Record::ClientAssociation(_) => 0x92,
-        Record::MultiApProfile(_) => 0xB3,
-        Record::Profile2ApCapability(_) => 0xB4,
-    }
-}
-
 // The bytes that a record's value takes: what a caller lends to `write_value`, and 3 more to `write_record`.
 pub fn size_of(item: Record) -> usize
     ensures { λ r. ⌜ r ≡ length (bytesOf item) ⌝ }
@@ -64,7 +44,7 @@ pub fn write_record(item: Record, out: &mut [u8]) -> Written
     ensures bytes { λ _. ⌜ now (out .exit) ≡ leaves (recordSize item (length (now (out .entry)))) (tlvBytes (codeOf (kindOf item)) (bytesOf item)) (now (out .entry)) ⌝ }
 {
     if values::is_readable(item) {
-        return match framing::write_header(code_of(item), size_of(item), out) {
+        return match framing::write_header(records::code_of(item), size_of(item), out) {
             Written::Bytes(size) => {
                 values::put_value(item, &mut out[3..]);
                 Written::Bytes(size)

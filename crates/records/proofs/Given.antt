@@ -1,69 +1,111 @@
--- What a value that reads says of its bytes.
-use mathlib.Core.Path.{_≡_, refl, sym}
-use mathlib.Core.Bool.{Bool, true, false, cond}
+-- What reading says: of the code, whatever the value is; and of the bytes of a value that reads.
+use mathlib.Core.Path.{_≡_, refl, sym, ap, _∙_}
+use mathlib.Core.Bool.{Bool, true, false, cond, not}
 use mathlib.Core.List.{List, [], _∷_}
 use Prim.Native.Nat.{ℕ, _+_, _-_, _≤_}
 use native.Mathlib.Omega.{arith}
 use lib.Dec.{ltb, eqb}
 use lib.ListN.{length}
 use borrow.Author.Tests.{ltb-false, eqb-true}
-use Rattle.numbers.specs.declared.Refusal.{Refusal}
-use Rattle.numbers.specs.Numbers.{Answer, gives, refuses, number, values, told}
+use Rattle.numbers.specs.Numbers.{Answer, gives, refuses, andThen, isGiven}
+use Rattle.numbers.proofs.Answers.{given, gave}
 use Rattle.numbers.proofs.Firm.{never}
-use Rattle.records.specs.declared.Kind.{Kind}
-use Rattle.records.specs.Values.{recordIn}
-use Rattle.records.specs.Kinds.{kinds, codeOf, layout, leftOver, accepted}
-use Rattle.records.specs.Reading.{Reading, readKind, readAs, withCode, readRecord, sizeOf}
+use Rattle.records.specs.declared.Record.{Record}
+use Rattle.records.specs.Kinds.{Kind, kinds, codeOf}
+use Rattle.records.specs.Reading.{Reading, empty, fixed, readAs, withCode, isRecord, readRecord}
 
--- the layout lies within the value, nothing of it is refused, and the answer is what the layout holds
-pub record Reads (k : Kind) (s : List ℕ) (x : Reading) : Type 0 where
-  pub within : layout k s ≤ length s
-  pub taken : accepted k s ≡ true
-  pub held : record { value = recordIn k s; consumed = layout k s } ≡ x
+-- an answer that is not 16
+abbrev pub isKnown : {A : Type 0} → Answer A → Bool
+isKnown (gives a) = true
+isKnown (refuses n vs) = not (eqb n 16)
 
-by-tests : (a b d : Bool) (x y : Reading) → cond a (refuses 3 []) (cond b (refuses 4 []) (cond d (gives y) (refuses 5 []))) ≡ gives x → (a ≡ false) × ((d ≡ true) × (y ≡ x))
-by-tests true b d x y e = let z : _≡_ {A = ℕ} 0 1 = cc in absurd (omega arith)
-by-tests false true d x y e = let z : _≡_ {A = ℕ} 0 1 = cc in absurd (omega arith)
-by-tests false false false x y e = let z : _≡_ {A = ℕ} 0 1 = cc in absurd (omega arith)
-by-tests false false true x y e = (refl, (refl, cc))
+-- what a fixed layout that reads says: it lies within the value, nothing of it is refused, and the answer is what it holds
+pub record Reads (n : ℕ) (ok : Bool) (r : Record) (s : List ℕ) (x : Reading) : Type 0 where
+  pub within : n ≤ length s
+  pub taken : ok ≡ true
+  pub is : record { value = r; consumed = n } ≡ x
 
-pub given : (k : Kind) (s : List ℕ) (x : Reading) → readKind k s ≡ gives x → Reads k s x
-unfolding readKind
-given k s x e =
-    let h = by-tests (ltb (length s) (layout k s)) (leftOver k (length s - layout k s)) (accepted k s) x (record { value = recordIn k s; consumed = layout k s }) e in
-    record { within = ltb-false (length s) (layout k s) (h .0); taken = h .1 .0; held = h .1 .1 }
+-- what each kind's reading is: 16 is no answer of it, and what was consumed lies in the value
+pub record Formed (s : List ℕ) (a : Answer Reading) : Type 0 where
+  pub is-known : isKnown a ≡ true
+  pub inside : (x : Reading) → a ≡ gives x → x .consumed ≤ length s
 
--- what takes so many bytes reads as the record in them
-pub with-record : (k : Kind) (s : List ℕ) (n : ℕ) → gives n ≡ sizeOf (readKind k s) → gives (record { value = recordIn k s; consumed = n }) ≡ readKind k s
-with-record k s n e = go (readKind k s) refl e where
-  go : (a : Answer Reading) → readKind k s ≡ a → gives n ≡ sizeOf a → gives (record { value = recordIn k s; consumed = n }) ≡ a
-  go (gives x) f e = let m : n ≡ x .consumed = cc in rw (m, ← given k s x f .held) refl
-  go (refuses m vs) f e = never n m vs e
+module _ (n : ℕ) (ok : Bool) (r : Record) (s : List ℕ) where
+  pub reads : (x : Reading) → fixed n ok r s ≡ gives x → Reads n ok r s x
+  unfolding fixed
+  reads x e = go (ltb (length s) n) ok refl refl e
+    where
+      go : (short b : Bool) → ltb (length s) n ≡ short → ok ≡ b → cond short (refuses 3 []) (cond b (gives (record { value = r; consumed = n })) (refuses 5 [])) ≡ gives x → Reads n ok r s x
+      go true b f g e = never _ _ _ (sym e)
+      go false false f g e = never _ _ _ (sym e)
+      go false true f g e = record { within = ltb-false (length s) n f; taken = g; is = given _ _ e }
 
--- what is refused where bytes are counted is refused where they are read
-pub refused-alike : (a : Answer Reading) (f : Refusal) → told f ≡ sizeOf a → told f ≡ a
-refused-alike (gives x) f e = never _ _ _ (sym e)
-refused-alike (refuses m vs) f e = let p : number f ≡ m = cc in let q : values f ≡ vs = cc in rw (p, q) refl
+  fixed-formed : Formed s (fixed n ok r s)
+  unfolding fixed
+  fixed-formed = record { is-known = go (ltb (length s) n) ok; inside = λ x e. let h = reads x e in rw (← h .is) (h .within) }
+    where
+      go : (short b : Bool) → isKnown {A = Reading} (cond short (refuses 3 []) (cond b (gives (record { value = r; consumed = n })) (refuses 5 []))) ≡ true
+      go true b = refl
+      go false false = refl
+      go false true = refl
+
+empty-formed : (r : Record) (s : List ℕ) → Formed s (empty r s)
+unfolding empty
+empty-formed r s = go (ltb 0 (length s))
+  where
+    go : (more : Bool) → Formed s (cond more (refuses 4 []) (gives (record { value = r; consumed = 0 })))
+    go true = record { is-known = refl; inside = λ x f. never _ _ _ (sym f) }
+    go false = record { is-known = refl; inside = λ x f. let i : record { value = r; consumed = 0 } ≡ x = cc in rw (← i) (omega arith) }
+
+formed : (k : Kind) (s : List ℕ) → Formed s (readAs k s)
+formed Kind.EndOfMessage s = empty-formed _ s
+formed Kind.AlMacAddress s = fixed-formed _ _ _ s
+formed Kind.MacAddress s = fixed-formed _ _ _ s
+formed Kind.SearchedRole s = fixed-formed _ _ _ s
+formed Kind.SupportedRole s = fixed-formed _ _ _ s
+formed Kind.SupportedFreqBand s = fixed-formed _ _ _ s
+formed Kind.Ieee1905ProfileVersion s = fixed-formed _ _ _ s
+formed Kind.LinkMetricResultCode s = fixed-formed _ _ _ s
+formed Kind.LinkMetricQuery s = fixed-formed _ _ _ s
+formed Kind.ClientAssociation s = fixed-formed _ _ _ s
+formed Kind.MultiApProfile s = fixed-formed _ _ _ s
+formed Kind.Profile2ApCapability s = fixed-formed _ _ _ s
+
+-- a code has its kind in the list, or reading answers 16
+pub coded : (c : ℕ) (ks : List Kind) (k : Kind) → withCode c ks ≡ gives k → codeOf k ≡ c
+coded c [] k e = never _ _ _ (sym e)
+coded c (j ∷ ks) k e = go (eqb c (codeOf j)) refl (coded c ks k) e
+  where
+    go : (b : Bool) → eqb c (codeOf j) ≡ b → (withCode c ks ≡ gives k → codeOf k ≡ c) → cond b (gives j) (withCode c ks) ≡ gives k → codeOf k ≡ c
+    go true f later e = let i : j ≡ k = cc in rw (← i) (sym (eqb-true c (codeOf j) f))
+    go false f later e = later e
+
+pub unknown : (c : ℕ) (ks : List Kind) → isKnown (withCode c ks) ≡ isGiven (withCode c ks)
+unknown c [] = refl
+unknown c (k ∷ ks) = go (eqb c (codeOf k)) (unknown c ks)
+  where
+    go : (b : Bool) → isKnown (withCode c ks) ≡ isGiven (withCode c ks) → isKnown (cond b (gives k) (withCode c ks)) ≡ isGiven (cond b (gives k) (withCode c ks))
+    go true later = refl
+    go false later = later
+
+pub known : (c : ℕ) (s : List ℕ) → isKnown (readRecord c s) ≡ isRecord c
+unfolding readRecord
+known c s = go (withCode c kinds) (unknown c kinds)
+  where
+    go : (a : Answer Kind) → isKnown a ≡ isGiven a → isKnown (andThen a (λ k. readAs k s)) ≡ isGiven a
+    go (gives k) e = formed k s .is-known
+    go (refuses n vs) e = e
 
 -- the kind that a code which reads has
 pub record Coded (c : ℕ) (s : List ℕ) (x : Reading) : Type 0 where
   pub kind : Kind
   pub its : codeOf kind ≡ c
-  pub reads : Reads kind s x
+  pub reads : readAs kind s ≡ gives x
 
-pub coded : (c : ℕ) (s : List ℕ) (x : Reading) → readRecord c s ≡ gives x → Coded c s x
+pub kind-read : (c : ℕ) (s : List ℕ) (x : Reading) → readRecord c s ≡ gives x → Coded c s x
 unfolding readRecord
-coded c s x e = among kinds e where
-  among : (ks : List Kind) → readAs (withCode c ks) s ≡ gives x → Coded c s x
-  among [] e = let z : _≡_ {A = ℕ} 0 1 = cc in absurd (omega arith)
-  among (k ∷ ks) e = go (eqb c (codeOf k)) refl (among ks) e where
-    go : (b : Bool) → eqb c (codeOf k) ≡ b → (readAs (withCode c ks) s ≡ gives x → Coded c s x) → readAs (cond b (gives k) (withCode c ks)) s ≡ gives x → Coded c s x
-    go true f later e = record { kind = k; its = sym (eqb-true c (codeOf k) f); reads = given k s x e }
-    go false f later e = later e
+kind-read c s x e = let g = gave (withCode c kinds) (λ k. readAs k s) x e in record { kind = g .first; its = coded c kinds (g .first) (g .is); reads = g .then }
 
--- consumed never exceeds the value's length, so consumed and rest together are that length
+-- consumed never exceeds the value's length, so that the rest is what stands behind it
 pub consumed-within : (c : ℕ) (s : List ℕ) (x : Reading) → readRecord c s ≡ gives x → x .consumed ≤ length s
-consumed-within c s x e = let r = coded c s x e .reads in rw (← r .held) (r .within)
-
-pub consumed-and-rest : (c : ℕ) (s : List ℕ) (x : Reading) → readRecord c s ≡ gives x → x .consumed + (length s - x .consumed) ≡ length s
-consumed-and-rest c s x e = omega (arith, consumed-within c s x e)
+consumed-within c s x e = let k = kind-read c s x e in formed (k .kind) s .inside x (k .reads)

@@ -1,5 +1,4 @@
 pub mod Codes
 pub mod Ways
 pub mod Given
-pub mod Firm
-pub mod Examples
+pub mod Claims

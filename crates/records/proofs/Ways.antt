@@ -1,35 +1,39 @@
--- Laws of `readKind` and `readRecord`: a law for each way that reading can go. `n` is how the code came by the layout's length.
-use mathlib.Core.Path.{_≡_, refl, ap}
-use mathlib.Core.Bool.{true, false}
+-- Laws of `empty`, `fixed` and `readRecord`: a law for each way that reading can go.
+use mathlib.Core.Path.{_≡_, refl}
+use mathlib.Core.Bool.{Bool, true, false}
 use mathlib.Core.List.{List, []}
-use Prim.Native.Nat.{ℕ, _-_, _<_, _≤_}
+use Prim.Native.Nat.{ℕ, _<_, _≤_}
 use lib.ListN.{length}
 use borrow.Author.Tests.{lt-ltb, le-ltb}
-use Rattle.numbers.specs.Numbers.{Answer, gives, refuses}
-use Rattle.records.specs.declared.Kind.{Kind}
-use Rattle.records.specs.Values.{recordIn}
-use Rattle.records.specs.Kinds.{kinds, codeOf, layout, leftOver, accepted}
-use Rattle.records.specs.Reading.{Reading, readKind, withCode, readAs, readRecord}
+use Rattle.numbers.specs.Numbers.{gives, refuses}
+use Rattle.records.specs.declared.Record.{Record}
+use Rattle.records.specs.Kinds.{Kind, codeOf}
+use Rattle.records.specs.Reading.{Reading, empty, fixed, readAs, readRecord}
 
-module _ (k : Kind) (s : List ℕ) (n : ℕ) (e : n ≡ layout k s) where
-  pub cut : length s < n → refuses 3 [] ≡ readKind k s
-  unfolding readKind
-  cut h = simp (lt-ltb (length s) (layout k s) (rw e at h))
+module _ (r : Record) (s : List ℕ) where
+  pub filled : 0 < length s → refuses 4 [] ≡ empty r s
+  unfolding empty
+  filled h = simp (lt-ltb 0 (length s) h)
 
-  pub left : n ≤ length s → leftOver k (length s - n) ≡ true → refuses 4 [] ≡ readKind k s
-  unfolding readKind
-  left h l = simp (le-ltb (length s) (layout k s) (rw e at h), rw e at l)
+  pub bare : length s ≤ 0 → gives (record { value = r; consumed = 0 }) ≡ empty r s
+  unfolding empty
+  bare h = simp (le-ltb 0 (length s) h)
 
-  pub wrong : n ≤ length s → leftOver k (length s - n) ≡ false → accepted k s ≡ false → refuses 5 [] ≡ readKind k s
-  unfolding readKind
-  wrong h l a = simp (le-ltb (length s) (layout k s) (rw e at h), rw e at l, a)
+module _ (n : ℕ) (ok : Bool) (r : Record) (s : List ℕ) where
+  pub cut : length s < n → refuses 3 [] ≡ fixed n ok r s
+  unfolding fixed
+  cut h = simp (lt-ltb (length s) n h)
 
-  pub whole : n ≤ length s → leftOver k (length s - n) ≡ false → accepted k s ≡ true → gives (record { value = recordIn k s; consumed = n }) ≡ readKind k s
-  unfolding readKind
-  whole h l a = rw e (simp (le-ltb (length s) (layout k s) (rw e at h), rw e at l, a))
+  pub wrong : n ≤ length s → ok ≡ false → refuses 5 [] ≡ fixed n ok r s
+  unfolding fixed
+  wrong h a = simp (le-ltb (length s) n h, a)
 
--- each code of the list is its own kind's: no two rows of the table have one code
-pub by-kind : (k : Kind) (s : List ℕ) → readRecord (codeOf k) s ≡ readKind k s
+  pub whole : n ≤ length s → ok ≡ true → gives (record { value = r; consumed = n }) ≡ fixed n ok r s
+  unfolding fixed
+  whole h a = simp (le-ltb (length s) n h, a)
+
+-- each code of the list is its own kind's: no two have one code
+pub by-kind : (k : Kind) (s : List ℕ) → readRecord (codeOf k) s ≡ readAs k s
 unfolding readRecord
 by-kind Kind.EndOfMessage s = refl
 by-kind Kind.AlMacAddress s = refl
@@ -43,8 +47,3 @@ by-kind Kind.LinkMetricQuery s = refl
 by-kind Kind.ClientAssociation s = refl
 by-kind Kind.MultiApProfile s = refl
 by-kind Kind.Profile2ApCapability s = refl
-
--- what a code says, and then the kind's reading
-pub by-code : (c : ℕ) (s : List ℕ) (a : Answer Kind) → a ≡ withCode c kinds → readAs a s ≡ readRecord c s
-unfolding readRecord
-by-code c s a e = ap (λ (b : Answer Kind). readAs b s) e

@@ -1,3 +1,4 @@
 pub mod Values
 pub mod Kinds
 pub mod Reading
+pub mod Claims

@@ -1,17 +1,16 @@
 -- What reading a typed value gives: the record and the bytes consumed, or a refusal. The rest is what the value has behind the consumed bytes.
-use mathlib.Core.Bool.{Bool, cond}
+use mathlib.Core.Bool.{Bool, true, cond}
 use mathlib.Core.List.{List, [], _∷_}
-use Prim.Native.Nat.{ℕ, _-_}
+use Prim.Native.Nat.{ℕ, _%_}
 use lib.Dec.{eqb, ltb}
-use lib.ListN.{length}
-use Rattle.numbers.specs.Numbers.{Answer, gives, refuses, told, isGiven}
-use Rattle.records.specs.declared.Kind.{Kind}
-use Rattle.records.specs.declared.rows.KnownKind.{KnownKind}
+use lib.ListN.{length, getD}
+use Rattle.numbers.specs.Numbers.{Answer, gives, refuses, told, andThen, isGiven}
+use Rattle.records.specs.declared.NeighborMac.{NeighborMac}
 use Rattle.records.specs.declared.Record.{Record}
 use Rattle.records.specs.declared.Read.{Read}
 use Rattle.records.specs.declared.Measured.{Measured}
-use Rattle.records.specs.Values.{recordIn}
-use Rattle.records.specs.Kinds.{kinds, codeOf, layout, leftOver, accepted}
+use Rattle.records.specs.Values.{addressAt, bandOf, versionOf, resultOf, profileOf, hasAddress, queryIn, associationIn, capabilityIn}
+use Rattle.records.specs.Kinds.{Kind, kinds, codeOf}
 
 pub record Reading : Type 0 where
   pub value : Record
@@ -22,13 +21,38 @@ abbrev pub readOf : Read → Answer Reading
 readOf (Read.Got r n) = gives (record { value = r; consumed = n })
 readOf (Read.Refused r) = told r
 
--- "Order elsewhere: 16, then .. 3, 4, 5"
-unfoldable pub readKind : Kind → List ℕ → Answer Reading
-readKind k s =
-    cond (ltb (length s) (layout k s)) (refuses 3 [])
-    (cond (leftOver k (length s - layout k s)) (refuses 4 [])
-    (cond (accepted k s) (gives (record { value = recordIn k s; consumed = layout k s }))
-    (refuses 5 [])))
+abbrev pub measuredOf : Measured → Answer ℕ
+measuredOf (Measured.Bytes n) = gives n
+measuredOf (Measured.Refused r) = told r
+
+-- "must be empty": 4 where it is not
+unfoldable pub empty : Record → List ℕ → Answer Reading
+empty r s = cond (ltb 0 (length s)) (refuses 4 []) (gives (record { value = r; consumed = 0 }))
+
+-- "fixed" so many bytes: 3 where the value ends inside them, and then 5 where what stands in them is refused. Those behind them are handed back as the rest.
+unfoldable pub fixed : ℕ → Bool → Record → List ℕ → Answer Reading
+fixed n accepted r s =
+    cond (ltb (length s) n) (refuses 3 [])
+    (cond accepted (gives (record { value = r; consumed = n }))
+    (refuses 5 []))
+
+abbrev any : Bool
+any = true
+
+-- the lines of document 01's table: the bytes that the layout takes, what of them is accepted ("role not 0, association bits 0-6 set, profile 0" are not), the record
+abbrev pub readAs : Kind → List ℕ → Answer Reading
+readAs Kind.EndOfMessage s = empty Record.EndOfMessage s
+readAs Kind.AlMacAddress s = fixed 6 any (Record.AlMacAddress (addressAt s 0)) s
+readAs Kind.MacAddress s = fixed 6 any (Record.MacAddress (addressAt s 0)) s
+readAs Kind.SearchedRole s = fixed 1 (eqb (getD s 0 0) 0) (Record.SearchedRole (getD s 0 0)) s
+readAs Kind.SupportedRole s = fixed 1 (eqb (getD s 0 0) 0) (Record.SupportedRole (getD s 0 0)) s
+readAs Kind.SupportedFreqBand s = fixed 1 any (Record.SupportedFreqBand (bandOf (getD s 0 0))) s
+readAs Kind.Ieee1905ProfileVersion s = fixed 1 any (Record.Ieee1905ProfileVersion (versionOf (getD s 0 0))) s
+readAs Kind.LinkMetricResultCode s = fixed 1 any (Record.LinkMetricResultCode (resultOf (getD s 0 0))) s
+readAs Kind.LinkMetricQuery s = fixed (cond (hasAddress (getD s 0 0)) 8 2) any (Record.LinkMetricQuery (queryIn s)) s
+readAs Kind.ClientAssociation s = fixed 13 (eqb (getD s 12 0 % 128) 0) (Record.ClientAssociation (associationIn s)) s
+readAs Kind.MultiApProfile s = fixed 1 (ltb 0 (getD s 0 0)) (Record.MultiApProfile (profileOf (getD s 0 0))) s
+readAs Kind.Profile2ApCapability s = fixed 4 any (Record.Profile2ApCapability (capabilityIn s)) s
 
 -- the first of these kinds that has the code; 16 where none has
 abbrev pub withCode : ℕ → List Kind → Answer Kind
@@ -39,23 +63,6 @@ withCode c (k ∷ ks) = cond (eqb c (codeOf k)) (gives k) (withCode c ks)
 abbrev pub isRecord : ℕ → Bool
 isRecord c = isGiven (withCode c kinds)
 
--- what each answer of `kind_of` says
-abbrev pub knownOf : KnownKind → Answer Kind
-knownOf (KnownKind.Is k) = gives k
-knownOf KnownKind.None = refuses 16 []
-
-abbrev pub readAs : Answer Kind → List ℕ → Answer Reading
-readAs (gives k) s = readKind k s
-readAs (refuses n vs) s = refuses n vs
-
+-- "Order elsewhere: 16, then .. 3, 4, 5"
 unfoldable pub readRecord : ℕ → List ℕ → Answer Reading
-readRecord c s = readAs (withCode c kinds) s
-
--- measuring: the bytes consumed, without the record
-abbrev pub sizeOf : Answer Reading → Answer ℕ
-sizeOf (gives r) = gives (r .consumed)
-sizeOf (refuses n vs) = refuses n vs
-
-abbrev pub measuredOf : Measured → Answer ℕ
-measuredOf (Measured.Bytes n) = gives n
-measuredOf (Measured.Refused r) = told r
+readRecord c s = andThen (withCode c kinds) (λ k. readAs k s)

@@ -16,7 +16,6 @@ use Rattle.records.specs.declared.ClientAssociation.{ClientAssociation}
 use Rattle.records.specs.declared.MultiApProfile.{MultiApProfile}
 use Rattle.records.specs.declared.ByteCounterUnits.{ByteCounterUnits}
 use Rattle.records.specs.declared.Profile2ApCapability.{Profile2ApCapability}
-use Rattle.records.specs.declared.Kind.{Kind}
 use Rattle.records.specs.declared.Record.{Record}
 
 -- the six octets of an address, and the address in the six bytes from p
@@ -142,21 +141,6 @@ queryIn s =
 abbrev pub neighborOctets : NeighborMac → List ℕ
 neighborOctets (NeighborMac.Address m) = octets m
 neighborOctets NeighborMac.None = []
-
--- the record that the bytes of a kind's layout hold
-abbrev pub recordIn : Kind → List ℕ → Record
-recordIn Kind.EndOfMessage s = Record.EndOfMessage
-recordIn Kind.AlMacAddress s = Record.AlMacAddress (addressAt s 0)
-recordIn Kind.MacAddress s = Record.MacAddress (addressAt s 0)
-recordIn Kind.SearchedRole s = Record.SearchedRole (getD s 0 0)
-recordIn Kind.SupportedRole s = Record.SupportedRole (getD s 0 0)
-recordIn Kind.SupportedFreqBand s = Record.SupportedFreqBand (bandOf (getD s 0 0))
-recordIn Kind.Ieee1905ProfileVersion s = Record.Ieee1905ProfileVersion (versionOf (getD s 0 0))
-recordIn Kind.LinkMetricResultCode s = Record.LinkMetricResultCode (resultOf (getD s 0 0))
-recordIn Kind.LinkMetricQuery s = Record.LinkMetricQuery (queryIn s)
-recordIn Kind.ClientAssociation s = Record.ClientAssociation (associationIn s)
-recordIn Kind.MultiApProfile s = Record.MultiApProfile (profileOf (getD s 0 0))
-recordIn Kind.Profile2ApCapability s = Record.Profile2ApCapability (capabilityIn s)
 
 abbrev pub queryBytes : LinkMetricQuery → List ℕ
 queryBytes q = q .«neighbor_type» ∷ (neighborOctets (q .«neighbor_mac») ++ (q .«requested_metrics» ∷ []))

@@ -1,13 +1,13 @@
 // Typed values that are records: the kinds without lists, read by their code. They are written by the crate `record_writing`. The types have the original's names (cmdu_codec.rs).
-use crate::rows::KnownKind;
 use numbers::Refusal;
 
 mod reading;
-mod rows;
 
 ghost use mathlib.Core.Path.{_≡_};
 ghost use Rattle.records.specs.Values.{bandOf, versionOf, resultOf, profileOf, stateOf, unitsOf};
-ghost use Rattle.records.specs.Reading.{readOf, readRecord, measuredOf, sizeOf, isRecord};
+ghost use Rattle.numbers.specs.Numbers.{mapped};
+ghost use Rattle.records.specs.Kinds.{codeOf, kindOf};
+ghost use Rattle.records.specs.Reading.{readOf, readRecord, measuredOf, isRecord};
 
 pub struct MacAddr {
     pub b0: u8,
@@ -159,22 +159,6 @@ pub struct Profile2ApCapability {
     pub max_vids: u8,
 }
 
-// The kinds whose value is a record.
-pub enum Kind {
-    EndOfMessage,
-    AlMacAddress,
-    MacAddress,
-    SearchedRole,
-    SupportedRole,
-    SupportedFreqBand,
-    Ieee1905ProfileVersion,
-    LinkMetricResultCode,
-    LinkMetricQuery,
-    ClientAssociation,
-    MultiApProfile,
-    Profile2ApCapability,
-}
-
 // A typed value. A role is kept as its byte, though only 0, the registrar, is ever read.
 pub enum Record {
     EndOfMessage,
@@ -201,9 +185,53 @@ pub enum Read {
 pub fn read_record(code: u8, s: &[u8]) -> Read
     ensures { λ r. ⌜ readOf r ≡ readRecord code (now (s .entry)) ⌝ }
 {
-    match rows::kind_of(code) {
-        KnownKind::Is(kind) => reading::read_kind(kind, s),
-        KnownKind::None => Read::Refused(Refusal::UnknownKind),
+    match code {
+        0 => reading::read_end_of_message(s),
+        1 => reading::read_al_mac_address(s),
+        2 => reading::read_mac_address(s),
+        13 => reading::read_searched_role(s),
+        15 => reading::read_supported_role(s),
+        16 => reading::read_supported_freq_band(s),
+        26 => reading::read_ieee1905_profile_version(s),
+        12 => reading::read_link_metric_result_code(s),
+        8 => reading::read_link_metric_query(s),
+        0x92 => reading::read_client_association(s),
+        0xB3 => reading::read_multi_ap_profile(s),
+        0xB4 => reading::read_profile2_ap_capability(s),
+        _ => Read::Refused(Refusal::UnknownKind),
+    }
+}
+
+// The other way round: the code of a record's kind.
+pub fn code_of(item: Record) -> u8
+    ensures { λ r. ⌜ r ≡ codeOf (kindOf item) ⌝ }
+{
+    match item {
+        Record::EndOfMessage => 0,
+        Record::AlMacAddress(_) => 1,
+        Record::MacAddress(_) => 2,
+        Record::SearchedRole(_) => 13,
+        Record::SupportedRole(_) => 15,
+        Record::SupportedFreqBand(_) => 16,
+        Record::Ieee1905ProfileVersion(_) => 26,
+        Record::LinkMetricResultCode(_) => 12,
+        Record::LinkMetricQuery(_) => 8,
+        Record::ClientAssociation(_) => 0x92,
+        Record::MultiApProfile(_) => 0xB3,
+        Record::Profile2ApCapability(_) => 0xB4,
+    }
+}
+
+// Whether a code is a record's: then reading, even of no bytes, answers something else than that the kind is unknown.
+pub fn is_record(code: u8) -> bool
+    ensures { λ r. ⌜ r ≡ isRecord code ⌝ }
+{
+    match read_record(code, b"") {
+        Read::Got {
+            record: _,
+            consumed: _,
+        } => true,
+        Read::Refused(refusal) => numbers::number_of(refusal) != 16,
     }
 }
 
@@ -215,20 +243,13 @@ pub enum Measured {
 
 // The same value measured alone, for a caller that needs no record.
 pub fn measure(code: u8, s: &[u8]) -> Measured
-    ensures { λ r. ⌜ measuredOf r ≡ sizeOf (readRecord code (now (s .entry))) ⌝ }
+    ensures { λ r. ⌜ measuredOf r ≡ mapped (λ x. x .consumed) (readRecord code (now (s .entry))) ⌝ }
 {
-    match rows::kind_of(code) {
-        KnownKind::Is(kind) => reading::measure_kind(kind, s),
-        KnownKind::None => Measured::Refused(Refusal::UnknownKind),
-    }
-}
-
-// Whether a code is a record's.
-pub fn is_record(code: u8) -> bool
-    ensures { λ r. ⌜ r ≡ isRecord code ⌝ }
-{
-    match rows::kind_of(code) {
-        KnownKind::Is(_) => true,
-        KnownKind::None => false,
+    match read_record(code, s) {
+        Read::Got {
+            record: _,
+            consumed,
+        } => Measured::Bytes(consumed),
+        Read::Refused(refusal) => Measured::Refused(refusal),
     }
 }

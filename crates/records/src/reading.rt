@@ -1,259 +1,136 @@
-// Reading: a function for each kind and a match on the kind, over the rows of the table and the record in a layout's bytes.
+// Reading: a function for each kind, with its size, what it refuses and its fields.
 use crate::AssociationState;
 use crate::ByteCounterUnits;
 use crate::ClientAssociation;
 use crate::Ieee1905ProfileVersion;
-use crate::Kind;
 use crate::LinkMetricQuery;
 use crate::LinkMetricResultCode;
 use crate::MacAddr;
-use crate::Measured;
 use crate::MultiApProfile;
 use crate::NeighborMac;
 use crate::Profile2ApCapability;
 use crate::Read;
 use crate::Record;
 use crate::SupportedFreqBand;
-use crate::rows::Check;
-use crate::rows::Layout;
-use crate::rows::Row;
-use crate::rows::row_of;
 use numbers::Refusal;
 ghost use mathlib.Core.Path.{_≡_};
 ghost use Prim.Native.Nat.{_≤_};
 ghost use lib.ListN.{getD};
-ghost use Rattle.records.specs.Values.{addressAt, queryIn, associationIn, capabilityIn, recordIn};
-ghost use Rattle.records.specs.Kinds.{querySize, sizeIn, surplus, passing};
-ghost use Rattle.records.specs.Reading.{readOf, readKind, measuredOf, sizeOf};
+ghost use Rattle.records.specs.Values.{addressAt, queryIn, associationIn, capabilityIn};
+ghost use Rattle.records.specs.Kinds.{Kind};
+ghost use Rattle.records.specs.Reading.{readOf, fixed, readAs};
 
-// The bytes that a value of a kind takes. What is refused comes in document 01's order: 3, 4, 5. The check is made before the lengths are compared, so that
-// each kind has a way of its own in the compiled code.
-pub(crate) fn measure_kind(kind: Kind, s: &[u8]) -> Measured
-    ensures { λ r. ⌜ measuredOf r ≡ sizeOf (readKind kind (now (s .entry))) ⌝ }
+pub(crate) fn read_end_of_message(s: &[u8]) -> Read
+    ensures { λ r. ⌜ readOf r ≡ readAs Kind.EndOfMessage (now (s .entry)) ⌝ }
 {
-    let Row {
-        layout,
-        takes_rest,
-        check,
-    } = row_of(kind);
-    let size = size_in(layout, s);
-    let passed = passes(check, s);
-    if s.len() < size {
-        return Measured::Refused(Refusal::CutShort);
+    if 0 < s.len() {
+        return Read::Refused(Refusal::LeftOver);
     }
-    if left_over(takes_rest, s.len() - size) {
-        return Measured::Refused(Refusal::LeftOver);
-    }
-    if passed {
-        return Measured::Bytes(size);
-    }
-    Measured::Refused(Refusal::BadValue)
-}
-
-// The record of a kind, once its bytes are known to be there.
-fn record_of(kind: Kind, s: &[u8]) -> Read
-    ensures { λ r. ⌜ readOf r ≡ readKind kind (now (s .entry)) ⌝ }
-{
-    match measure_kind(kind, s) {
-        Measured::Bytes(consumed) => Read::Got {
-            record: record_in(kind, s),
-            consumed,
-        },
-        Measured::Refused(refusal) => Read::Refused(refusal),
+    Read::Got {
+        record: Record::EndOfMessage,
+        consumed: 0,
     }
 }
 
-// A value of each kind.
-fn read_end_of_message(s: &[u8]) -> Read
-    ensures { λ r. ⌜ readOf r ≡ readKind Kind.EndOfMessage (now (s .entry)) ⌝ }
+pub(crate) fn read_al_mac_address(s: &[u8]) -> Read
+    ensures { λ r. ⌜ readOf r ≡ readAs Kind.AlMacAddress (now (s .entry)) ⌝ }
 {
-    record_of(Kind::EndOfMessage, s)
+    fixed(6, true, Record::AlMacAddress(address_at(s, 0)), s)
 }
 
-fn read_al_mac_address(s: &[u8]) -> Read
-    ensures { λ r. ⌜ readOf r ≡ readKind Kind.AlMacAddress (now (s .entry)) ⌝ }
+pub(crate) fn read_mac_address(s: &[u8]) -> Read
+    ensures { λ r. ⌜ readOf r ≡ readAs Kind.MacAddress (now (s .entry)) ⌝ }
 {
-    record_of(Kind::AlMacAddress, s)
+    fixed(6, true, Record::MacAddress(address_at(s, 0)), s)
 }
 
-fn read_mac_address(s: &[u8]) -> Read
-    ensures { λ r. ⌜ readOf r ≡ readKind Kind.MacAddress (now (s .entry)) ⌝ }
+pub(crate) fn read_searched_role(s: &[u8]) -> Read
+    ensures { λ r. ⌜ readOf r ≡ readAs Kind.SearchedRole (now (s .entry)) ⌝ }
 {
-    record_of(Kind::MacAddress, s)
+    let role = byte_at(s, 0);
+    fixed(1, role == 0, Record::SearchedRole(role), s)
 }
 
-fn read_searched_role(s: &[u8]) -> Read
-    ensures { λ r. ⌜ readOf r ≡ readKind Kind.SearchedRole (now (s .entry)) ⌝ }
+pub(crate) fn read_supported_role(s: &[u8]) -> Read
+    ensures { λ r. ⌜ readOf r ≡ readAs Kind.SupportedRole (now (s .entry)) ⌝ }
 {
-    record_of(Kind::SearchedRole, s)
+    let role = byte_at(s, 0);
+    fixed(1, role == 0, Record::SupportedRole(role), s)
 }
 
-fn read_supported_role(s: &[u8]) -> Read
-    ensures { λ r. ⌜ readOf r ≡ readKind Kind.SupportedRole (now (s .entry)) ⌝ }
+pub(crate) fn read_supported_freq_band(s: &[u8]) -> Read
+    ensures { λ r. ⌜ readOf r ≡ readAs Kind.SupportedFreqBand (now (s .entry)) ⌝ }
 {
-    record_of(Kind::SupportedRole, s)
+    let band = SupportedFreqBand::from_u8(byte_at(s, 0));
+    fixed(1, true, Record::SupportedFreqBand(band), s)
 }
 
-fn read_supported_freq_band(s: &[u8]) -> Read
-    ensures { λ r. ⌜ readOf r ≡ readKind Kind.SupportedFreqBand (now (s .entry)) ⌝ }
+pub(crate) fn read_ieee1905_profile_version(s: &[u8]) -> Read
+    ensures { λ r. ⌜ readOf r ≡ readAs Kind.Ieee1905ProfileVersion (now (s .entry)) ⌝ }
 {
-    record_of(Kind::SupportedFreqBand, s)
+    let version = Ieee1905ProfileVersion::from_u8(byte_at(s, 0));
+    fixed(1, true, Record::Ieee1905ProfileVersion(version), s)
 }
 
-fn read_ieee1905_profile_version(s: &[u8]) -> Read
-    ensures { λ r. ⌜ readOf r ≡ readKind Kind.Ieee1905ProfileVersion (now (s .entry)) ⌝ }
+pub(crate) fn read_link_metric_result_code(s: &[u8]) -> Read
+    ensures { λ r. ⌜ readOf r ≡ readAs Kind.LinkMetricResultCode (now (s .entry)) ⌝ }
 {
-    record_of(Kind::Ieee1905ProfileVersion, s)
-}
-
-fn read_link_metric_result_code(s: &[u8]) -> Read
-    ensures { λ r. ⌜ readOf r ≡ readKind Kind.LinkMetricResultCode (now (s .entry)) ⌝ }
-{
-    record_of(Kind::LinkMetricResultCode, s)
-}
-
-fn read_link_metric_query(s: &[u8]) -> Read
-    ensures { λ r. ⌜ readOf r ≡ readKind Kind.LinkMetricQuery (now (s .entry)) ⌝ }
-{
-    record_of(Kind::LinkMetricQuery, s)
-}
-
-fn read_client_association(s: &[u8]) -> Read
-    ensures { λ r. ⌜ readOf r ≡ readKind Kind.ClientAssociation (now (s .entry)) ⌝ }
-{
-    record_of(Kind::ClientAssociation, s)
-}
-
-fn read_multi_ap_profile(s: &[u8]) -> Read
-    ensures { λ r. ⌜ readOf r ≡ readKind Kind.MultiApProfile (now (s .entry)) ⌝ }
-{
-    record_of(Kind::MultiApProfile, s)
-}
-
-fn read_profile2_ap_capability(s: &[u8]) -> Read
-    ensures { λ r. ⌜ readOf r ≡ readKind Kind.Profile2ApCapability (now (s .entry)) ⌝ }
-{
-    record_of(Kind::Profile2ApCapability, s)
-}
-
-// A value of a kind.
-pub(crate) fn read_kind(kind: Kind, s: &[u8]) -> Read
-    ensures { λ r. ⌜ readOf r ≡ readKind kind (now (s .entry)) ⌝ }
-{
-    match kind {
-        Kind::EndOfMessage => read_end_of_message(s),
-        Kind::AlMacAddress => read_al_mac_address(s),
-        Kind::MacAddress => read_mac_address(s),
-        Kind::SearchedRole => read_searched_role(s),
-        Kind::SupportedRole => read_supported_role(s),
-        Kind::SupportedFreqBand => read_supported_freq_band(s),
-        Kind::Ieee1905ProfileVersion => read_ieee1905_profile_version(s),
-        Kind::LinkMetricResultCode => read_link_metric_result_code(s),
-        Kind::LinkMetricQuery => read_link_metric_query(s),
-        Kind::ClientAssociation => read_client_association(s),
-        Kind::MultiApProfile => read_multi_ap_profile(s),
-        Kind::Profile2ApCapability => read_profile2_ap_capability(s),
-    }
-}
-
-// Bytes that a layout takes of the value s.
-fn size_in(layout: Layout, s: &[u8]) -> usize
-    ensures { λ r. ⌜ r ≡ sizeIn layout (now (s .entry)) ⌝ }
-{
-    match layout {
-        Layout::Fixed(size) => size,
-        Layout::Query => query_size(byte_at(s, 0)),
-    }
+    let result = LinkMetricResultCode::from_u8(byte_at(s, 0));
+    fixed(1, true, Record::LinkMetricResultCode(result), s)
 }
 
 // Only a query about one neighbour, whose first byte is 1, has an address.
-fn query_size(first: u8) -> usize
-    ensures { λ r. ⌜ r ≡ querySize first ⌝ }
-{
-    match first {
-        1 => 8,
-        _ => 2,
-    }
-}
-
-// Whether there are bytes behind the layout that are refused.
-fn left_over(taken: bool, rest: usize) -> bool
-    ensures { λ r. ⌜ r ≡ surplus taken rest ⌝ }
-{
-    if taken { false } else { 0 < rest }
-}
-
-// Whether the values in the layout are taken.
-fn passes(check: Check, s: &[u8]) -> bool
-    ensures { λ r. ⌜ r ≡ passing check (now (s .entry)) ⌝ }
-{
-    match check {
-        Check::Any => true,
-        Check::Zero => byte_at(s, 0) == 0,
-        Check::NotZero => 0 < byte_at(s, 0),
-        Check::HighBitOnly => byte_at(s, 12) % 128 == 0,
-    }
-}
-
-// The record in the bytes of a kind's layout.
-fn record_in(kind: Kind, s: &[u8]) -> Record
-    ensures { λ r. ⌜ r ≡ recordIn kind (now (s .entry)) ⌝ }
-{
-    let first = byte_at(s, 0);
-    match kind {
-        Kind::EndOfMessage => Record::EndOfMessage,
-        Kind::AlMacAddress => Record::AlMacAddress(address_at(s, 0)),
-        Kind::MacAddress => Record::MacAddress(address_at(s, 0)),
-        Kind::SearchedRole => Record::SearchedRole(first),
-        Kind::SupportedRole => Record::SupportedRole(first),
-        Kind::SupportedFreqBand => Record::SupportedFreqBand(SupportedFreqBand::from_u8(first)),
-        Kind::Ieee1905ProfileVersion =>
-            Record::Ieee1905ProfileVersion(Ieee1905ProfileVersion::from_u8(first)),
-        Kind::LinkMetricResultCode => Record::LinkMetricResultCode(LinkMetricResultCode::from_u8(
-            first,
-        )),
-        Kind::LinkMetricQuery => Record::LinkMetricQuery(query_in(s)),
-        Kind::ClientAssociation => Record::ClientAssociation(association_in(s)),
-        Kind::MultiApProfile => Record::MultiApProfile(MultiApProfile::from_u8(first)),
-        Kind::Profile2ApCapability => Record::Profile2ApCapability(capability_in(s)),
-    }
-}
-
-fn query_in(s: &[u8]) -> LinkMetricQuery
-    ensures { λ r. ⌜ r ≡ queryIn (now (s .entry)) ⌝ }
+pub(crate) fn read_link_metric_query(s: &[u8]) -> Read
+    ensures { λ r. ⌜ readOf r ≡ readAs Kind.LinkMetricQuery (now (s .entry)) ⌝ }
 {
     let neighbor_type = byte_at(s, 0);
     if neighbor_type == 1 {
-        LinkMetricQuery {
+        let query = LinkMetricQuery {
             neighbor_type,
             neighbor_mac: NeighborMac::Address(address_at(s, 1)),
             requested_metrics: byte_at(s, 7),
-        }
-    } else {
-        LinkMetricQuery {
-            neighbor_type,
-            neighbor_mac: NeighborMac::None,
-            requested_metrics: byte_at(s, 1),
-        }
+        };
+        return fixed(8, true, Record::LinkMetricQuery(query), s);
     }
+    let query = LinkMetricQuery {
+        neighbor_type,
+        neighbor_mac: NeighborMac::None,
+        requested_metrics: byte_at(s, 1),
+    };
+    fixed(2, true, Record::LinkMetricQuery(query), s)
 }
 
-fn association_in(s: &[u8]) -> ClientAssociation
-    ensures { λ r. ⌜ r ≡ associationIn (now (s .entry)) ⌝ }
+pub(crate) fn read_client_association(s: &[u8]) -> Read
+    ensures { λ r. ⌜ readOf r ≡ readAs Kind.ClientAssociation (now (s .entry)) ⌝ }
 {
-    ClientAssociation {
+    let last = byte_at(s, 12);
+    let association = ClientAssociation {
         sta_mac: address_at(s, 0),
         ap_mac: address_at(s, 6),
-        association_state: AssociationState::from_u8(byte_at(s, 12)),
-    }
+        association_state: AssociationState::from_u8(last),
+    };
+    fixed(
+        13,
+        last % 128 == 0,
+        Record::ClientAssociation(association),
+        s,
+    )
+}
+
+pub(crate) fn read_multi_ap_profile(s: &[u8]) -> Read
+    ensures { λ r. ⌜ readOf r ≡ readAs Kind.MultiApProfile (now (s .entry)) ⌝ }
+{
+    let first = byte_at(s, 0);
+    let profile = MultiApProfile::from_u8(first);
+    fixed(1, 0 < first, Record::MultiApProfile(profile), s)
 }
 
 // The third byte: units in bits 7-6, flags in bits 5, 4 and 3, and three reserved bits, which are kept.
-fn capability_in(s: &[u8]) -> Profile2ApCapability
-    ensures { λ r. ⌜ r ≡ capabilityIn (now (s .entry)) ⌝ }
+pub(crate) fn read_profile2_ap_capability(s: &[u8]) -> Read
+    ensures { λ r. ⌜ readOf r ≡ readAs Kind.Profile2ApCapability (now (s .entry)) ⌝ }
 {
     let flags = byte_at(s, 2);
-    Profile2ApCapability {
+    let capability = Profile2ApCapability {
         max_prioritization_rules: byte_at(s, 0),
         reserved: byte_at(s, 1),
         byte_counter_units: ByteCounterUnits::from_u8(flags / 64),
@@ -262,7 +139,24 @@ fn capability_in(s: &[u8]) -> Profile2ApCapability
         traffic_separation: flags / 8 % 2 == 1,
         flags_reserved: flags % 8,
         max_vids: byte_at(s, 3),
+    };
+    fixed(4, true, Record::Profile2ApCapability(capability), s)
+}
+
+// A layout of so many bytes, and the record in them: the value may end inside the layout, or hold what its kind refuses. Bytes behind it are the rest.
+fn fixed(size: usize, accepted: bool, item: Record, s: &[u8]) -> Read
+    ensures { λ r. ⌜ readOf r ≡ fixed size accepted item (now (s .entry)) ⌝ }
+{
+    if s.len() < size {
+        return Read::Refused(Refusal::CutShort);
     }
+    if accepted {
+        return Read::Got {
+            record: item,
+            consumed: size,
+        };
+    }
+    Read::Refused(Refusal::BadValue)
 }
 
 // The address in the six bytes from p; the layouts have addresses at 0, 1 and 6.

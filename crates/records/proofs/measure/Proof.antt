@@ -1,32 +1,27 @@
--- What the code says, and then the kind's size.
-use mathlib.Core.Path.{sym, _∙_, ap}
-use Rattle.records.specs.Reading.{knownOf, sizeOf}
-use Rattle.records.proofs.Ways.{by-code}
+-- What reading consumes.
+use mathlib.Core.Path.{sym, ap, _∙_}
+use Rattle.numbers.specs.Numbers.{mapped}
+use Rattle.records.specs.Reading.{Reading, readOf}
 use borrow.Author.Needs.{needs}
 use Rattle.records.proofs.measure.Statement.{statement}
 use Rattle.records.proofs.measure.Tie as tie
 
-kind-of-requires : tie.Need-kind-of-requires
-kind-of-requires c κs = search needs
+read-record-requires : tie.Need-read-record-requires
+read-record-requires c κs = search needs
 
-enum-known-kind : tie.Need-enum-known-kind
-enum-known-kind c = search needs
+enum-known-consumed : tie.Need-enum-known-consumed
+enum-known-consumed c = search needs
 
-measure-kind-requires : tie.Need-measure-kind-requires
-measure-kind-requires c κs = search needs
-
-enum-told : tie.Need-enum-told
-enum-told c = search needs
+enum-known-refusal : tie.Need-enum-known-refusal
+enum-known-refusal c = search needs
 
 returns : tie.Need-returns
-returns c =
-    let k = c .before .before in
-    c .measure-kind .ensures ∙ ap sizeOf (by-code _ _ _ (ap knownOf (sym (k .kind .given .1)) ∙ k .before .before .kind-of .ensures))
+returns c = ap (mapped (λ (x : Reading). x .consumed)) (ap readOf (sym (c .before .consumed .given .1)) ∙ c .before .before .before .read-record .ensures)
 
 returns-2 : tie.Need-returns-2
-returns-2 c = ap sizeOf (by-code _ _ _ (ap knownOf (sym (c .enum-told .given .1)) ∙ c .before .before .kind-of .ensures))
+returns-2 c = ap (mapped (λ (x : Reading). x .consumed)) (ap readOf (sym (c .before .refusal .given .1)) ∙ c .before .before .before .read-record .ensures)
 
 pub measure-spec : {M : Type 1} → statement M
 measure-spec =
     tie.close
-    (tie.spec kind-of-requires enum-known-kind measure-kind-requires enum-told returns returns-2)
+    (tie.spec read-record-requires enum-known-consumed enum-known-refusal returns returns-2)

@@ -1,0 +1,49 @@
+-- What is claimed of this crate's calls; proofs/Claims.antt proves it.
+use mathlib.Core.Path.{_≡_}
+use mathlib.Core.Bool.{true, false}
+use mathlib.Core.List.{List, [], _++_}
+use Prim.Native.Nat.{ℕ, _+_, _<_}
+use lib.ListN.{length, getD, take}
+use Rattle.numbers.specs.Numbers.{gives}
+use Rattle.numbers.specs.Firmness.{Firm}
+use Rattle.framing.specs.declared.Written.{Written}
+use Rattle.framing.specs.Tlv.{readTlv, valueIn, tlvBytes, writtenOf, leaves}
+use Rattle.records.specs.declared.Record.{Record}
+use Rattle.records.specs.Values.{bytesOf}
+use Rattle.records.specs.Kinds.{codeOf, kindOf}
+use Rattle.records.specs.Reading.{Reading, readRecord}
+use Rattle.record_writing.specs.Writing.{readable, valueSize, recordSize}
+
+-- each public call by its name: any two answers that its contract allows are one, with what the lent buffer holds afterwards
+pub record Firmness : Type 0 where
+  pub size-of : (item : Record) → Firm (λ n. n ≡ length (bytesOf item))
+  pub write-value : (item : Record) (out : List ℕ) → Firm {A = Written × List ℕ} (λ o.
+      (writtenOf (o .0) ≡ valueSize item (length out))
+      × (o .1 ≡ leaves (valueSize item (length out)) (bytesOf item) out))
+  pub write-record : (item : Record) (out : List ℕ) → Firm {A = Written × List ℕ} (λ o.
+      (writtenOf (o .0) ≡ recordSize item (length out))
+      × (o .1 ≡ leaves (recordSize item (length out)) (tlvBytes (codeOf (kindOf item)) (bytesOf item)) out))
+
+-- each element is a byte
+abbrev pub Bytes : List ℕ → Type 0
+Bytes s = (i : ℕ) → getD s i 0 < 256
+
+-- what was read, written again: under the code that was read, as the bytes that were consumed, which alone read as the same
+pub record Rewritten (code : ℕ) (s : List ℕ) (x : Reading) : Type 0 where
+  pub own : codeOf (kindOf (x .value)) ≡ code
+  pub bytes : bytesOf (x .value) ≡ take (x .consumed) s
+  pub writable : readable (x .value) ≡ true
+  pub alone : readRecord code (take (x .consumed) s) ≡ gives x
+
+-- Round trips, for every kind that is a record. So 9 is given exactly for the records that reading never gives.
+pub record RoundTrips : Type 0 where
+  -- a record's bytes, with anything behind them but for the end marker, which allows nothing, read as the record
+  pub read-back : (item : Record) (rest : List ℕ) → readable item ≡ true → (item ≡ Record.EndOfMessage → rest ≡ []) →
+      readRecord (codeOf (kindOf item)) (bytesOf item ++ rest) ≡ gives (record { value = item; consumed = length (bytesOf item) })
+  -- the TLV of a record, with anything behind it, reads as a TLV, and its value as the record
+  pub tlv-back : (item : Record) (rest : List ℕ) → readable item ≡ true → let t = tlvBytes (codeOf (kindOf item)) (bytesOf item) ++ rest in
+      (readTlv t ≡ gives (record { tlv-type = codeOf (kindOf item); value-length = length (bytesOf item); consumed = 3 + length (bytesOf item) }))
+      × (readRecord (codeOf (kindOf item)) (valueIn (readTlv t) t) ≡ gives (record { value = item; consumed = length (bytesOf item) }))
+  pub write-back : (code : ℕ) (s : List ℕ) (x : Reading) → Bytes s → readRecord code s ≡ gives x → Rewritten code s x
+  -- no bytes read as a record that is refused by 9
+  pub never-read : (item : Record) (code : ℕ) (s : List ℕ) (x : Reading) → readable item ≡ false → Bytes s → readRecord code s ≡ gives x → x .value ≡ item → ⊥

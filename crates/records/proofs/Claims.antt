@@ -1,0 +1,37 @@
+-- The claims of specs/Claims.antt, proved.
+use mathlib.Core.Path.{_≡_, sym, ap}
+use Prim.Native.Nat.{ℕ}
+use Rattle.numbers.proofs.Answers.{given}
+use Rattle.numbers.proofs.Firm.{firm, never, by-equation, by-telling}
+use Rattle.records.specs.declared.Read.{Read}
+use Rattle.records.specs.declared.Measured.{Measured}
+use Rattle.records.specs.Reading.{Reading, readOf, measuredOf}
+use Rattle.records.specs.Claims.{Firmness, OwnCodes, Inside}
+use Rattle.records.proofs.Ways.{by-kind}
+use Rattle.records.proofs.Given.{consumed-within}
+
+read-one : (a b : Read) → readOf a ≡ readOf b → a ≡ b
+read-one (Read.Got r n) (Read.Got r′ n′) e = ap (λ (x : Reading). Read.Got (x .value) (x .consumed)) (given _ _ e)
+read-one (Read.Got r n) (Read.Refused f) e = never _ _ _ e
+read-one (Read.Refused f) (Read.Got r n) e = never _ _ _ (sym e)
+read-one (Read.Refused f) (Read.Refused g) e = ap Read.Refused (firm Reading f g e)
+
+measured-one : (a b : Measured) → measuredOf a ≡ measuredOf b → a ≡ b
+measured-one (Measured.Bytes n) (Measured.Bytes m) e = ap Measured.Bytes (given n m e)
+measured-one (Measured.Bytes n) (Measured.Refused f) e = never _ _ _ e
+measured-one (Measured.Refused f) (Measured.Bytes n) e = never _ _ _ (sym e)
+measured-one (Measured.Refused f) (Measured.Refused g) e = ap Measured.Refused (firm ℕ f g e)
+
+pub firmness : Firmness
+firmness = record {
+  read-record = λ code s. by-telling readOf read-one _;
+  code-of = λ item. by-equation _;
+  is-record = λ code. by-equation _;
+  measure = λ code s. by-telling measuredOf measured-one _;
+}
+
+pub own-codes : OwnCodes
+own-codes = by-kind
+
+pub inside : Inside
+inside = consumed-within

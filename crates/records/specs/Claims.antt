@@ -1,0 +1,25 @@
+-- What is claimed of this crate's calls; proofs/Claims.antt proves it.
+use mathlib.Core.Path.{_≡_}
+use mathlib.Core.List.{List}
+use Prim.Native.Nat.{ℕ, _≤_}
+use lib.ListN.{length}
+use Rattle.numbers.specs.Numbers.{gives, mapped}
+use Rattle.numbers.specs.Firmness.{Firm}
+use Rattle.records.specs.declared.Record.{Record}
+use Rattle.records.specs.Kinds.{Kind, codeOf, kindOf}
+use Rattle.records.specs.Reading.{Reading, readOf, measuredOf, isRecord, readAs, readRecord}
+
+-- each public call by its name: any two answers that its contract allows are one
+pub record Firmness : Type 0 where
+  pub read-record : (code : ℕ) (s : List ℕ) → Firm (λ r. readOf r ≡ readRecord code s)
+  pub code-of : (item : Record) → Firm (λ n. n ≡ codeOf (kindOf item))
+  pub is-record : (code : ℕ) → Firm (λ b. b ≡ isRecord code)
+  pub measure : (code : ℕ) (s : List ℕ) → Firm (λ m. measuredOf m ≡ mapped (λ x. x .consumed) (readRecord code s))
+
+-- no two kinds have one code: a kind's code reads as that kind
+abbrev pub OwnCodes : Type 0
+OwnCodes = (k : Kind) (s : List ℕ) → readRecord (codeOf k) s ≡ readAs k s
+
+-- what was consumed lies in the value, so that the rest is what stands behind it
+abbrev pub Inside : Type 0
+Inside = (code : ℕ) (s : List ℕ) (x : Reading) → readRecord code s ≡ gives x → x .consumed ≤ length s
