@@ -12,6 +12,7 @@ use Rattle.table.specs.declared.Table.{Table}
 use Rattle.pushing.specs.declared.Arrival.{Arrival}
 use Rattle.table.specs.Rows.{Place, ownerOf, freePlace, placeAt, isRowOf, rowOf, isSpare, isNumbered, placeOf, isFree, lowestFree, withKey, withPlace, without, bytesAt}
 use Rattle.pushing.specs.Joining.{kept, heldIn, heldBy, since, firstTime}
+pub use Rattle.pushing.specs.Claims.{Untouched}
 use Rattle.pushing.specs.Push.{Way, way, tableBy, storeBy, placeFor}
 use Rattle.table.proofs.Search.{lowest-holds, lowest-same}
 use Rattle.table.proofs.Places.{put-here, put-elsewhere, freed-at}
@@ -83,10 +84,6 @@ module _ (t t′ : Table) (store store′ : List ℕ) (row : ℕ) (same : Same t
       by-found false e =
           let out : 32 ≤ placeOf t′ row number = omega (arith, same-place number, ltb-false (placeOf t row number) 32 e) in
           kept-out t′ store′ (placeOf t′ row number) out ∙ sym (kept-out t store (placeOf t row number) (ltb-false _ _ e))
-
--- the whole view of a key
-abbrev pub Untouched : (key : ℕ) (t t′ : Table) (store store′ : List ℕ) → Type 0
-Untouched key t t′ store store′ = ((number : ℕ) → heldBy t′ store′ key number ≡ heldBy t store key number) × (firstTime t′ key ≡ firstTime t key)
 
 untouched-by : (key : ℕ) (t t′ : Table) (store store′ : List ℕ) → rowOf t′ key ≡ rowOf t key → (rowOf t key < 16 → getD (t′ .firsts) (rowOf t key) 0 ≡ getD (t .firsts) (rowOf t key) 0)
     → Same t t′ store store′ (rowOf t key) → Untouched key t t′ store store′

@@ -9,3 +9,4 @@ pub mod Apart
 pub mod Calls
 pub mod Own
 pub mod Aged
+pub mod Claims

@@ -3,3 +3,4 @@ pub mod Push
 pub mod Show
 pub mod Made
 pub mod PrivateSteps
+pub mod Claims

@@ -1,0 +1,53 @@
+-- What is claimed of push and of the tables that these calls make; proofs/Claims.antt proves it.
+use mathlib.Core.Path.{_≡_}
+use mathlib.Core.List.{List, []}
+use Prim.Native.Nat.{ℕ, _<_}
+use lib.ListN.{length}
+use Rattle.numbers.specs.Firmness.{Firm}
+use Rattle.table.specs.declared.Table.{Table}
+use Rattle.table.specs.Rows.{freshTable}
+use Rattle.table.specs.Sound.{Sound}
+use Rattle.sweeping.specs.declared.Counts.{Counts}
+use Rattle.sweeping.specs.Sweep.{swept, sweptAs}
+use Rattle.pushing.specs.declared.Arrival.{Arrival}
+use Rattle.pushing.specs.declared.Pushed.{Pushed}
+use Rattle.pushing.specs.declared.Stepped.{Stepped}
+use Rattle.pushing.specs.Joining.{heldBy, firstTime}
+use Rattle.pushing.specs.Push.{way, tableBy, storeBy, outputBy, answerBy, Goes}
+use Rattle.pushing.specs.Show.{shown}
+use Rattle.pushing.specs.Made.{Made}
+
+-- any two outcomes that its contract allows are one: the answer and the table, every byte of the store and of the output
+pub record Firmness : Type 0 where
+  pub push-step : (t : Table) (store out : List ℕ) (a : Arrival) (payload : List ℕ)
+      → Firm {A = Stepped × List ℕ × List ℕ} (λ o. Goes (way t store a payload (length out)) t store out a payload (o .0 .answer) (o .0 .table) (o .1) (o .2))
+
+-- a table that these calls made stays one, by what each call ensures: the next may be called on what the last one left
+abbrev pub FreshMade : Type 0
+FreshMade = (t : Table) → t ≡ freshTable → Made t
+
+-- a fragment's number is one byte
+abbrev pub PushMade : Type 0
+PushMade = (t : Table) (store out : List ℕ) (a : Arrival) (payload : List ℕ) (answer′ : Pushed) (t′ : Table) (store′ out′ : List ℕ) → Made t → a .fragment .number < 256
+    → Goes (way t store a payload (length out)) t store out a payload answer′ t′ store′ out′ → Made t′
+
+abbrev pub SweepMade : Type 0
+SweepMade = (t : Table) (time : ℕ) (t′ : Table) (counts : Counts) → Made t → sweptAs t′ counts ≡ swept t time → Made t′
+
+-- and it is sound
+abbrev pub MadeSound : Type 0
+MadeSound = (t : Table) → Made t → Sound t
+
+-- what a key holds, and its first time, are the same in two tables
+abbrev pub Untouched : (key : ℕ) (t t′ : Table) (store store′ : List ℕ) → Type 0
+Untouched key t t′ store store′ = ((number : ℕ) → heldBy t′ store′ key number ≡ heldBy t store key number) × (firstTime t′ key ≡ firstTime t key)
+
+-- a push under another key, refused or not, leaves them so
+abbrev pub PushUntouched : Type 0
+PushUntouched = (t : Table) → Sound t → (store : List ℕ) (a : Arrival) (payload : List ℕ) (room key : ℕ) → (a .key ≡ key → ⊥)
+    → Untouched key t (tableBy (way t store a payload room) t a (length payload)) store (storeBy (way t store a payload room) store payload)
+
+-- what is shown of a push is the same whatever the output held
+abbrev pub ShownSame : Type 0
+ShownSame = (t : Table) (store : List ℕ) (a : Arrival) (payload : List ℕ) (room : ℕ) (out : List ℕ)
+    → shown (answerBy (way t store a payload room)) payload (outputBy (way t store a payload room) out) ≡ shown (answerBy (way t store a payload room)) payload (outputBy (way t store a payload room) [])
