@@ -4,14 +4,14 @@ use Rattle.framing.specs.Tlv.{readTlv}
 use Rattle.walking.specs.Walk.{walkOf, walkFrom}
 use Rattle.records.specs.Reading.{empty, fixed, readRecord}
 use Rattle.layouts.specs.Layouts.{layoutOf, isList}
-use Rattle.layouts.specs.Reading.{countAt, listOf, entriesEnd, endOf, readAs, readValue}
+use Rattle.layouts.specs.Reading.{countAt, listOf, entriesEnd, endOf, consumedTo, readAs, readValue}
 use Rattle.layouts.specs.Access.{childAt, findEntry, spanOf, ofValue, locateEntry}
 use Rattle.kinds.specs.Kinds.{readKind, locateKind}
 use Rattle.orders.proofs.Examples.{stays-at-2999, goes-at-3000, zero-then-last-one, last-one-alone}
 use Rattle.examples.specs.Examples.{Examples}
 
 pub examples : Examples
-unfolding readTlv walkOf walkFrom empty fixed readRecord layoutOf isList countAt listOf entriesEnd endOf readAs readValue childAt findEntry spanOf ofValue locateEntry readKind locateKind
+unfolding readTlv walkOf walkFrom empty fixed readRecord layoutOf isList countAt listOf entriesEnd endOf consumedTo readAs readValue childAt findEntry spanOf ofValue locateEntry readKind locateKind
 examples = record {
   empty = refl;
   two-bytes = refl;

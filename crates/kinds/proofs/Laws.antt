@@ -16,7 +16,7 @@ use Rattle.records.proofs.Given.{isKnown, known, consumed-within as record-with
 use Rattle.layouts.specs.Layouts.{isList}
 use Rattle.layouts.specs.Reading.{Consumed, readValue}
 use Rattle.layouts.specs.Access.{Span, locateEntry, countEntries, partOf}
-use Rattle.layouts.proofs.Facts.{consumed-within as list-within}
+use Rattle.layouts.proofs.Claims.{values as list-values}
 use Rattle.kinds.specs.Kinds.{Typed, list, one, isKind, oneRecord, oneList, readKind, withoutRecord, noEntryIn, locateKind, countKind}
 use Rattle.kinds.specs.Writing.{writeKind, kindBytes}
 
@@ -96,7 +96,7 @@ module _ (code : ℕ) (s : List ℕ) where
 
   list-in : (x : Answer Consumed) → x ≡ readValue code s → (t : Typed Record) → gives t ≡ mapped oneList x → Within t
   list-in (gives c) e t g =
-      let h = list-within code s c (sym e) in
+      let h = list-values .consumed-within code s c (sym e) in
       let is : t ≡ oneList c = given t (oneList c) g in
       rw is (record { inside = h .0; all = h .1 })
   list-in (refuses n vs) e t g = never _ _ _ g

@@ -1,113 +1,150 @@
--- What a counted layout reads depends on the consumed bytes alone: other bytes that agree up to its end read the same.
-use mathlib.Core.Path.{_≡_, refl}
+-- What a counted layout reads depends on the consumed bytes alone: in other bytes that agree up to its end, it and every entry in it read the same.
+use mathlib.Core.Path.{_≡_, refl, sym, ap, _∙_}
 use mathlib.Core.Bool.{Bool, true, false, cond}
-use mathlib.Core.List.{List}
-use Prim.Native.Nat.{ℕ, zero, suc, _+_, _*_, _<_, _≤_}
+use mathlib.Core.List.{List, [], _∷_}
+use Prim.Native.Nat.{ℕ, zero, suc, _+_, _<_, _≤_}
 use native.Mathlib.Omega.{arith}
 use lib.ListN.{length, getD, take}
 use lib.Seq.{getD-take, length-take-le}
-use lib.Dec.{leb, T}
-use borrow.Author.Tests.{leb-true, le-leb}
-use Rattle.layouts.specs.declared.lists.End.{End}
-use Rattle.layouts.specs.declared.lists.End.the-variants.{At, Short}
-use Rattle.layouts.specs.declared.lists.Listing.{Listing}
-use Rattle.layouts.specs.declared.lists.Listing.the-variants.{Of, Missing}
+use lib.Dec.{ltb, T}
+use borrow.Author.Tests.{ltb-true}
+use Rattle.numbers.specs.Numbers.{Answer, gives, refuses, andThen, mapped}
+use Rattle.numbers.proofs.Answers.{given, gave}
 use Rattle.layouts.specs.Layouts.{Counting, c1, c2, to-end, Layout, bytes, entry}
-use Rattle.layouts.specs.Reading.{thenEnd, thenList, headOf, countAt, listOf, entriesEnd, endOf}
-use Rattle.layouts.proofs.Laws.{list-leaf}
-use Rattle.layouts.proofs.Within.{Within, count-within, list-within, entries-within, end-within}
+use Rattle.layouts.specs.Reading.{reaching, Listed, headOf, countAt, listOf, entriesEnd, endOf}
+use Rattle.layouts.specs.Access.{childAt, below, Spot, findEntry, spanOf, lengthAt}
+use Rattle.layouts.proofs.Within.{Within, reaches, reached, count-within, behind-head, list-leaf, list-within, entries-within, ends-in, end-within}
+use Rattle.layouts.proofs.Reached.{child-reads, child-lies, find-lies}
+use Rattle.layouts.proofs.Table.{hasCount, allCounted}
 
--- no list of the layout goes to the end
-abbrev pub hasCount : Counting → Bool
-hasCount c1 = true
-hasCount c2 = true
-hasCount to-end = false
-
-abbrev pub allCounted : Layout → Bool
-allCounted (bytes n) = true
-allCounted (entry n w e) = cond (hasCount w) (allCounted e) false
-
--- t has m bytes or more, and the first m are those of s
+-- the first m bytes of t are those of s
 pub record Agree (m : ℕ) (s t : List ℕ) : Type 0 where
   pub long : m ≤ length t
   pub same : (i : ℕ) → i < m → getD t i 0 ≡ getD s i 0
-
--- one test and what it guards
-guarded : (b : Bool) (r : ℕ) (s : List ℕ) (x n q : ℕ) → cond b (Of x r) Missing ≡ Of n q → (x ≡ n) × (r ≡ q)
-guarded true r s x n q e = (cc, cc)
-guarded false r s x n q e = let z : _≡_ {A = ℕ} 0 1 = cc in absurd (omega arith)
-
-count-local : (w : Counting) (h : ℕ) (s t : List ℕ) (m p n q : ℕ) → T (hasCount w) → Agree m s t → q ≤ m → countAt w h s p ≡ Of n q → countAt w h t p ≡ Of n q
-unfolding countAt
-count-local c1 h s t m p n q c g l x =
-    let a = guarded (leb (p + 1) (length s)) (p + 1) s (getD s p 0) n q x in
-    let z = g .long in
-    let b = a .1 in
-    rw (le-leb (p + 1) (length t) (omega arith), g .same p (omega arith), a .0, a .1)
-count-local c2 h s t m p n q c g l x =
-    let a = guarded (leb (p + 2) (length s)) (p + 2) s (getD s p 0 * 256 + getD s (p + 1) 0) n q x in
-    let z = g .long in
-    let b = a .1 in
-    rw (le-leb (p + 2) (length t) (omega arith), g .same p (omega arith), g .same (p + 1) (omega arith), a .0, a .1)
-count-local to-end h s t m p n q c g l x = absurd c
-
-list-local : (l : Layout) (s t : List ℕ) (m p n q : ℕ) → T (allCounted l) → Agree m s t → q ≤ m → listOf l s p ≡ Of n q → listOf l t p ≡ Of n q
-unfolding listOf
-list-local (bytes k) s t m p n q c g l x = x
-list-local (entry k w e) s t m p n q c g l x = go (leb (p + k) (length s)) refl (hasCount w) refl c x where
-  go : (b : Bool) → leb (p + k) (length s) ≡ b → (d : Bool) → hasCount w ≡ d → T (cond d (allCounted e) false) →
-      cond b (countAt w (headOf e) s (p + k)) Missing ≡ Of n q → cond (leb (p + k) (length t)) (countAt w (headOf e) t (p + k)) Missing ≡ Of n q
-  go true y true d c x =
-      let z = g .long in
-      let within = count-within w (headOf e) s (p + k) n q (leb-true (p + k) (length s) y) x in
-      rw (le-leb (p + k) (length t) (omega arith)) (count-local w (headOf e) s t m (p + k) n q (rw d tt) g l x)
-  go false y true d c x = let z : _≡_ {A = ℕ} 0 1 = cc in absurd (omega arith)
-  go b y false d c x = absurd c
-
-entries-local : (f g : ℕ → End) (s : List ℕ) (m : ℕ) → ((p q : ℕ) → f p ≡ At q → Within p q s) → ((p q : ℕ) → q ≤ m → f p ≡ At q → g p ≡ At q) →
-    (n p q : ℕ) → q ≤ m → entriesEnd f n p ≡ At q → entriesEnd g n p ≡ At q
-unfolding entriesEnd
-entries-local f g s m w same zero p q l x = x
-entries-local f g s m w same (suc n) p q l x = go (λ r. entries-local f g s m w same n r q) (f p) refl x where
-  go : ((r : ℕ) → q ≤ m → entriesEnd f n r ≡ At q → entriesEnd g n r ≡ At q) →
-      (e : End) → f p ≡ e → thenEnd e (λ r. entriesEnd f n r) ≡ At q → thenEnd (g p) (λ r. entriesEnd g n r) ≡ At q
-  go rest (At r) e x =
-      let v = entries-within f s w n r q (w p r e .1) x in
-      rw (same p r (omega arith) e) (rest r l x)
-  go rest Short e x = let z : _≡_ {A = ℕ} 0 1 = cc in absurd (omega arith)
-
-deeper : (k : ℕ) (w : Counting) (e : Layout) → T (allCounted (entry k w e)) → T (allCounted e)
-deeper k c1 e c = c
-deeper k c2 e c = c
-deeper k to-end e c = absurd c
-
-pub end-local : (l : Layout) (s t : List ℕ) (m p q : ℕ) → T (allCounted l) → Agree m s t → q ≤ m → endOf l s p ≡ At q → endOf l t p ≡ At q
-unfolding endOf
-end-local (bytes n) s t m p q c g l x = go (leb (p + n) (length s)) x where
-  go : (b : Bool) → cond b (At (p + n)) Short ≡ At q → cond (leb (p + n) (length t)) (At (p + n)) Short ≡ At q
-  go true x = let y : p + n ≡ q = cc in let z = g .long in rw (le-leb (p + n) (length t) (omega arith)) x
-  go false x = let z : _≡_ {A = ℕ} 0 1 = cc in absurd (omega arith)
-end-local (entry n w e) s t m p q c g l x =
-    go (λ a b. end-local e s t m a b (deeper n w e c) g) (listOf (entry n w e) s p) refl x where
-      go : ((a b : ℕ) → b ≤ m → endOf e s a ≡ At b → endOf e t a ≡ At b) → (d : Listing) → listOf (entry n w e) s p ≡ d →
-          thenList d (λ k b. entriesEnd (endOf e s) k b) ≡ At q → thenList (listOf (entry n w e) t p) (λ k b. entriesEnd (endOf e t) k b) ≡ At q
-      go under (Of k b) y x =
-          let a = list-within (entry n w e) s p k b y in
-          let v = entries-within (endOf e s) s (end-within e s) k b q (a .1) x in
-          rw (list-local (entry n w e) s t m p k b c g (omega arith) y) (entries-local (endOf e s) (endOf e t) s m (end-within e s) under k b q l x)
-      go under Missing y x = let z : _≡_ {A = ℕ} 0 1 = cc in absurd (omega arith)
 
 -- the consumed bytes agree with the value
 pub taken : (q : ℕ) (s : List ℕ) → q ≤ length s → Agree q s (take q s)
 taken q s h = record { long = omega (arith, length-take-le q s h); same = λ i l. getD-take q s i 0 l }
 
--- the list of a value that reads is the same in the consumed bytes
-pub list-taken : (l : Layout) (s : List ℕ) (q n b : ℕ) → T (allCounted l) → endOf l s 0 ≡ At q → listOf l s 0 ≡ Of n b → listOf l (take q s) 0 ≡ Of n b
-unfolding endOf
-list-taken (bytes k) s q n b c x y = go y where
-  go : listOf (bytes k) s 0 ≡ Of n b → listOf (bytes k) (take q s) 0 ≡ Of n b
-  go y = let z = list-leaf k s 0 in let w : _≡_ {A = ℕ} 0 1 = cc in absurd (omega arith)
-list-taken (entry k w e) s q n b c x y =
-    let a = list-within (entry k w e) s 0 n b y in
-    let v = entries-within (endOf e s) s (end-within e s) n b q (a .1) (rw y at x) in
-    list-local (entry k w e) s (take q s) q 0 n b c (taken q s (v .1)) (v .0) y
+counted : (k : ℕ) (w : Counting) (e : Layout) → T (allCounted (entry k w e)) → T (hasCount w)
+counted k c1 e c = tt
+counted k c2 e c = tt
+counted k to-end e c = c
+
+counted-below : (l : Layout) → T (allCounted l) → T (allCounted (below l))
+counted-below (bytes n) c = c
+counted-below (entry k c1 e) c = c
+counted-below (entry k c2 e) c = c
+counted-below (entry k to-end e) c = absurd c
+
+module _ (s t : List ℕ) (m : ℕ) (g : Agree m s t) where
+  count-local : (w : Counting) (h p : ℕ) (x : Listed) → T (hasCount w) → x .first ≤ m → countAt w h s p ≡ gives x → countAt w h t p ≡ gives x
+  unfolding countAt
+  count-local c1 h p x c l y =
+      let a = reached (p + 1) s _ x y in
+      let z : p + 1 ≡ x .first = ap (λ x. x .first) (a .1) in
+      let long = g .long in
+      rw (g .same p (omega arith)) (reaches (p + 1) t _ (omega arith) ∙ ap gives (a .1))
+  count-local c2 h p x c l y =
+      let a = reached (p + 2) s _ x y in
+      let z : p + 2 ≡ x .first = ap (λ x. x .first) (a .1) in
+      let long = g .long in
+      rw (g .same p (omega arith), g .same (p + 1) (omega arith)) (reaches (p + 2) t _ (omega arith) ∙ ap gives (a .1))
+  count-local to-end h p x c l y = absurd c
+
+  list-local : (l : Layout) (p : ℕ) (x : Listed) → T (allCounted l) → x .first ≤ m → listOf l s p ≡ gives x → listOf l t p ≡ gives x
+  unfolding listOf
+  list-local (bytes k) p x c b y = y
+  list-local (entry k w e) p x c b y =
+      let a = behind-head k w e s p x y in
+      let z = count-within w (headOf e) s (p + k) x (a .head) (a .counts) in
+      let long = g .long in
+      rw (reaches (p + k) t (p + k) (omega arith)) (count-local w (headOf e) (p + k) x (counted k w e c) b (a .counts))
+
+  entries-local : (f f′ : ℕ → Answer ℕ) → ((p q : ℕ) → f p ≡ gives q → Within p q s) → ((p q : ℕ) → q ≤ m → f p ≡ gives q → f′ p ≡ gives q) →
+      (n p q : ℕ) → q ≤ m → entriesEnd f n p ≡ gives q → entriesEnd f′ n p ≡ gives q
+  unfolding entriesEnd
+  entries-local f f′ w same zero p q b x = x
+  entries-local f f′ w same (suc n) p q b x =
+      let a = gave (f p) (λ r. entriesEnd f n r) q x in
+      let v = entries-within f s w n (a .first) q (w p (a .first) (a .is) .1) (a .then) in
+      rw (same p (a .first) (omega arith) (a .is)) (entries-local f f′ w same n (a .first) q b (a .then))
+
+  pub end-local : (l : Layout) (p q : ℕ) → T (allCounted l) → q ≤ m → endOf l s p ≡ gives q → endOf l t p ≡ gives q
+  unfolding endOf
+  end-local (bytes n) p q c b x =
+      let a = reached (p + n) s (p + n) q x in
+      let y = a .1 in
+      let long = g .long in
+      reaches (p + n) t (p + n) (omega arith) ∙ ap gives y
+  end-local (entry n w e) p q c b x =
+      let a = ends-in n w e s p q x in
+      let v = list-within (entry n w e) s p (a .list) (a .has) in
+      let u = entries-within (endOf e s) s (end-within e s) (a .list .many) (a .list .first) q (v .1) (a .ends) in
+      rw (list-local (entry n w e) p (a .list) c (omega arith) (a .has))
+      (entries-local (endOf e s) (endOf e t) (end-within e s) (λ a b. end-local e a b (counted-below (entry n w e) c)) (a .list .many) (a .list .first) q b (a .ends))
+
+  -- of an entry that reads in s: its list, each of its entries, and each that numbers lead to
+  module _ (l : Layout) (p q : ℕ) (c : T (allCounted l)) (b : q ≤ m) (x : endOf l s p ≡ gives q) where
+    pub list-alike : listOf l t p ≡ listOf l s p
+    list-alike = go l c x where
+      go : (l : Layout) → T (allCounted l) → endOf l s p ≡ gives q → listOf l t p ≡ listOf l s p
+      go (bytes n) c x = list-leaf n t p ∙ sym (list-leaf n s p)
+      go (entry n w e) c x =
+          let a = ends-in n w e s p q x in
+          let v = list-within (entry n w e) s p (a .list) (a .has) in
+          let u = entries-within (endOf e s) s (end-within e s) (a .list .many) (a .list .first) q (v .1) (a .ends) in
+          list-local (entry n w e) p (a .list) c (omega arith) (a .has) ∙ sym (a .has)
+
+    child-alike : (i : ℕ) → childAt l i t p ≡ childAt l i s p
+    unfolding childAt
+    child-alike i = rw list-alike (go (listOf l s p) refl) where
+      some : (y : Listed) → listOf l s p ≡ gives y → (d : Bool) → ltb i (y .many) ≡ d →
+          cond d (entriesEnd (endOf (below l) t) i (y .first)) (refuses 6 []) ≡ cond d (entriesEnd (endOf (below l) s) i (y .first)) (refuses 6 [])
+      some y e true d =
+          let n = child-reads l s p q i y x e (ltb-true i (y .many) d) in
+          let z = n .lies in
+          let w = end-within (below l) s (n .start) (z .stop) (z .reads) in
+          entries-local (endOf (below l) s) (endOf (below l) t) (end-within (below l) s) (λ a b. end-local (below l) a b (counted-below l c)) i (y .first) (n .start) (omega arith) (n .starts) ∙ sym (n .starts)
+      some y e false d = refl
+
+      go : (y : Answer Listed) → listOf l s p ≡ y →
+          andThen y (λ m. cond (ltb i (m .many)) (entriesEnd (endOf (below l) t) i (m .first)) (refuses 6 [])) ≡
+          andThen y (λ m. cond (ltb i (m .many)) (entriesEnd (endOf (below l) s) i (m .first)) (refuses 6 []))
+      go (gives y) e = some y e (ltb i (y .many)) refl
+      go (refuses n vs) e = refl
+
+  find-alike : (l : Layout) (is : List ℕ) (p q : ℕ) → T (allCounted l) → q ≤ m → endOf l s p ≡ gives q → findEntry l is t p ≡ findEntry l is s p
+  unfolding findEntry
+  find-alike l [] p q c b x = refl
+  find-alike l (i ∷ is) p q c b x = rw (child-alike l p q c b x i) (go (λ a r. find-alike (below l) is a r) (childAt l i s p) refl) where
+    go : ((a r : ℕ) → T (allCounted (below l)) → r ≤ m → endOf (below l) s a ≡ gives r → findEntry (below l) is t a ≡ findEntry (below l) is s a) →
+        (y : Answer ℕ) → childAt l i s p ≡ y → andThen y (λ a. findEntry (below l) is t a) ≡ andThen y (λ a. findEntry (below l) is s a)
+    go rest (gives a) e = let z = child-lies l i s p q a x e in rest a (z .stop) (counted-below l c) (omega arith) (z .reads)
+    go rest (refuses n vs) e = refl
+
+  find-counted : (l : Layout) (is : List ℕ) (p : ℕ) (f : Spot) → T (allCounted l) → findEntry l is s p ≡ gives f → T (allCounted (f .layout))
+  unfolding findEntry
+  find-counted l [] p f c x = rw (← (given _ f x)) c
+  find-counted l (i ∷ is) p f c x =
+      let a = gave (childAt l i s p) (λ q. findEntry (below l) is s q) f x in
+      find-counted (below l) is (a .first) f (counted-below l c) (a .then)
+
+  -- so what is asked of a value that reads is the same
+  module _ (l : Layout) (q : ℕ) (c : T (allCounted l)) (b : q ≤ m) (x : endOf l s 0 ≡ gives q) where
+    asked-alike : {A : Type 0} (is : List ℕ) (ask ask′ : Spot → Answer A) →
+        ((f : Spot) (r : ℕ) → T (allCounted (f .layout)) → r ≤ m → endOf (f .layout) s (f .start) ≡ gives r → ask′ f ≡ ask f) →
+        andThen (findEntry l is t 0) ask′ ≡ andThen (findEntry l is s 0) ask
+    asked-alike is ask ask′ same = rw (find-alike l is 0 q c b x) (go (findEntry l is s 0) refl) where
+      go : (y : Answer Spot) → findEntry l is s 0 ≡ y → andThen y ask′ ≡ andThen y ask
+      go (gives f) e = let z = find-lies l is s 0 q f x e in same f (z .stop) (find-counted l is 0 f c e) (omega arith) (z .reads)
+      go (refuses n vs) e = refl
+
+    pub span-alike : (is : List ℕ) → spanOf l is t ≡ spanOf l is s
+    unfolding spanOf
+    span-alike [] = refl
+    span-alike (i ∷ is) = asked-alike (i ∷ is) _ _ (λ f r d e y. rw (end-local (f .layout) (f .start) r d e y, y))
+
+    pub length-alike : (is : List ℕ) → lengthAt l is t ≡ lengthAt l is s
+    unfolding lengthAt
+    length-alike is = asked-alike is _ _ (λ f r d e y. rw (list-alike (f .layout) (f .start) r d e y))

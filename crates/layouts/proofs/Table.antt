@@ -6,11 +6,9 @@ use Prim.Native.Nat.{ℕ, zero, suc, _<_, _≤_}
 use native.Mathlib.Omega.{arith}
 use lib.Dec.{eqb, leb, T, leb→le}
 use Rattle.numbers.specs.Numbers.{gives}
-use Rattle.layouts.specs.Layouts.{Counting, c1, c2, to-end, Layout, bytes, entry, Kind, Line, table, lineOf, layoutOf}
+use Rattle.layouts.specs.Layouts.{Counting, c1, c2, to-end, Layout, bytes, entry, Rest, handed-back, refused, Kind, Line, table, lineOf, layoutOf}
 use Rattle.layouts.specs.declared.rows.Row.{Row}
-use Rattle.layouts.specs.Reading.{refusesRest}
-use Rattle.layouts.specs.Rows.{layoutAt, kindOf}
-use Rattle.layouts.proofs.Local.{allCounted}
+use Rattle.layouts.specs.PrivateRows.{layoutAt, rowKind}
 
 abbrev holds : (Kind → Bool) → List Line → Bool
 holds f [] = true
@@ -30,48 +28,33 @@ pub each : (f : Kind → Bool) → T (holds f table) → (code : ℕ) (k : Kind)
 unfolding layoutOf
 each f h code k x = each-line f table h code k x
 
--- "there are at most three levels of lists"
-abbrev levelsOf : Layout → ℕ
-levelsOf (bytes n) = 0
-levelsOf (entry n w e) = suc (levelsOf e)
-
-pub levels-3 : (code : ℕ) (k : Kind) → layoutOf code ≡ gives k → levelsOf (k .layout) ≤ 3
-levels-3 code k x = leb→le (levelsOf (k .layout)) 3 (each (λ k. leb (levelsOf (k .layout)) 3) tt code k x)
-
 -- a value is a list, or a head and a list
 abbrev pub hasList : Layout → Bool
 hasList (bytes n) = false
 hasList (entry n w e) = true
-
-pub has-list : (code : ℕ) (k : Kind) → layoutOf code ≡ gives k → T (hasList (k .layout))
-has-list code k x = each (λ k. hasList (k .layout)) tt code k x
 
 above-leaf : (row : Row) (k : ℕ) → T (hasList (layoutAt row k)) → 0 < k
 unfolding layoutAt
 above-leaf row zero h = absurd h
 above-leaf row (suc k) h = omega arith
 
-pub row-levels : (code : ℕ) (row : Row) → layoutOf code ≡ gives (kindOf row) → 0 < row .levels
-row-levels code row x = above-leaf row (row .levels) (has-list code (kindOf row) x)
+pub row-levels : (code : ℕ) (row : Row) → layoutOf code ≡ gives (rowKind row) → 0 < row .levels
+row-levels code row x = above-leaf row (row .levels) (each (λ k. hasList (k .layout)) tt code (rowKind row) x)
 
--- a list goes to the end only where its entries are of one size, and not of none
-abbrev sized : Layout → Bool
-sized (bytes zero) = false
-sized (bytes (suc n)) = true
-sized (entry n w e) = false
+-- no list of the layout goes to the end
+abbrev pub hasCount : Counting → Bool
+hasCount c1 = true
+hasCount c2 = true
+hasCount to-end = false
 
-abbrev oneSize : Counting → Layout → Bool
-oneSize c1 e = true
-oneSize c2 e = true
-oneSize to-end e = sized e
-
-abbrev endsInSizes : Layout → Bool
-endsInSizes (bytes n) = true
-endsInSizes (entry n w e) = cond (oneSize w e) (endsInSizes e) false
-
-pub ends-in-sizes : (code : ℕ) (k : Kind) → layoutOf code ≡ gives k → T (endsInSizes (k .layout))
-ends-in-sizes code k x = each (λ k. endsInSizes (k .layout)) tt code k x
+abbrev pub allCounted : Layout → Bool
+allCounted (bytes n) = true
+allCounted (entry n w e) = cond (hasCount w) (allCounted e) false
 
 -- where bytes behind the layout are handed back, every list is counted
-pub rest-counted : (code : ℕ) (k : Kind) → layoutOf code ≡ gives k → T (cond (refusesRest (k .behind)) true (allCounted (k .layout)))
-rest-counted code k x = each (λ k. cond (refusesRest (k .behind)) true (allCounted (k .layout))) tt code k x
+abbrev countedIf : Rest → Layout → Bool
+countedIf handed-back l = allCounted l
+countedIf refused l = true
+
+pub rest-counted : (code : ℕ) (k : Kind) → layoutOf code ≡ gives k → k .rest ≡ handed-back → T (allCounted (k .layout))
+rest-counted code k x e = rw e at (each (λ k. countedIf (k .rest) (k .layout)) tt code k x)

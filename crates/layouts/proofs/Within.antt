@@ -1,88 +1,128 @@
 -- What is read lies within the bytes: an entry ends at or behind its start, and not behind the end.
-use mathlib.Core.Path.{_≡_, refl}
+use mathlib.Core.Path.{_≡_, refl, sym, ap}
 use mathlib.Core.Bool.{Bool, true, false, cond}
 use mathlib.Core.List.{List, [], _∷_}
-use Prim.Native.Nat.{ℕ, zero, suc, _+_, _-_, _*_, _≤_}
+use Prim.Native.Nat.{ℕ, zero, suc, _+_, _<_, _≤_}
 use native.Mathlib.Omega.{arith}
-use lib.ListN.{length, getD}
+use lib.ListN.{length}
 use lib.Dec.{leb, ltb}
-use borrow.Author.Tests.{leb-true}
-use Rattle.layouts.specs.declared.lists.End.{End}
-use Rattle.layouts.specs.declared.lists.End.the-variants.{At, Short}
-use Rattle.layouts.specs.declared.lists.Listing.{Listing}
-use Rattle.layouts.specs.declared.lists.Listing.the-variants.{Of, Missing}
+use borrow.Author.Tests.{leb-true, le-leb, lt-leb, ltb-true}
+use Rattle.numbers.specs.Numbers.{Answer, gives, refuses}
+use Rattle.numbers.proofs.Firm.{never}
+use Rattle.numbers.proofs.Answers.{given, gave}
 use Rattle.layouts.specs.Layouts.{Counting, c1, c2, to-end, Layout, bytes, entry}
-use Rattle.layouts.specs.Reading.{thenEnd, thenList, headOf, countAt, listOf, entriesEnd, endOf}
-use Rattle.layouts.specs.Access.{childAt, below, found, thenPlace, findEntry}
+use Rattle.layouts.specs.Reading.{reaching, Listed, headOf, countAt, listOf, entriesEnd, endOf}
+use Rattle.layouts.specs.Access.{childAt, below, Spot, findEntry}
 
 abbrev pub Within : ℕ → ℕ → List ℕ → Type 0
 Within p q s = (p ≤ q) × (q ≤ length s)
 
--- a test that guards what starts at r
-guard : (b : Bool) (p q r : ℕ) (s : List ℕ) (n m : ℕ) → leb r (length s) ≡ b → p ≤ r → cond b (Of m r) Missing ≡ Of n q → Within p q s
-guard true p q r s n m e l x = let y : r ≡ q = cc in let h = leb-true r (length s) e in omega arith
-guard false p q r s n m e l x = let z : _≡_ {A = ℕ} 0 1 = cc in omega arith
+-- the bytes reach to q, or not
+pub reaches : {A : Type 0} (q : ℕ) (s : List ℕ) (a : A) → q ≤ length s → reaching q s a ≡ gives a
+reaches q s a h = rw (le-leb q (length s) h)
 
-pub count-within : (w : Counting) (h : ℕ) (s : List ℕ) (p n q : ℕ) → p ≤ length s → countAt w h s p ≡ Of n q → Within p q s
+pub cut : {A : Type 0} (q : ℕ) (s : List ℕ) (a : A) → length s < q → reaching q s a ≡ refuses 3 []
+cut q s a h = rw (lt-leb q (length s) h)
+
+pub reached : {A : Type 0} (q : ℕ) (s : List ℕ) (a b : A) → reaching q s a ≡ gives b → (q ≤ length s) × (a ≡ b)
+reached q s a b x = go (leb q (length s)) refl x where
+  go : (t : Bool) → leb q (length s) ≡ t → cond t (gives a) (refuses 3 []) ≡ gives b → (q ≤ length s) × (a ≡ b)
+  go true e x = (leb-true q (length s) e, given a b x)
+  go false e x = never b 3 [] (sym x)
+
+pub count-within : (w : Counting) (h : ℕ) (s : List ℕ) (p : ℕ) (m : Listed) → p ≤ length s → countAt w h s p ≡ gives m → Within p (m .first) s
 unfolding countAt
-count-within c1 h s p n q b x = guard (leb (p + 1) (length s)) p q (p + 1) s n (getD s p 0) refl (omega arith) x
-count-within c2 h s p n q b x = guard (leb (p + 2) (length s)) p q (p + 2) s n (getD s p 0 * 256 + getD s (p + 1) 0) refl (omega arith) x
-count-within to-end h s p n q b x = let y : p ≡ q = cc in omega arith
+count-within c1 h s p m b x = let a = reached (p + 1) s _ m x in let e : p + 1 ≡ m .first = ap (λ m. m .first) (a .1) in omega arith
+count-within c2 h s p m b x = let a = reached (p + 2) s _ m x in let e : p + 2 ≡ m .first = ap (λ m. m .first) (a .1) in omega arith
+count-within to-end h s p m b x = let e : p ≡ m .first = ap (λ m. m .first) (given _ m x) in omega arith
 
-pub list-within : (l : Layout) (s : List ℕ) (p n q : ℕ) → listOf l s p ≡ Of n q → Within p q s
+-- the list of an entry that has one stands behind its head
+pub record Behind (n : ℕ) (w : Counting) (e : Layout) (s : List ℕ) (p : ℕ) (m : Listed) : Type 0 where
+  pub head : p + n ≤ length s
+  pub counts : countAt w (headOf e) s (p + n) ≡ gives m
+
+pub behind-head : (n : ℕ) (w : Counting) (e : Layout) (s : List ℕ) (p : ℕ) (m : Listed) → listOf (entry n w e) s p ≡ gives m → Behind n w e s p m
 unfolding listOf
-list-within (bytes m) s p n q x = let z : _≡_ {A = ℕ} 0 1 = cc in omega arith
-list-within (entry m w e) s p n q x = go (leb (p + m) (length s)) refl x where
-  go : (b : Bool) → leb (p + m) (length s) ≡ b → cond b (countAt w (headOf e) s (p + m)) Missing ≡ Of n q → Within p q s
-  go true t x =
-      let h = leb-true (p + m) (length s) t in
-      let c = count-within w (headOf e) s (p + m) n q h x in
-      omega arith
-  go false t x = let z : _≡_ {A = ℕ} 0 1 = cc in omega arith
+behind-head n w e s p m x =
+    let g = gave (reaching (p + n) s (p + n)) (λ q. countAt w (headOf e) s q) m x in
+    let r = reached (p + n) s (p + n) (g .first) (g .is) in
+    record { head = r .0; counts = rw (r .1) (g .then) }
 
-pub entries-within : (f : ℕ → End) (s : List ℕ) → ((p q : ℕ) → f p ≡ At q → Within p q s) → (n p q : ℕ) → p ≤ length s → entriesEnd f n p ≡ At q → Within p q s
+-- an entry of bytes alone has no list
+pub list-leaf : (n : ℕ) (s : List ℕ) (p : ℕ) → listOf (bytes n) s p ≡ refuses 6 []
+unfolding listOf
+list-leaf n s p = refl
+
+pub leafless : {B : Type 0} (n : ℕ) (s : List ℕ) (p : ℕ) (m : Listed) → listOf (bytes n) s p ≡ gives m → B
+leafless n s p m x = never m 6 [] (cc (list-leaf n s p))
+
+pub list-within : (l : Layout) (s : List ℕ) (p : ℕ) (m : Listed) → listOf l s p ≡ gives m → Within p (m .first) s
+list-within (bytes n) s p m x = leafless n s p m x
+list-within (entry n w e) s p m x =
+    let b = behind-head n w e s p m x in
+    let c = count-within w (headOf e) s (p + n) m (b .head) (b .counts) in
+    omega arith
+
+pub entries-within : (f : ℕ → Answer ℕ) (s : List ℕ) → ((p q : ℕ) → f p ≡ gives q → Within p q s) →
+    (n p q : ℕ) → p ≤ length s → entriesEnd f n p ≡ gives q → Within p q s
 unfolding entriesEnd
-entries-within f s w zero p q l x = let y : p ≡ q = cc in omega arith
-entries-within f s w (suc n) p q l x = go (λ r. entries-within f s w n r q) (f p) refl x where
-  go : ((r : ℕ) → r ≤ length s → entriesEnd f n r ≡ At q → Within r q s) → (e : End) → f p ≡ e → thenEnd e (λ r. entriesEnd f n r) ≡ At q → Within p q s
-  go rest (At r) e x = let a = w p r e in let b = rest r (a .1) x in omega arith
-  go rest Short e x = let z : _≡_ {A = ℕ} 0 1 = cc in omega arith
+entries-within f s w zero p q l x = let y : p ≡ q = given p q x in omega arith
+entries-within f s w (suc n) p q l x =
+    let g = gave (f p) (λ r. entriesEnd f n r) q x in
+    let a = w p (g .first) (g .is) in
+    let b = entries-within f s w n (g .first) q (a .1) (g .then) in
+    omega arith
 
-pub end-within : (l : Layout) (s : List ℕ) (p q : ℕ) → endOf l s p ≡ At q → Within p q s
+-- an entry that reads and has a list ends in it
+pub record Ends (e : Layout) (s : List ℕ) (x : Answer Listed) (q : ℕ) : Type 0 where
+  pub list : Listed
+  pub has : x ≡ gives list
+  pub ends : entriesEnd (endOf e s) (list .many) (list .first) ≡ gives q
+
+pub ends-in : (n : ℕ) (w : Counting) (e : Layout) (s : List ℕ) (p q : ℕ) → endOf (entry n w e) s p ≡ gives q → Ends e s (listOf (entry n w e) s p) q
 unfolding endOf
-end-within (bytes n) s p q x = go (leb (p + n) (length s)) refl x where
-  go : (b : Bool) → leb (p + n) (length s) ≡ b → cond b (At (p + n)) Short ≡ At q → Within p q s
-  go true e x = let y : p + n ≡ q = cc in let h = leb-true (p + n) (length s) e in omega arith
-  go false e x = let z : _≡_ {A = ℕ} 0 1 = cc in omega arith
-end-within (entry n w e) s p q x = go (end-within e s) (listOf (entry n w e) s p) refl x where
-  go : ((a b : ℕ) → endOf e s a ≡ At b → Within a b s) → (c : Listing) → listOf (entry n w e) s p ≡ c →
-      thenList c (λ m b. entriesEnd (endOf e s) m b) ≡ At q → Within p q s
-  go deeper (Of m b) t x =
-      let c = list-within (entry n w e) s p m b t in
-      let d = entries-within (endOf e s) s deeper m b q (c .1) x in
-      omega arith
-  go deeper Missing t x = let z : _≡_ {A = ℕ} 0 1 = cc in omega arith
+ends-in n w e s p q x =
+    let g = gave (listOf (entry n w e) s p) (λ m. entriesEnd (endOf e s) (m .many) (m .first)) q x in
+    record { list = g .first; has = g .is; ends = g .then }
 
-pub child-within : (l : Layout) (i : ℕ) (s : List ℕ) (p q : ℕ) → childAt l i s p ≡ At q → Within p q s
+pub end-within : (l : Layout) (s : List ℕ) (p q : ℕ) → endOf l s p ≡ gives q → Within p q s
+unfolding endOf
+end-within (bytes n) s p q x = let r = reached (p + n) s (p + n) q x in let y = r .1 in omega arith
+end-within (entry n w e) s p q x =
+    let g = ends-in n w e s p q x in
+    let c = list-within (entry n w e) s p (g .list) (g .has) in
+    let d = entries-within (endOf e s) s (end-within e s) (g .list .many) (g .list .first) q (c .1) (g .ends) in
+    omega arith
+
+-- entry i of a list that has it
+pub record Among (l : Layout) (i : ℕ) (s : List ℕ) (p q : ℕ) : Type 0 where
+  pub list : Listed
+  pub has : listOf l s p ≡ gives list
+  pub less : i < list .many
+  pub starts : entriesEnd (endOf (below l) s) i (list .first) ≡ gives q
+
+pub among : (l : Layout) (i : ℕ) (s : List ℕ) (p q : ℕ) → childAt l i s p ≡ gives q → Among l i s p q
 unfolding childAt
-child-within (bytes n) i s p q x = let z : _≡_ {A = ℕ} 0 1 = cc in omega arith
-child-within (entry n w e) i s p q x = go (listOf (entry n w e) s p) refl x where
-  go2 : (m b : ℕ) → listOf (entry n w e) s p ≡ Of m b → (t : Bool) → cond t (entriesEnd (endOf e s) i b) Short ≡ At q → Within p q s
-  go2 m b y true x =
-      let c = list-within (entry n w e) s p m b y in
-      let d = entries-within (endOf e s) s (end-within e s) i b q (c .1) x in
-      omega arith
-  go2 m b y false x = let z : _≡_ {A = ℕ} 0 1 = cc in omega arith
+among l i s p q x =
+    let g = gave (listOf l s p) (λ m. cond (ltb i (m .many)) (entriesEnd (endOf (below l) s) i (m .first)) (refuses 6 [])) q x in
+    go (g .first) (g .is) (ltb i (g .first .many)) refl (g .then) where
+      go : (m : Listed) → listOf l s p ≡ gives m → (t : Bool) → ltb i (m .many) ≡ t →
+          cond t (entriesEnd (endOf (below l) s) i (m .first)) (refuses 6 []) ≡ gives q → Among l i s p q
+      go m y true t x = record { list = m; has = y; less = ltb-true i (m .many) t; starts = x }
+      go m y false t x = never q 6 [] (sym x)
 
-  go : (c : Listing) → listOf (entry n w e) s p ≡ c → thenList c (λ m b. cond (ltb i m) (entriesEnd (endOf e s) i b) Short) ≡ At q → Within p q s
-  go (Of m b) y x = go2 m b y (ltb i m) x
-  go Missing y x = let z : _≡_ {A = ℕ} 0 1 = cc in omega arith
+pub child-within : (l : Layout) (i : ℕ) (s : List ℕ) (p q : ℕ) → childAt l i s p ≡ gives q → Within p q s
+child-within l i s p q x =
+    let a = among l i s p q x in
+    let c = list-within l s p (a .list) (a .has) in
+    let d = entries-within (endOf (below l) s) s (end-within (below l) s) i (a .list .first) q (c .1) (a .starts) in
+    omega arith
 
-pub find-within : (l : Layout) (is s : List ℕ) (p : ℕ) (e : Layout) (q : ℕ) → p ≤ length s → findEntry l is s p ≡ found e q → Within p q s
+pub find-within : (l : Layout) (is s : List ℕ) (p : ℕ) (f : Spot) → p ≤ length s → findEntry l is s p ≡ gives f → Within p (f .start) s
 unfolding findEntry
-find-within l [] s p e q b x = let y : p ≡ q = cc in omega arith
-find-within l (i ∷ is) s p e q b x = go (λ r. find-within (below l) is s r e q) (childAt l i s p) refl x where
-  go : ((r : ℕ) → r ≤ length s → findEntry (below l) is s r ≡ found e q → Within r q s) → (c : End) → childAt l i s p ≡ c →
-      thenPlace c (λ r. findEntry (below l) is s r) ≡ found e q → Within p q s
-  go rest (At r) y x = let c = child-within l i s p r y in let d = rest r (c .1) x in omega arith
-  go rest Short y x = let z : _≡_ {A = ℕ} 0 1 = cc in omega arith
+find-within l [] s p f b x = let y : p ≡ f .start = ap (λ f. f .start) (given _ f x) in omega arith
+find-within l (i ∷ is) s p f b x =
+    let g = gave (childAt l i s p) (λ q. findEntry (below l) is s q) f x in
+    let c = child-within l i s p (g .first) (g .is) in
+    let d = find-within (below l) is s (g .first) f (c .1) (g .then) in
+    omega arith

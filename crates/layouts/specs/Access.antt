@@ -5,18 +5,14 @@ use mathlib.Core.List.{List, [], _∷_}
 use Prim.Native.Nat.{ℕ, zero, suc, _-_}
 use lib.Dec.{ltb}
 use lib.ListN.{take, drop}
-use Rattle.numbers.specs.Numbers.{Answer, gives, refuses, told}
-use Rattle.layouts.specs.declared.lists.End.{End}
-use Rattle.layouts.specs.declared.lists.End.the-variants.{At, Short}
-use Rattle.layouts.specs.declared.lists.Listing.{Listing}
-use Rattle.layouts.specs.declared.lists.Listing.the-variants.{Of, Missing}
+use Rattle.numbers.specs.Numbers.{Answer, gives, refuses, told, andThen, mapped}
 use Rattle.layouts.specs.declared.Path.{Path}
 use Rattle.layouts.specs.declared.Located.{Located}
 use Rattle.layouts.specs.declared.Located.the-variants.{Entry, Refused}
 use Rattle.layouts.specs.declared.Counted.{Counted}
 use Rattle.layouts.specs.declared.Counted.the-variants.{Entries, Refused as NotCounted}
 use Rattle.layouts.specs.Layouts.{Layout, bytes, entry, Kind, layoutOf}
-use Rattle.layouts.specs.Reading.{thenList, listOf, entriesEnd, endOf, andThen, readAs}
+use Rattle.layouts.specs.Reading.{listOf, entriesEnd, endOf, readAs}
 
 -- the numbers of a path: `depth` of them. Those past the third are 0: no list kind has more than three levels.
 abbrev pub numbers : ℕ → ℕ → ℕ → ℕ → List ℕ
@@ -26,55 +22,37 @@ numbers (suc d) i j k = i ∷ numbers d j k 0
 abbrev pub numbersOf : Path → List ℕ
 numbersOf path = numbers (path .depth) (path .i0) (path .i1) (path .i2)
 
--- where entry i of the list of the entry at p starts; Short where there is none
-unfoldable pub childAt : Layout → ℕ → List ℕ → ℕ → End
-childAt (bytes n) i s p = Short
-childAt (entry n w e) i s p = thenList (listOf (entry n w e) s p) (λ m q. cond (ltb i m) (entriesEnd (endOf e s) i q) Short)
-
 -- the layout of the entries of its list
 abbrev pub below : Layout → Layout
 below (bytes n) = bytes n
 below (entry n w e) = e
 
--- an entry: its layout, and where it starts
-pub data Place : Type 0 where
-  found : Layout → ℕ → Place
-  nowhere : Place
+-- where entry i of the list of the entry at p starts: "no entry with these numbers" gives 6
+unfoldable pub childAt : Layout → ℕ → List ℕ → ℕ → Answer ℕ
+childAt l i s p = andThen (listOf l s p) (λ m. cond (ltb i (m .many)) (entriesEnd (endOf (below l) s) i (m .first)) (refuses 6 []))
 
-abbrev pub thenPlace : End → (ℕ → Place) → Place
-thenPlace (At p) f = f p
-thenPlace Short f = nowhere
+-- an entry: its layout, and where it starts
+pub record Spot : Type 0 where
+  pub layout : Layout
+  pub start : ℕ
 
 -- the entry with these numbers, one for each level, under the one that starts at p
-unfoldable pub findEntry : Layout → List ℕ → List ℕ → ℕ → Place
-findEntry e [] s p = found e p
-findEntry e (i ∷ is) s p = thenPlace (childAt e i s p) (λ q. findEntry (below e) is s q)
-
--- "no entry with these numbers" gives 6
-abbrev pub atPlace : {A : Type 0} → Place → (Layout → ℕ → Answer A) → Answer A
-atPlace (found e p) f = f e p
-atPlace nowhere f = refuses 6 []
+unfoldable pub findEntry : Layout → List ℕ → List ℕ → ℕ → Answer Spot
+findEntry e [] s p = gives (record { layout = e; start = p })
+findEntry e (i ∷ is) s p = andThen (childAt e i s p) (λ q. findEntry (below e) is s q)
 
 pub record Span : Type 0 where
   pub start : ℕ
   pub end : ℕ
 
-abbrev pub upTo : ℕ → End → Answer Span
-upTo p (At q) = gives (record { start = p; end = q })
-upTo p Short = refuses 6 []
-
 -- where the entry with these numbers starts and ends; a path without numbers asks for no entry
 unfoldable pub spanOf : Layout → List ℕ → List ℕ → Answer Span
 spanOf l [] s = refuses 6 []
-spanOf l (i ∷ is) s = atPlace (findEntry l (i ∷ is) s 0) (λ e p. upTo p (endOf e s p))
-
-abbrev pub counted : Listing → Answer ℕ
-counted (Of n p) = gives n
-counted Missing = refuses 6 []
+spanOf l (i ∷ is) s = andThen (findEntry l (i ∷ is) s 0) (λ f. mapped (λ q. record { start = f .start; end = q }) (endOf (f .layout) s (f .start)))
 
 -- how many entries the list of the entry with these numbers has; of the value itself, without numbers
 unfoldable pub lengthAt : Layout → List ℕ → List ℕ → Answer ℕ
-lengthAt l is s = atPlace (findEntry l is s 0) (λ e p. counted (listOf e s p))
+lengthAt l is s = andThen (findEntry l is s 0) (λ f. mapped (λ m. m .many) (listOf (f .layout) s (f .start)))
 
 -- "16, then 1, 2, 3, 4, 5, 6": the kind is one of these, then the whole value reads, and then the entry is looked for
 unfoldable pub ofValue : {A : Type 0} → (Layout → List ℕ → Answer A) → Kind → List ℕ → Answer A
@@ -86,10 +64,14 @@ locateEntry code is s = andThen (layoutOf code) (λ k. ofValue (λ l t. spanOf l
 unfoldable pub countEntries : ℕ → List ℕ → List ℕ → Answer ℕ
 countEntries code is s = andThen (layoutOf code) (λ k. ofValue (λ l t. lengthAt l is t) k s)
 
--- the part itself; the empty start where there is none
+-- the part itself, and where it starts; the empty start where there is none
 abbrev pub partOf : Answer Span → List ℕ → List ℕ
 partOf (gives r) s = take (r .end - r .start) (drop (r .start) s)
 partOf (refuses n vs) s = []
+
+abbrev pub startOf : Answer Span → ℕ
+startOf (gives r) = r .start
+startOf (refuses n vs) = 0
 
 -- what each answer of the calls says
 abbrev pub locatedOf : Located → Answer Span

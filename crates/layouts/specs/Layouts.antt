@@ -32,20 +32,20 @@ n then bytes m = bytes (n + m)
 n then entry m w e = entry (n + m) w e
 
 -- "Bytes behind the layout are handed back as the rest, except in kinds 0, 6, 7 and 30, which refuse them."
-pub data Behind : Type 0 where
-  handed-back : Behind
-  refused : Behind
+pub data Rest : Type 0 where
+  handed-back : Rest
+  refused : Rest
 
 pub record Kind : Type 0 where
   pub layout : Layout
-  pub behind : Behind
+  pub rest : Rest
 
 pub record Line : Type 0 where
   pub code : ℕ
   pub kind : Kind
 
-abbrev line : ℕ → Behind → Layout → Line
-line n b l = record { code = n; kind = record { layout = l; behind = b } }
+abbrev line : ℕ → Rest → Layout → Line
+line n r l = record { code = n; kind = record { layout = l; rest = r } }
 
 abbrev pub table : List Line
 table =

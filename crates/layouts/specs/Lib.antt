@@ -1,4 +1,5 @@
 pub mod Layouts
 pub mod Reading
 pub mod Access
-pub mod Rows
+pub mod PrivateRows
+pub mod Claims

@@ -15,33 +15,33 @@ ghost use mathlib.Core.Path.{_≡_};
 ghost use Prim.Native.Nat.{_<_, _≤_};
 ghost use lib.ListN.{length};
 ghost use Rattle.layouts.specs.Access.{numbersOf, childAt, findEntry, spanOf, lengthAt, ofValue, locatedOf, countedOf};
-ghost use Rattle.layouts.specs.Rows.{layoutAt, kindOf, placeOf};
+ghost use Rattle.layouts.specs.PrivateRows.{layoutAt, rowKind, endTold, levelTold};
 
 // An entry that was found: its level in the row, and where it starts.
 pub enum Level {
     Of { k: u8, at: usize },
-    Nowhere,
+    Refused(Refusal),
 }
 
-// Where entry i of the list of the entry of level k that starts at p starts; Short where there is none.
+// Where entry i of the list of the entry of level k that starts at p starts.
 fn child(row: Row, k: u8, i: usize, s: &[u8], p: usize) -> End
-    requires { ⌜ (0 < k) × (p ≤ length (now s)) ⌝ }
-    ensures { λ r. ⌜ r ≡ childAt (layoutAt row k) i (now (s .entry)) p ⌝ }
+    requires { ⌜ p ≤ length (now s) ⌝ }
+    ensures { λ r. ⌜ endTold r ≡ childAt (layoutAt row k) i (now (s .entry)) p ⌝ }
 {
     match list_at(row, k, s, p) {
         Listing::Of { n, first } => {
             if i < n {
                 return read_list(row, k - 1, i, s, first);
             }
-            End::Short
+            End::Refused(Refusal::NoEntry)
         }
-        Listing::Missing => End::Short,
+        Listing::Refused(r) => End::Refused(r),
     }
 }
 
 // The entry with these numbers. Each turn takes one number and goes one level down.
 fn find_entry(row: Row, path: Path, s: &[u8]) -> Level
-    ensures { λ r. ⌜ placeOf row r ≡ findEntry (layoutAt row (row .levels)) (numbersOf path) (now (s .entry)) 0 ⌝ }
+    ensures { λ r. ⌜ levelTold row r ≡ findEntry (layoutAt row (row .levels)) (numbersOf path) (now (s .entry)) 0 ⌝ }
 {
     let mut k = row.levels;
     let mut at = 0;
@@ -50,15 +50,12 @@ fn find_entry(row: Row, path: Path, s: &[u8]) -> Level
     let mut i1 = path.i1;
     let mut i2 = path.i2;
     while 0 < left {
-        if k == 0 {
-            return Level::Nowhere;
-        }
         match child(row, k, i0, s, at) {
             End::At(q) => {
                 at = q;
             }
-            End::Short => {
-                return Level::Nowhere;
+            End::Refused(r) => {
+                return Level::Refused(r);
             }
         }
         k -= 1;
@@ -77,32 +74,32 @@ fn span_of(row: Row, path: Path, s: &[u8]) -> Located
     if path.depth == 0 {
         return Located::Refused(Refusal::NoEntry);
     }
-    let Level::Of { k, at } = find_entry(row, path, s) else {
-        return Located::Refused(Refusal::NoEntry);
-    };
-    let End::At(end) = read_entry(row, k, s, at) else {
-        return Located::Refused(Refusal::NoEntry);
-    };
-    Located::Entry { start: at, end }
+    match find_entry(row, path, s) {
+        Level::Of { k, at } => match read_entry(row, k, s, at) {
+            End::At(end) => Located::Entry { start: at, end },
+            End::Refused(r) => Located::Refused(r),
+        },
+        Level::Refused(r) => Located::Refused(r),
+    }
 }
 
 // How many entries the list of the entry with these numbers has.
 fn length_at(row: Row, path: Path, s: &[u8]) -> Counted
     ensures { λ r. ⌜ countedOf r ≡ lengthAt (layoutAt row (row .levels)) (numbersOf path) (now (s .entry)) ⌝ }
 {
-    let Level::Of { k, at } = find_entry(row, path, s) else {
-        return Counted::Refused(Refusal::NoEntry);
-    };
-    match list_at(row, k, s, at) {
-        Listing::Of { n, first: _ } => Counted::Entries(n),
-        Listing::Missing => Counted::Refused(Refusal::NoEntry),
+    match find_entry(row, path, s) {
+        Level::Of { k, at } => match list_at(row, k, s, at) {
+            Listing::Of { n, first: _ } => Counted::Entries(n),
+            Listing::Refused(r) => Counted::Refused(r),
+        },
+        Level::Refused(r) => Counted::Refused(r),
     }
 }
 
 // The same two, of a value that has to read whole first.
 pub(crate) fn locate_in(row: Row, path: Path, s: &[u8]) -> Located
     requires { ⌜ 0 < row .levels ⌝ }
-    ensures { λ r. ⌜ locatedOf r ≡ ofValue (λ l t. spanOf l (numbersOf path) t) (kindOf row) (now (s .entry)) ⌝ }
+    ensures { λ r. ⌜ locatedOf r ≡ ofValue (λ l t. spanOf l (numbersOf path) t) (rowKind row) (now (s .entry)) ⌝ }
 {
     match read_row(row, s) {
         Reading::Value {
@@ -116,7 +113,7 @@ pub(crate) fn locate_in(row: Row, path: Path, s: &[u8]) -> Located
 
 pub(crate) fn count_in(row: Row, path: Path, s: &[u8]) -> Counted
     requires { ⌜ 0 < row .levels ⌝ }
-    ensures { λ r. ⌜ countedOf r ≡ ofValue (λ l t. lengthAt l (numbersOf path) t) (kindOf row) (now (s .entry)) ⌝ }
+    ensures { λ r. ⌜ countedOf r ≡ ofValue (λ l t. lengthAt l (numbersOf path) t) (rowKind row) (now (s .entry)) ⌝ }
 {
     match read_row(row, s) {
         Reading::Value {

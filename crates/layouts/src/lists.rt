@@ -9,25 +9,25 @@ ghost use mathlib.Core.Path.{_≡_};
 ghost use Prim.Native.Nat.{_-_, _*_, _<_, _≤_};
 ghost use lib.ListN.{length};
 ghost use Rattle.layouts.specs.Layouts.{bytes};
-ghost use Rattle.layouts.specs.Reading.{countAt, listOf, entriesEnd, endOf, readingOf, readAs};
-ghost use Rattle.layouts.specs.Rows.{headAt, counting, layoutAt, kindOf, Few};
+ghost use Rattle.layouts.specs.Reading.{countAt, listOf, entriesEnd, endOf, readingOf, consumedTo, readAs};
+ghost use Rattle.layouts.specs.PrivateRows.{headAt, counting, layoutAt, rowKind, endTold, listTold, restWith, Few};
 
-// Where a part ends; Short where the bytes end inside it.
+// Where a part ends.
 pub enum End {
     At(usize),
-    Short,
+    Refused(Refusal),
 }
 
-// How many entries a list has, and where the first one starts; Missing where an entry has no list, or the bytes end before it.
+// How many entries a list has, and where the first one starts.
 pub enum Listing {
     Of { n: usize, first: usize },
-    Missing,
+    Refused(Refusal),
 }
 
 // The list at `at` whose count has w bytes, of entries with heads of h bytes.
 fn count_at(w: u8, h: usize, s: &[u8], at: usize) -> Listing
     requires { ⌜ (at ≤ length (now s)) × (h < 256) ⌝ }
-    ensures { λ r. ⌜ (r ≡ countAt (counting w) h (now (s .entry)) at) × Few h r ⌝ }
+    ensures { λ r. ⌜ (listTold r ≡ countAt (counting w) h (now (s .entry)) at) × Few h r ⌝ }
 {
     if w == 0 {
         if h == 0 {
@@ -40,7 +40,7 @@ fn count_at(w: u8, h: usize, s: &[u8], at: usize) -> Listing
     }
     if w == 1 {
         if s.len() - at < 1 {
-            return Listing::Missing;
+            return Listing::Refused(Refusal::CutShort);
         }
         return Listing::Of {
             n: wide(s[at]),
@@ -48,7 +48,7 @@ fn count_at(w: u8, h: usize, s: &[u8], at: usize) -> Listing
         };
     }
     if s.len() - at < 2 {
-        return Listing::Missing;
+        return Listing::Refused(Refusal::CutShort);
     }
     Listing::Of {
         n: wide(s[at]) * 256 + wide(s[at + 1]),
@@ -59,14 +59,14 @@ fn count_at(w: u8, h: usize, s: &[u8], at: usize) -> Listing
 // The list of the entry of level k that starts at `at`: it stands behind the entry's head.
 pub(crate) fn list_at(row: Row, k: u8, s: &[u8], at: usize) -> Listing
     requires { ⌜ at ≤ length (now s) ⌝ }
-    ensures { λ r. ⌜ (r ≡ listOf (layoutAt row k) (now (s .entry)) at) × Few (headAt row (k - 1)) r ⌝ }
+    ensures { λ r. ⌜ (listTold r ≡ listOf (layoutAt row k) (now (s .entry)) at) × Few (headAt row (k - 1)) r ⌝ }
 {
     if k == 0 {
-        return Listing::Missing;
+        return Listing::Refused(Refusal::NoEntry);
     }
     let head = head_at(row, k);
     if s.len() - at < head {
-        return Listing::Missing;
+        return Listing::Refused(Refusal::CutShort);
     }
     count_at(width_at(row, k - 1), head_at(row, k - 1), s, at + head)
 }
@@ -74,69 +74,22 @@ pub(crate) fn list_at(row: Row, k: u8, s: &[u8], at: usize) -> Listing
 // Where n entries of h bytes each end: no need to look at them.
 fn skip(h: usize, n: usize, s: &[u8], at: usize) -> End
     requires { ⌜ (at ≤ length (now s)) × (n * h < 9223372036854775808) ⌝ }
-    ensures { λ r. ⌜ r ≡ entriesEnd (endOf (bytes h) (now (s .entry))) n at ⌝ }
+    ensures { λ r. ⌜ endTold r ≡ entriesEnd (endOf (bytes h) (now (s .entry))) n at ⌝ }
 {
     let size = n * h;
     if s.len() - at < size {
-        return End::Short;
+        return End::Refused(Refusal::CutShort);
     }
     End::At(at + size)
-}
-
-// Where the entry of level 1 that starts at `at` ends.
-fn shallow_entry(row: Row, s: &[u8], at: usize) -> End
-    requires { ⌜ at ≤ length (now s) ⌝ }
-    ensures { λ r. ⌜ r ≡ endOf (layoutAt row 1) (now (s .entry)) at ⌝ }
-{
-    match list_at(row, 1, s, at) {
-        Listing::Of { n, first } => skip(wide(row.h0), n, s, first),
-        Listing::Missing => End::Short,
-    }
-}
-
-// Where n entries of level 1 end: most entries of the long lists are of this level, and are read here without a call for each.
-fn shallow_list(row: Row, n: usize, s: &[u8], at: usize) -> End
-    requires { ⌜ at ≤ length (now s) ⌝ }
-    ensures { λ r. ⌜ r ≡ entriesEnd (endOf (layoutAt row 1) (now (s .entry))) n at ⌝ }
-{
-    let mut p = at;
-    let mut read = 0;
-    while read < n {
-        match shallow_entry(row, s, p) {
-            End::At(q) => {
-                p = q;
-            }
-            End::Short => {
-                return End::Short;
-            }
-        }
-        read += 1;
-    }
-    End::At(p)
-}
-
-// Where the entry of level 2 that starts at `at` ends: the lists of the deepest kinds are of such entries, and each is read here without a call that comes back
-// to the two readers below.
-fn middle_entry(row: Row, s: &[u8], at: usize) -> End
-    requires { ⌜ at ≤ length (now s) ⌝ }
-    ensures { λ r. ⌜ r ≡ endOf (layoutAt row 2) (now (s .entry)) at ⌝ }
-{
-    match list_at(row, 2, s, at) {
-        Listing::Of { n, first } => shallow_list(row, n, s, first),
-        Listing::Missing => End::Short,
-    }
 }
 
 // Where n entries of level k end, the first of which starts at `at`. It goes over the entries in a loop, so that the stack grows with the levels alone.
 pub(crate) fn read_list(row: Row, k: u8, n: usize, s: &[u8], at: usize) -> End
     requires { ⌜ (at ≤ length (now s)) × (n * headAt row k < 9223372036854775808) ⌝ }
-    ensures { λ r. ⌜ r ≡ entriesEnd (endOf (layoutAt row k) (now (s .entry))) n at ⌝ }
+    ensures { λ r. ⌜ endTold r ≡ entriesEnd (endOf (layoutAt row k) (now (s .entry))) n at ⌝ }
 {
     if k == 0 {
         return skip(wide(row.h0), n, s, at);
-    }
-    if k == 1 {
-        return shallow_list(row, n, s, at);
     }
     let mut p = at;
     let mut i = 0;
@@ -145,8 +98,8 @@ pub(crate) fn read_list(row: Row, k: u8, n: usize, s: &[u8], at: usize) -> End
             End::At(q) => {
                 p = q;
             }
-            End::Short => {
-                return End::Short;
+            End::Refused(r) => {
+                return End::Refused(r);
             }
         }
         i += 1;
@@ -157,45 +110,45 @@ pub(crate) fn read_list(row: Row, k: u8, n: usize, s: &[u8], at: usize) -> End
 // Where the entry of level k that starts at `at` ends: in the list of the level below, if it has one.
 pub(crate) fn read_entry(row: Row, k: u8, s: &[u8], at: usize) -> End
     requires { ⌜ at ≤ length (now s) ⌝ }
-    ensures { λ r. ⌜ r ≡ endOf (layoutAt row k) (now (s .entry)) at ⌝ }
+    ensures { λ r. ⌜ endTold r ≡ endOf (layoutAt row k) (now (s .entry)) at ⌝ }
 {
     if k == 0 {
         return skip(wide(row.h0), 1, s, at);
     }
-    if k == 2 {
-        return middle_entry(row, s, at);
-    }
     match list_at(row, k, s, at) {
         Listing::Of { n, first } => read_list(row, k - 1, n, s, first),
-        Listing::Missing => End::Short,
+        Listing::Refused(r) => End::Refused(r),
     }
 }
 
 // The value of this row at the start of s. Its count is read once, for the answer and for its entries.
 pub(crate) fn read_row(row: Row, s: &[u8]) -> Reading
     requires { ⌜ 0 < row .levels ⌝ }
-    ensures { λ r. ⌜ readingOf r ≡ readAs (kindOf row) (now (s .entry)) ⌝ }
+    ensures { λ r. ⌜ readingOf r ≡ readAs (rowKind row) (now (s .entry)) ⌝ }
 {
-    let Listing::Of { n: entries, first } = list_at(row, row.levels, s, 0) else {
-        return Reading::Refused(Refusal::CutShort);
-    };
-    let End::At(consumed) = read_list(row, row.levels - 1, entries, s, first) else {
-        return Reading::Refused(Refusal::CutShort);
-    };
-    let rest = s.len() - consumed;
-    if row.strict {
+    match list_at(row, row.levels, s, 0) {
+        Listing::Of { n, first } => match read_list(row, row.levels - 1, n, s, first) {
+            End::At(end) => consumed_to(row.strict, end, n, s),
+            End::Refused(r) => Reading::Refused(r),
+        },
+        Listing::Refused(r) => Reading::Refused(r),
+    }
+}
+
+// A value of n entries whose layout ends at `end`, which may refuse the bytes behind.
+fn consumed_to(strict: bool, end: usize, n: usize, s: &[u8]) -> Reading
+    requires { ⌜ end ≤ length (now s) ⌝ }
+    ensures { λ r. ⌜ readingOf r ≡ consumedTo (restWith strict) end n (now (s .entry)) ⌝ }
+{
+    let rest = s.len() - end;
+    if strict {
         if 0 < rest {
             return Reading::Refused(Refusal::LeftOver);
         }
-        return Reading::Value {
-            consumed,
-            rest,
-            entries,
-        };
     }
     Reading::Value {
-        consumed,
+        consumed: end,
         rest,
-        entries,
+        entries: n,
     }
 }

@@ -3,7 +3,7 @@ use numbers::Refusal;
 ghost use mathlib.Core.Path.{_≡_};
 ghost use Prim.Native.Nat.{_<_};
 ghost use Rattle.layouts.specs.Layouts.{bytes, entry, layoutOf};
-ghost use Rattle.layouts.specs.Rows.{headAt, widthAt, counting, kindWith, kindOf, rowOf};
+ghost use Rattle.layouts.specs.PrivateRows.{headAt, widthAt, counting, kindWith, rowKind, rowTold};
 
 // A row of the table. An entry of level k is hk bytes and then, for k above 0, a list of entries of level k - 1 whose count has w(k-1) bytes: 1 or
 // 2, or 0 for a list that goes to the end. The value itself is an entry of level `levels`.
@@ -27,7 +27,7 @@ pub enum KindRow {
 
 // The rows of layouts with one, two and three levels of lists, written from the outside to the inside.
 fn one(h1: u8, w0: u8, h0: u8, strict: bool) -> Row
-    ensures { λ r. ⌜ kindOf r ≡ kindWith (entry h1 (counting w0) (bytes h0)) strict ⌝ }
+    ensures { λ r. ⌜ rowKind r ≡ kindWith (entry h1 (counting w0) (bytes h0)) strict ⌝ }
 {
     Row {
         levels: 1,
@@ -43,7 +43,7 @@ fn one(h1: u8, w0: u8, h0: u8, strict: bool) -> Row
 }
 
 fn two(h2: u8, w1: u8, h1: u8, w0: u8, h0: u8, strict: bool) -> Row
-    ensures { λ r. ⌜ kindOf r ≡ kindWith (entry h2 (counting w1) (entry h1 (counting w0) (bytes h0))) strict ⌝ }
+    ensures { λ r. ⌜ rowKind r ≡ kindWith (entry h2 (counting w1) (entry h1 (counting w0) (bytes h0))) strict ⌝ }
 {
     Row {
         levels: 2,
@@ -59,7 +59,7 @@ fn two(h2: u8, w1: u8, h1: u8, w0: u8, h0: u8, strict: bool) -> Row
 }
 
 fn three(h3: u8, w2: u8, h2: u8, w1: u8, h1: u8, w0: u8, h0: u8, strict: bool) -> Row
-    ensures { λ r. ⌜ kindOf r ≡ kindWith (entry h3 (counting w2) (entry h2 (counting w1) (entry h1 (counting w0) (bytes h0)))) strict ⌝ }
+    ensures { λ r. ⌜ rowKind r ≡ kindWith (entry h3 (counting w2) (entry h2 (counting w1) (entry h1 (counting w0) (bytes h0)))) strict ⌝ }
 {
     Row {
         levels: 3,
@@ -76,7 +76,7 @@ fn three(h3: u8, w2: u8, h2: u8, w1: u8, h1: u8, w0: u8, h0: u8, strict: bool) -
 
 // The row of the list kind with this code.
 pub(crate) fn row_of(code: u8) -> KindRow
-    ensures { λ r. ⌜ rowOf r ≡ layoutOf code ⌝ }
+    ensures { λ r. ⌜ rowTold r ≡ layoutOf code ⌝ }
 {
     match code {
         // SupportedService

@@ -32,6 +32,10 @@ pub gave : {A B : Type 0} (x : Answer A) (f : A → Answer B) (b : B) → andThe
 gave (gives a) f b e = record { first = a; is = refl; then = e }
 gave (refuses n vs) f b e = never b n vs (sym e)
 
+pub mapped-gave : {A B : Type 0} (f : A → B) (x : Answer A) (b : B) → mapped f x ≡ gives b → Given x (λ a. gives (f a)) b
+mapped-gave f (gives a) b e = record { first = a; is = refl; then = e }
+mapped-gave f (refuses n vs) b e = never b n vs (sym e)
+
 -- the same follows where the same is given, and one after the other is one
 pub alike : {A B : Type 0} (x : Answer A) (f g : A → Answer B) → ((a : A) → f a ≡ g a) → andThen x f ≡ andThen x g
 alike (gives a) f g e = e a

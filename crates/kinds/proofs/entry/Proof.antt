@@ -16,7 +16,7 @@ entry-requires : tie.Need-entry-requires
 entry-requires c κs = search needs
 
 returns : tie.Need-returns
-returns c = c .entry .ensures ∙ list-part _ _ (sym (c .before .before .is-list .ensures) ∙ c .before .if1 .taken) _
+returns c = c .entry .ensures .0 ∙ list-part _ _ (sym (c .before .before .is-list .ensures) ∙ c .before .if1 .taken) _
 
 slice-aggregate-result : tie.Need-slice-aggregate-result
 slice-aggregate-result c = search needs

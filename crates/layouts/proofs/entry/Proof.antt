@@ -2,11 +2,11 @@
 use borrow.Author.Needs.{needs}
 use Rattle.layouts.proofs.entry.Statement.{statement}
 use Rattle.layouts.proofs.entry.Tie as tie
-use mathlib.Core.Path.{_≡_, sym}
-use Rattle.numbers.specs.Numbers.{gives}
-use Rattle.layouts.specs.Access.{numbersOf, locateEntry}
-use Rattle.layouts.proofs.Finding.{located-within}
-use Rattle.layouts.proofs.Answers.{empty}
+use mathlib.Core.Path.{_≡_, refl, sym}
+use Rattle.numbers.specs.Numbers.{gives, told}
+use Rattle.layouts.specs.Access.{Span, numbersOf, locateEntry}
+use Rattle.layouts.proofs.Within.{Within}
+use Rattle.layouts.proofs.Values.{located-within}
 
 locate-requires : tie.Need-locate-requires
 locate-requires c κs = search needs
@@ -14,52 +14,43 @@ locate-requires c κs = search needs
 enum-known-start : tie.Need-enum-known-start
 enum-known-start c = search needs
 
+-- where the entry was found
+has : (c : tie.After-start) →
+    let a = c .before .before .before .before .args in
+    locateEntry (a .code) (numbersOf (a .path)) (a .s .now) ≡ gives (record { start = c .start .given .0 .0; end = c .start .given .0 .1 .0 })
+has c = sym (rw (c .start .given .1) at (c .before .before .locate .ensures))
+
+inside : (c : tie.After-start) → Within (c .start .given .0 .0) (c .start .given .0 .1 .0) (c .before .before .before .before .args .s .now)
+inside c = let a = c .before .before .before .before .args in located-within (a .code) (numbersOf (a .path)) (a .s .now) _ (has c)
+
 sub-result : tie.Need-sub-result
-sub-result c =
-    let d = c .before .before .before in
-    let a = d .before .before .args in
-    let g = c .before .start .given in
-    let e : locateEntry (a .code) (numbersOf (a .path)) (a .s .now) ≡ gives (record { start = g .0 .0; end = g .0 .1 .0 }) = sym (rw (g .1) at (d .locate .ensures)) in
-    let w = located-within (a .code) (numbersOf (a .path)) (a .s .now) (record { start = g .0 .0; end = g .0 .1 .0 }) e in
-    search needs
+sub-result c = let w = inside (c .before) in search needs
 
 part-result-start : tie.Need-part-result-start
-part-result-start c =
-    let d = c .before .before .before in
-    let a = d .before .before .args in
-    let g = c .before .start .given in
-    let e : locateEntry (a .code) (numbersOf (a .path)) (a .s .now) ≡ gives (record { start = g .0 .0; end = g .0 .1 .0 }) = sym (rw (g .1) at (d .locate .ensures)) in
-    let w = located-within (a .code) (numbersOf (a .path)) (a .s .now) (record { start = g .0 .0; end = g .0 .1 .0 }) e in
-    search needs
+part-result-start c = let w = inside (c .before) in search needs
 
 part-result-end : tie.Need-part-result-end
-part-result-end c =
-    let d = c .before .before .before in
-    let a = d .before .before .args in
-    let g = c .before .start .given in
-    let e : locateEntry (a .code) (numbersOf (a .path)) (a .s .now) ≡ gives (record { start = g .0 .0; end = g .0 .1 .0 }) = sym (rw (g .1) at (d .locate .ensures)) in
-    let w = located-within (a .code) (numbersOf (a .path)) (a .s .now) (record { start = g .0 .0; end = g .0 .1 .0 }) e in
-    search needs
+part-result-end c = let w = inside (c .before) in search needs
 
 enum-told : tie.Need-enum-told
 enum-told c = search needs
 
-slice-aggregate-result : tie.Need-slice-aggregate-result
-slice-aggregate-result c = search needs
+sub-result-2 : tie.Need-sub-result-2
+sub-result-2 c = search needs
+
+part-result-start-2 : tie.Need-part-result-start-2
+part-result-start-2 c = search needs
+
+part-result-end-2 : tie.Need-part-result-end-2
+part-result-end-2 c = search needs
 
 returns : tie.Need-returns
-returns c =
-    let d = c .before .before .before .before in
-    let a = d .before .before .args in
-    let g = c .before .before .start .given in
-    let e : locateEntry (a .code) (numbersOf (a .path)) (a .s .now) ≡ gives (record { start = g .0 .0; end = g .0 .1 .0 }) = sym (rw (g .1) at (d .locate .ensures)) in
-    rw e
+returns c = let e = has (c .before .before) in (rw e, rw e)
 
 returns-2 : tie.Need-returns-2
 returns-2 c =
-    let d = c .before .before .before in
-    let g = c .before .enum-told .given in
-    empty (g .0 .0) _ _ (sym (rw (g .1) at (d .locate .ensures)))
+    let e = sym (rw (c .before .enum-told .given .1) at (c .before .before .before .locate .ensures)) in
+    (rw e, rw e)
 
 pub entry-spec : {M : Type 1} → statement M
 entry-spec =
@@ -71,6 +62,8 @@ entry-spec =
     part-result-start
     part-result-end
     enum-told
-    slice-aggregate-result
+    sub-result-2
+    part-result-start-2
+    part-result-end-2
     returns
     returns-2)

@@ -4,11 +4,11 @@ use Rattle.layouts.proofs.read_value.Statement.{statement}
 use Rattle.layouts.proofs.read_value.Tie as tie
 use mathlib.Core.Path.{_≡_, sym, _∙_}
 use Rattle.numbers.specs.Numbers.{gives}
+use Rattle.numbers.proofs.Answers.{follows, stops}
 use Rattle.layouts.specs.Layouts.{layoutOf}
-use Rattle.layouts.specs.Rows.{kindOf}
-use Rattle.layouts.proofs.Answers.{then-gives, then-told}
+use Rattle.layouts.specs.Reading.{readValue}
+use Rattle.layouts.specs.PrivateRows.{rowKind}
 use Rattle.layouts.proofs.Table.{row-levels}
-use Rattle.layouts.specs.Reading.{readAs, readValue}
 
 row-of-requires : tie.Need-row-of-requires
 row-of-requires c κs = search needs
@@ -17,7 +17,7 @@ enum-known-row : tie.Need-enum-known-row
 enum-known-row c = search needs
 
 -- the row that was found
-has : (c : tie.After-row) → layoutOf (c .before .before .before .before .args .code) ≡ gives (kindOf (c .row .given .0 .0))
+has : (c : tie.After-row) → layoutOf (c .before .before .before .before .args .code) ≡ gives (rowKind (c .row .given .0 .0))
 has c = sym (rw (c .row .given .1) at (c .before .before .row-of .ensures))
 
 read-row-requires : tie.Need-read-row-requires
@@ -28,19 +28,11 @@ enum-known-r c = search needs
 
 returns : tie.Need-returns
 unfolding readValue
-returns c =
-    let d = c .before .before .before .before in
-    let a = d .before .before .args in
-    let g = c .before .before .row .given in
-    c .read-row .ensures ∙ then-gives (layoutOf (a .code)) (λ k. readAs k (a .s .now)) (kindOf (g .0 .0)) (has (c .before .before))
+returns c = c .read-row .ensures ∙ sym (follows _ _ _ (has (c .before .before)))
 
 returns-2 : tie.Need-returns-2
 unfolding readValue
-returns-2 c =
-    let d = c .before .before .before in
-    let a = d .before .before .args in
-    let g = c .before .r .given in
-    then-told (layoutOf (a .code)) (λ k. readAs k (a .s .now)) (g .0 .0) (sym (rw (g .1) at (d .row-of .ensures)))
+returns-2 c = sym (stops _ _ _ _ (sym (rw (c .before .r .given .1) at (c .before .before .before .row-of .ensures))))
 
 pub read-value-spec : {M : Type 1} → statement M
 read-value-spec =

@@ -1,15 +1,15 @@
--- The numbers that are left, under the entry that was come to, lead to the same place as all of them under the value.
+-- The numbers that are left, under the entry that was come to, lead to the same entry as all of them under the value.
 use Rattle.layouts.proofs.access.find_entry.Statement.{statement}
 use Rattle.layouts.proofs.access.find_entry.Tie as tie
 use borrow.Author.Needs.{needs}
 use mathlib.Core.Path.{_≡_, refl, sym, _∙_}
 use lib.ListN.{length}
-use Rattle.layouts.specs.declared.lists.End.the-variants.{At, Short}
 use Prim.Native.Nat.{_-_, _≤_}
+use Rattle.numbers.specs.Numbers.{gives}
 use Rattle.layouts.specs.Access.{numbers, childAt, findEntry}
-use Rattle.layouts.specs.Rows.{layoutAt}
+use Rattle.layouts.specs.PrivateRows.{layoutAt}
 use Rattle.layouts.proofs.Within.{child-within}
-use Rattle.layouts.proofs.Finding.{child-leaf, below-row, numbers-none, numbers-more, find-stop, find-on, find-here}
+use Rattle.layouts.proofs.Finding.{child-level, below-row, numbers-none, numbers-more, find-stop, find-on, find-here}
 
 abbrev Inv-loop : tie.InvT-loop
 Inv-loop row s k₀ at₀ left₀ i0₀ i1₀ i2₀ k at left i0 i1 i2 =
@@ -21,38 +21,37 @@ abbrev μ-loop : tie.MeasureT-loop
 loop-holds : tie.Need-loop-holds Inv-loop μ-loop
 loop-holds c = (search needs, refl)
 
-returns : tie.Need-returns Inv-loop μ-loop
-returns c =
-    let l = c .before .before in
-    let s = l .before .before .args .s .now in
-    let row = l .before .before .args .row in
-    let v = l .loop in
-    let more = numbers-more (v .left) (v .i0) (v .i1) (v .i2) (c .before .loop-test .taken) in
-    let is = numbers (v .left - 1) (v .i1) (v .i2) 0 in
-    sym (v .inv .1 ∙ rw more (find-stop (layoutAt row (v .k)) (v .i0) is s (v .at) (child-leaf row (v .k) (v .i0) s (v .at) (c .if1 .taken))))
-
 child-requires : tie.Need-child-requires Inv-loop μ-loop
 child-requires c κs = search needs
 
 enum-known-q : tie.Need-enum-known-q Inv-loop μ-loop
 enum-known-q c = search needs
 
-enum-told : tie.Need-enum-told Inv-loop μ-loop
-enum-told c = search needs
+-- the entry that was found one level down
+has : (c : tie.After-q Inv-loop μ-loop) →
+    let l = c .before .before .before .before in
+    let a = l .before .before .args in
+    childAt (layoutAt (a .row) (l .loop .k)) (l .loop .i0) (a .s .now) (l .loop .at) ≡ gives (c .q .given .0 .0)
+has c = sym (rw (c .q .given .1) at (c .before .before .child .ensures))
 
-returns-2 : tie.Need-returns-2 Inv-loop μ-loop
-returns-2 c =
-    let l = c .before .before .before .before .before in
-    let s = l .before .before .args .s .now in
-    let row = l .before .before .args .row in
+enum-known-r : tie.Need-enum-known-r Inv-loop μ-loop
+enum-known-r c = search needs
+
+returns : tie.Need-returns Inv-loop μ-loop
+returns c =
+    let d = c .before .before .before in
+    let l = d .before .before in
+    let a = l .before .before .args in
     let v = l .loop in
-    let more = numbers-more (v .left) (v .i0) (v .i1) (v .i2) (c .before .before .before .before .loop-test .taken) in
-    let is = numbers (v .left - 1) (v .i1) (v .i2) 0 in
-    let e : childAt (layoutAt row (v .k)) (v .i0) s (v .at) ≡ Short = sym (c .before .before .child .ensures) ∙ c .enum-told .given .1 in
-    sym (v .inv .1 ∙ rw more (find-stop (layoutAt row (v .k)) (v .i0) is s (v .at) e))
+    let more = numbers-more (v .left) (v .i0) (v .i1) (v .i2) (d .before .loop-test .taken) in
+    let stop = find-stop (layoutAt (a .row) (v .k)) (v .i0) (a .s .now) (v .at) (numbers (v .left - 1) (v .i1) (v .i2) 0) _ _ (sym (rw (c .before .r .given .1) at (d .child .ensures))) in
+    sym (v .inv .1 ∙ rw more stop)
 
 sub-k : tie.Need-sub-k Inv-loop μ-loop
-sub-k c = search needs
+sub-k c =
+    let l = c .before .before .before .before .before in
+    let a = l .before .before .args in
+    child-level (a .row) (l .loop .k) (l .loop .i0) (a .s .now) (l .loop .at) _ (has (c .before))
 
 sub-left : tie.Need-sub-left Inv-loop μ-loop
 sub-left c = search needs
@@ -62,27 +61,21 @@ loop-less c = search needs
 
 loop-again : tie.Need-loop-again Inv-loop μ-loop
 loop-again c =
-    let l = c .before .before .before .before .before .before in
-    let s = l .before .before .args .s .now in
-    let row = l .before .before .args .row in
+    let l = c .before .before .before .before .before in
+    let a = l .before .before .args in
     let v = l .loop in
-    let more = numbers-more (v .left) (v .i0) (v .i1) (v .i2) (c .before .before .before .before .before .loop-test .taken) in
-    let is = numbers (v .left - 1) (v .i1) (v .i2) 0 in
-    let q = c .before .q .given .0 .0 in
-    let e : childAt (layoutAt row (v .k)) (v .i0) s (v .at) ≡ At q = sym (c .before .before .before .child .ensures) ∙ c .before .q .given .1 in
-    let down = below-row row (v .k) (c .before .before .before .before .if1 .left) in (
-      child-within (layoutAt row (v .k)) (v .i0) s (v .at) q e .1,
-      v .inv .1 ∙ rw more (rw down at (find-on (layoutAt row (v .k)) (v .i0) is s (v .at) q e)),
-    )
+    let more = numbers-more (v .left) (v .i0) (v .i1) (v .i2) (c .before .before .before .before .loop-test .taken) in
+    let down = below-row (a .row) (v .k) (sub-k c) in
+    let on = find-on (layoutAt (a .row) (v .k)) (v .i0) (a .s .now) (v .at) (numbers (v .left - 1) (v .i1) (v .i2) 0) _ (has (c .before)) in
+    (child-within (layoutAt (a .row) (v .k)) (v .i0) (a .s .now) (v .at) _ (has (c .before)) .1, v .inv .1 ∙ rw more (rw down at on))
 
-returns-3 : tie.Need-returns-3 Inv-loop μ-loop
-returns-3 c =
+returns-2 : tie.Need-returns-2 Inv-loop μ-loop
+returns-2 c =
     let l = c .before in
-    let s = l .before .before .args .s .now in
-    let row = l .before .before .args .row in
+    let a = l .before .before .args in
     let v = l .loop in
     let none = numbers-none (v .left) (v .i0) (v .i1) (v .i2) (c .loop-test .left) in
-    sym (v .inv .1 ∙ rw none (find-here (layoutAt row (v .k)) s (v .at)))
+    sym (v .inv .1 ∙ rw none (find-here (layoutAt (a .row) (v .k)) (a .s .now) (v .at)))
 
 pub find-entry-spec : {M : Type 1} → statement M
 find-entry-spec =
@@ -91,13 +84,12 @@ find-entry-spec =
     Inv-loop
     μ-loop
     loop-holds
-    returns
     child-requires
     enum-known-q
-    enum-told
-    returns-2
+    enum-known-r
+    returns
     sub-k
     sub-left
     loop-less
     loop-again
-    returns-3)
+    returns-2)

@@ -3,10 +3,10 @@ use borrow.Author.Needs.{needs}
 use Rattle.layouts.proofs.access.span_of.Statement.{statement}
 use Rattle.layouts.proofs.access.span_of.Tie as tie
 use mathlib.Core.Path.{_≡_, sym, _∙_}
-use Rattle.layouts.specs.Access.{numbersOf, findEntry, found, nowhere}
-use Rattle.layouts.specs.declared.lists.End.the-variants.{At, Short}
+use Rattle.numbers.specs.Numbers.{gives, andThen, mapped}
 use Rattle.layouts.specs.Reading.{endOf}
-use Rattle.layouts.specs.Rows.{layoutAt}
+use Rattle.layouts.specs.Access.{numbersOf, findEntry, spanOf}
+use Rattle.layouts.specs.PrivateRows.{layoutAt}
 use Rattle.layouts.proofs.Within.{find-within}
 use Rattle.layouts.proofs.Finding.{span-none, span-some}
 
@@ -22,62 +22,52 @@ find-entry-requires c κs = search needs
 enum-known-k : tie.Need-enum-known-k
 enum-known-k c = search needs
 
-enum-told : tie.Need-enum-told
-enum-told c = search needs
-
-returns-2 : tie.Need-returns-2
-returns-2 c =
-    let f = c .before .before in
-    let a = f .before .before .before .before .args in
-    let is = numbersOf (a .path) in
-    let l = layoutAt (a .row) (a .row .levels) in
+-- the two steps of a path that has a number, and the entry that was found
+some : (c : tie.After-find-entry) →
+    let a = c .before .before .before .before .args in
+    spanOf (layoutAt (a .row) (a .row .levels)) (numbersOf (a .path)) (a .s .now) ≡
+    andThen (findEntry (layoutAt (a .row) (a .row .levels)) (numbersOf (a .path)) (a .s .now) 0) (λ f. mapped (λ q. record { start = f .start; end = q }) (endOf (f .layout) (a .s .now) (f .start)))
+some c =
+    let a = c .before .before .before .before .args in
     let p = a .path in
-    let some = span-some l (p .depth) (p .i0) (p .i1) (p .i2) (a .s .now) (f .before .if1 .left) in
-    let e : findEntry l is (a .s .now) 0 ≡ nowhere = sym (rw (c .enum-told .given .1) at (f .find-entry .ensures)) in
-    sym (some ∙ rw e)
+    span-some (layoutAt (a .row) (a .row .levels)) (p .depth) (p .i0) (p .i1) (p .i2) (a .s .now) (c .before .if1 .left)
+
+has : (c : tie.After-k) →
+    let a = c .before .before .before .before .before .before .args in
+    findEntry (layoutAt (a .row) (a .row .levels)) (numbersOf (a .path)) (a .s .now) 0 ≡ gives (record { layout = layoutAt (a .row) (c .k .given .0 .0); start = c .k .given .0 .1 .0 })
+has c = sym (rw (c .k .given .1) at (c .before .before .find-entry .ensures))
 
 read-entry-requires : tie.Need-read-entry-requires
 read-entry-requires c κs =
-    let f = c .before .before .before in
-    let a = f .before .before .before .before .args in
-    let is = numbersOf (a .path) in
-    let l = layoutAt (a .row) (a .row .levels) in
-    let g = c .before .k .given in
-    let e : findEntry l is (a .s .now) 0 ≡ found (layoutAt (a .row) (g .0 .0)) (g .0 .1 .0) = sym (rw (g .1) at (f .find-entry .ensures)) in
-    find-within l is (a .s .now) 0 (layoutAt (a .row) (g .0 .0)) (g .0 .1 .0) (search needs) e .1
+    let k = c .before in
+    let a = k .before .before .before .before .before .before .args in
+    find-within (layoutAt (a .row) (a .row .levels)) (numbersOf (a .path)) (a .s .now) 0 _ (search needs) (has k) .1
 
 enum-known-end : tie.Need-enum-known-end
 enum-known-end c = search needs
 
-enum-told-2 : tie.Need-enum-told-2
-enum-told-2 c = search needs
+enum-known-r : tie.Need-enum-known-r
+enum-known-r c = search needs
+
+enum-known-r-2 : tie.Need-enum-known-r-2
+enum-known-r-2 c = search needs
+
+returns-2 : tie.Need-returns-2
+returns-2 c =
+    let d = c .before .before .before in
+    let k = d .before .before in
+    sym (some (k .before .before) ∙ rw (has k, sym (rw (c .before .end .given .1) at (d .read-entry .ensures))))
 
 returns-3 : tie.Need-returns-3
 returns-3 c =
-    let f = c .before .before .before .before .before .before in
-    let a = f .before .before .before .before .args in
-    let is = numbersOf (a .path) in
-    let l = layoutAt (a .row) (a .row .levels) in
-    let p = a .path in
-    let some = span-some l (p .depth) (p .i0) (p .i1) (p .i2) (a .s .now) (f .before .if1 .left) in
-    let g = c .before .before .before .before .k .given in
-    let e : findEntry l is (a .s .now) 0 ≡ found (layoutAt (a .row) (g .0 .0)) (g .0 .1 .0) = sym (rw (g .1) at (f .find-entry .ensures)) in
-    let b : endOf (layoutAt (a .row) (g .0 .0)) (a .s .now) (g .0 .1 .0) ≡ Short = sym (c .before .before .read-entry .ensures) ∙ c .enum-told2 .given .1 in
-    sym (some ∙ rw (e, b))
+    let d = c .before .before .before in
+    let k = d .before .before in
+    sym (some (k .before .before) ∙ rw (has k, sym (rw (c .before .r .given .1) at (d .read-entry .ensures))))
 
 returns-4 : tie.Need-returns-4
 returns-4 c =
-    let f = c .before .before .before .before .before .before .before in
-    let a = f .before .before .before .before .args in
-    let is = numbersOf (a .path) in
-    let l = layoutAt (a .row) (a .row .levels) in
-    let p = a .path in
-    let some = span-some l (p .depth) (p .i0) (p .i1) (p .i2) (a .s .now) (f .before .if1 .left) in
-    let g = c .before .before .before .before .before .k .given in
-    let h = c .before .end .given in
-    let e : findEntry l is (a .s .now) 0 ≡ found (layoutAt (a .row) (g .0 .0)) (g .0 .1 .0) = sym (rw (g .1) at (f .find-entry .ensures)) in
-    let b : endOf (layoutAt (a .row) (g .0 .0)) (a .s .now) (g .0 .1 .0) ≡ At (h .0 .0) = sym (c .before .before .before .read-entry .ensures) ∙ h .1 in
-    sym (some ∙ rw (e, b))
+    let f = c .before .before .before in
+    sym (some f ∙ rw (sym (rw (c .before .r2 .given .1) at (f .find-entry .ensures))))
 
 pub span-of-spec : {M : Type 1} → statement M
 span-of-spec =
@@ -86,10 +76,10 @@ span-of-spec =
     returns
     find-entry-requires
     enum-known-k
-    enum-told
-    returns-2
     read-entry-requires
     enum-known-end
-    enum-told-2
+    enum-known-r
+    enum-known-r-2
+    returns-2
     returns-3
     returns-4)

@@ -9,17 +9,15 @@ use Rattle.layouts.proofs.lists.read_list.Reads as read-list
 use Rattle.layouts.proofs.lists.read_list.Kinds as read-list-kinds
 use Rattle.layouts.proofs.lists.+read_entry+read_list.Lts-read_list as read-list-lts
 use Rattle.layouts.proofs.lists.list_at.Reads as list-at-reads
-use Rattle.layouts.proofs.lists.middle_entry.Reads as middle-entry-reads
-use Rattle.layouts.proofs.lists.shallow_list.Reads as shallow-list-reads
 use Rattle.layouts.proofs.lists.skip.Reads as skip-reads
 use Rattle.layouts.proofs.rows.wide.Reads as wide-reads
 use Rattle.layouts.proofs.lists.+read_entry+read_list.{statement}
 use Rattle.layouts.proofs.lists.+read_entry+read_list.Tie.{close}
 use borrow.Author.Needs.{needs}
 use mathlib.Core.Path.{_≡_, sym, _∙_}
-use Rattle.layouts.specs.Rows.{layoutAt}
+use Rattle.layouts.specs.PrivateRows.{layoutAt}
 use Rattle.layouts.specs.Reading.{listOf}
-use Rattle.layouts.specs.declared.lists.Listing.the-variants.{Of}
+use Rattle.numbers.specs.Numbers.{gives}
 use Rattle.layouts.proofs.Laws.{layout-zero, end-there, end-cut, end-zero}
 use Rattle.layouts.proofs.Within.{list-within}
 use Rattle.layouts.proofs.Loop.{Left, left-all, left-none, left-cut, left-more}
@@ -48,10 +46,10 @@ read-list-below t =
 -- what each reader may take from those that it calls
 abbrev entry-claims : ℕ → read-entry-lts.Claims
 entry-claims t =
-    (wide-reads.Asked, wide-reads.Learnt, skip-reads.Asked, skip-reads.Learnt, middle-entry-reads.Asked, middle-entry-reads.Learnt, list-at-reads.Asked, list-at-reads.Learnt, read-list-below t, read-list.Post)
+    (wide-reads.Asked, wide-reads.Learnt, skip-reads.Asked, skip-reads.Learnt, list-at-reads.Asked, list-at-reads.Learnt, read-list-below t, read-list.Post)
 
 abbrev list-claims : ℕ → read-list-lts.Claims
-list-claims t = (wide-reads.Asked, wide-reads.Learnt, skip-reads.Asked, skip-reads.Learnt, shallow-list-reads.Asked, shallow-list-reads.Learnt, read-entry-below t, read-entry.Post)
+list-claims t = (wide-reads.Asked, wide-reads.Learnt, skip-reads.Asked, skip-reads.Learnt, read-entry-below t, read-entry.Post)
 
 read-entry-wide-requires : (t : ℕ) → read-entry-lts.Need-wide-requires (entry-claims t) (read-entry-at t) read-entry.Post
 read-entry-wide-requires t c κs = search needs
@@ -64,46 +62,43 @@ read-entry-returns t c =
     let a = c .before .before .before .before .args in
     c .skip .ensures ∙ rw (c .before .wide .ensures .0) (sym (end-zero (a .row) (a .k) (a .s .now) (a .at) (c .before .before .if1 .taken)))
 
-read-entry-middle-entry-requires : (t : ℕ) → read-entry-lts.Need-middle-entry-requires (entry-claims t) (read-entry-at t) read-entry.Post
-read-entry-middle-entry-requires t c κs = search needs
-
-read-entry-returns-2 : (t : ℕ) → read-entry-lts.Need-returns-2 (entry-claims t) (read-entry-at t) read-entry.Post
-read-entry-returns-2 t c = rw (c .before .if2 .taken) (c .middle-entry .ensures)
-
 read-entry-list-at-requires : (t : ℕ) → read-entry-lts.Need-list-at-requires (entry-claims t) (read-entry-at t) read-entry.Post
 read-entry-list-at-requires t c κs = search needs
 
 read-entry-enum-known-n : (t : ℕ) → read-entry-lts.Need-enum-known-n (entry-claims t) (read-entry-at t) read-entry.Post
 read-entry-enum-known-n t c = search needs
 
+-- the list that was found
+has : (t : ℕ) (c : read-entry-lts.After-n (entry-claims t) (read-entry-at t) read-entry.Post) →
+    let a = c .before .before .before .before .before .args in
+    listOf (layoutAt (a .row) (a .k)) (a .s .now) (a .at) ≡ gives (record { many = c .n .given .0 .0; first = c .n .given .0 .1 .0 })
+has t c = sym (rw (c .n .given .1) at (c .before .before .list-at .ensures .0))
+
 read-entry-sub-read-list : (t : ℕ) → read-entry-lts.Need-sub-read-list (entry-claims t) (read-entry-at t) read-entry.Post
 read-entry-sub-read-list t c = search needs
 
 read-entry-read-list-requires : (t : ℕ) → read-entry-lts.Need-read-list-requires (entry-claims t) (read-entry-at t) read-entry.Post
 read-entry-read-list-requires t c κs =
-    let d = c .before .before .before in
-    let a = d .before .before .before .before .args in
-    let g = c .before .n .given in
-    let e : listOf (layoutAt (a .row) (a .k)) (a .s .now) (a .at) ≡ Of (g .0 .0) (g .0 .1 .0) = sym (d .list-at .ensures .0) ∙ g .1 in
-    let w = list-within (layoutAt (a .row) (a .k)) (a .s .now) (a .at) (g .0 .0) (g .0 .1 .0) e in
-    (search needs, (w .1, rw (g .1) at (d .list-at .ensures .1)))
+    let l = c .before in
+    let a = l .before .before .before .before .before .args in
+    let w = list-within (layoutAt (a .row) (a .k)) (a .s .now) (a .at) _ (has t l) in
+    (search needs, (w .1, rw (l .n .given .1) at (l .before .before .list-at .ensures .1)))
 
-read-entry-enum-told : (t : ℕ) → read-entry-lts.Need-enum-told (entry-claims t) (read-entry-at t) read-entry.Post
-read-entry-enum-told t c = search needs
+read-entry-enum-known-r : (t : ℕ) → read-entry-lts.Need-enum-known-r (entry-claims t) (read-entry-at t) read-entry.Post
+read-entry-enum-known-r t c = search needs
+
+read-entry-returns-2 : (t : ℕ) → read-entry-lts.Need-returns-2 (entry-claims t) (read-entry-at t) read-entry.Post
+read-entry-returns-2 t c =
+    let l = c .before .before in
+    let d = l .before .before in
+    let a = d .before .before .before .args in
+    c .read-list .ensures ∙ end-there (a .row) (a .k) (a .s .now) (a .at) _ (d .before .if1 .left) (has t l)
 
 read-entry-returns-3 : (t : ℕ) → read-entry-lts.Need-returns-3 (entry-claims t) (read-entry-at t) read-entry.Post
 read-entry-returns-3 t c =
-    let d = c .before .before .before .before in
-    let a = d .before .before .before .before .args in
-    let g = c .before .before .n .given in
-    let e : listOf (layoutAt (a .row) (a .k)) (a .s .now) (a .at) ≡ Of (g .0 .0) (g .0 .1 .0) = sym (d .list-at .ensures .0) ∙ g .1 in
-    c .read-list .ensures ∙ end-there (a .row) (a .k) (a .s .now) (a .at) (g .0 .0) (g .0 .1 .0) (d .before .before .if1 .left) e
-
-read-entry-returns-4 : (t : ℕ) → read-entry-lts.Need-returns-4 (entry-claims t) (read-entry-at t) read-entry.Post
-read-entry-returns-4 t c =
-    let d = c .before .before in
-    let a = d .before .before .before .before .args in
-    end-cut (a .row) (a .k) (a .s .now) (a .at) (d .before .before .if1 .left) (sym (d .list-at .ensures .0) ∙ c .enum-told .given .1)
+    let d = c .before .before .before in
+    let a = d .before .before .before .args in
+    end-cut (a .row) (a .k) (a .s .now) (a .at) _ _ (d .before .if1 .left) (sym (rw (c .before .r .given .1) at (d .list-at .ensures .0)))
 
 abbrev read-list-Inv-loop : read-list-lts.InvT-loop
 read-list-Inv-loop row k n s at p₀ i₀ p i = Left (layoutAt row k) s n at i p
@@ -124,14 +119,8 @@ read-list-returns t c =
     let a = c .before .before .before .before .args in
     c .skip .ensures ∙ rw (c .before .wide .ensures .0, layout-zero (a .row) (a .k) (c .before .before .if1 .taken))
 
-read-list-shallow-list-requires : (t : ℕ) → read-list-lts.Need-shallow-list-requires (list-claims t) (read-list-at t) read-list.Post read-list-Inv-loop read-list-μ-loop
-read-list-shallow-list-requires t c κs = search needs
-
-read-list-returns-2 : (t : ℕ) → read-list-lts.Need-returns-2 (list-claims t) (read-list-at t) read-list.Post read-list-Inv-loop read-list-μ-loop
-read-list-returns-2 t c = rw (c .before .if2 .taken) (c .shallow-list .ensures)
-
 read-list-loop-holds : (t : ℕ) → read-list-lts.Need-loop-holds (list-claims t) (read-list-at t) read-list.Post read-list-Inv-loop read-list-μ-loop
-read-list-loop-holds t c = let a = c .before .before .before .args in left-all (layoutAt (a .row) (a .k)) (a .s .now) (a .n) (a .at) (search needs)
+read-list-loop-holds t c = let a = c .before .before .args in left-all (layoutAt (a .row) (a .k)) (a .s .now) (a .n) (a .at) (search needs)
 
 read-list-read-entry-requires : (t : ℕ) → read-list-lts.Need-read-entry-requires (list-claims t) (read-list-at t) read-list.Post read-list-Inv-loop read-list-μ-loop
 read-list-read-entry-requires t c κs = search needs
@@ -139,16 +128,15 @@ read-list-read-entry-requires t c κs = search needs
 read-list-enum-known-q : (t : ℕ) → read-list-lts.Need-enum-known-q (list-claims t) (read-list-at t) read-list.Post read-list-Inv-loop read-list-μ-loop
 read-list-enum-known-q t c = search needs
 
-read-list-enum-told : (t : ℕ) → read-list-lts.Need-enum-told (list-claims t) (read-list-at t) read-list.Post read-list-Inv-loop read-list-μ-loop
-read-list-enum-told t c = search needs
+read-list-enum-known-r : (t : ℕ) → read-list-lts.Need-enum-known-r (list-claims t) (read-list-at t) read-list.Post read-list-Inv-loop read-list-μ-loop
+read-list-enum-known-r t c = search needs
 
-read-list-returns-3 : (t : ℕ) → read-list-lts.Need-returns-3 (list-claims t) (read-list-at t) read-list.Post read-list-Inv-loop read-list-μ-loop
-read-list-returns-3 t c =
-    let l = c .before .before .before .before in
-    let a = l .before .before .before .before .args in
+read-list-returns-2 : (t : ℕ) → read-list-lts.Need-returns-2 (list-claims t) (read-list-at t) read-list.Post read-list-Inv-loop read-list-μ-loop
+read-list-returns-2 t c =
+    let l = c .before .before .before .before .before in
+    let a = l .before .before .before .args in
     let v = l .loop in
-    let w = layoutAt (a .row) (a .k) in
-    left-cut w (a .s .now) (a .n) (a .at) (v .i) (v .p) (v .inv) (c .before .before .before .loop-test .taken) (sym (c .before .before .read-entry .ensures) ∙ c .enum-told .given .1)
+    left-cut (layoutAt (a .row) (a .k)) (a .s .now) (a .n) (a .at) (v .i) (v .p) (v .inv) _ _ (c .before .before .before .before .loop-test .taken) (sym (rw (c .before .r .given .1) at (c .before .before .before .read-entry .ensures)))
 
 read-list-add-i : (t : ℕ) → read-list-lts.Need-add-i (list-claims t) (read-list-at t) read-list.Post read-list-Inv-loop read-list-μ-loop
 read-list-add-i t c = search needs
@@ -159,19 +147,17 @@ read-list-loop-less t c = search needs
 read-list-loop-again : (t : ℕ) → read-list-lts.Need-loop-again (list-claims t) (read-list-at t) read-list.Post read-list-Inv-loop read-list-μ-loop
 read-list-loop-again t c =
     let l = c .before .before .before .before .before in
-    let a = l .before .before .before .before .args in
+    let a = l .before .before .before .args in
     let v = l .loop in
-    let w = layoutAt (a .row) (a .k) in
     let g = c .before .q .given in
-    left-more w (a .s .now) (a .n) (a .at) (v .i) (v .p) (v .inv) (g .0 .0) (c .before .before .before .before .loop-test .taken) (sym (c .before .before .before .read-entry .ensures) ∙ g .1)
+    left-more (layoutAt (a .row) (a .k)) (a .s .now) (a .n) (a .at) (v .i) (v .p) (v .inv) (g .0 .0) (c .before .before .before .before .loop-test .taken) (sym (rw (g .1) at (c .before .before .before .read-entry .ensures)))
 
-read-list-returns-4 : (t : ℕ) → read-list-lts.Need-returns-4 (list-claims t) (read-list-at t) read-list.Post read-list-Inv-loop read-list-μ-loop
-read-list-returns-4 t c =
+read-list-returns-3 : (t : ℕ) → read-list-lts.Need-returns-3 (list-claims t) (read-list-at t) read-list.Post read-list-Inv-loop read-list-μ-loop
+read-list-returns-3 t c =
     let l = c .before in
-    let a = l .before .before .before .before .args in
+    let a = l .before .before .before .args in
     let v = l .loop in
-    let w = layoutAt (a .row) (a .k) in
-    left-none w (a .s .now) (a .n) (a .at) (v .i) (v .p) (v .inv) (c .loop-test .left)
+    left-none (layoutAt (a .row) (a .k)) (a .s .now) (a .n) (a .at) (v .i) (v .p) (v .inv) (c .loop-test .left)
 
 pub +read-entry+read-list-spec : {M : Type 1} → statement M
 +read-entry+read-list-spec = close μ-read-entry μ-read-list (λ t. read-entry-lts.spec (entry-claims t)
@@ -180,15 +166,13 @@ pub +read-entry+read-list-spec : {M : Type 1} → statement M
     (read-entry-wide-requires t)
     (read-entry-skip-requires t)
     (read-entry-returns t)
-    (read-entry-middle-entry-requires t)
-    (read-entry-returns-2 t)
     (read-entry-list-at-requires t)
     (read-entry-enum-known-n t)
     (read-entry-sub-read-list t)
     (read-entry-read-list-requires t)
-    (read-entry-enum-told t)
-    (read-entry-returns-3 t)
-    (read-entry-returns-4 t))
+    (read-entry-enum-known-r t)
+    (read-entry-returns-2 t)
+    (read-entry-returns-3 t))
     λ t. read-list-lts.spec (list-claims t)
     (read-list-at t)
     read-list.Post
@@ -197,14 +181,12 @@ pub +read-entry+read-list-spec : {M : Type 1} → statement M
     (read-list-wide-requires t)
     (read-list-skip-requires t)
     (read-list-returns t)
-    (read-list-shallow-list-requires t)
-    (read-list-returns-2 t)
     (read-list-loop-holds t)
     (read-list-read-entry-requires t)
     (read-list-enum-known-q t)
-    (read-list-enum-told t)
-    (read-list-returns-3 t)
+    (read-list-enum-known-r t)
+    (read-list-returns-2 t)
     (read-list-add-i t)
     (read-list-loop-less t)
     (read-list-loop-again t)
-    (read-list-returns-4 t)
+    (read-list-returns-3 t)

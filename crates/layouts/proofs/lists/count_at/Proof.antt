@@ -70,8 +70,8 @@ shared-slice-read-wide-2 c = search needs
 wide-requires-2 : tie.Need-wide-requires-2
 wide-requires-2 c κs = search needs
 
-mul-t16 : tie.Need-mul-t16
-mul-t16 c = search needs
+mul-t17 : tie.Need-mul-t17
+mul-t17 c = search needs
 
 add-wide : tie.Need-add-wide
 add-wide c = search needs
@@ -82,11 +82,11 @@ shared-slice-read-wide-3 c = search needs
 wide-requires-3 : tie.Need-wide-requires-3
 wide-requires-3 c κs = search needs
 
-add-t23 : tie.Need-add-t23
-add-t23 c = search needs
+add-t25 : tie.Need-add-t25
+add-t25 c = search needs
 
-add-t24 : tie.Need-add-t24
-add-t24 c = search needs
+add-t26 : tie.Need-add-t26
+add-t26 c = search needs
 
 returns-6 : tie.Need-returns-6
 unfolding countAt
@@ -123,10 +123,10 @@ count-at-spec =
     returns-5
     shared-slice-read-wide-2
     wide-requires-2
-    mul-t16
+    mul-t17
     add-wide
     shared-slice-read-wide-3
     wide-requires-3
-    add-t23
-    add-t24
+    add-t25
+    add-t26
     returns-6)

@@ -6,7 +6,7 @@ use native.Mathlib.Omega.{arith}
 use mathlib.Core.Path.{sym, _∙_}
 use lib.ListN.{length}
 use Prim.Native.Nat.{_+_, _-_, _≤_, _<_}
-use Rattle.layouts.specs.Rows.{headAt}
+use Rattle.layouts.specs.PrivateRows.{headAt}
 use Rattle.layouts.proofs.Laws.{list-none, list-cut, list-there}
 
 returns : tie.Need-returns

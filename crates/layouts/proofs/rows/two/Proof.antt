@@ -2,7 +2,7 @@
 use Rattle.layouts.proofs.rows.two.Statement.{statement}
 use Rattle.layouts.proofs.rows.two.Tie as tie
 use mathlib.Core.Path.{refl}
-use Rattle.layouts.specs.Rows.{layoutAt}
+use Rattle.layouts.specs.PrivateRows.{layoutAt}
 
 returns : tie.Need-returns
 unfolding layoutAt
