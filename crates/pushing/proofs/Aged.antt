@@ -8,49 +8,19 @@ use lib.Dec.{eqb, ltb}
 use lib.ListN.{getD}
 use borrow.Author.Tests.{eqb-true, eqb-false, ltb-true, ltb-false, lt-ltb}
 use Rattle.table.specs.declared.Table.{Table}
-use Rattle.sweeping.specs.declared.Swept.{Swept}
 use Rattle.table.specs.Rows.{rowOf, without}
 use Rattle.pushing.specs.Joining.{nothing, heldBy, never, due, firstTime}
-use Rattle.sweeping.specs.Sweep.{isOld, expired, tally, lackOf, plusOne, sweptRow, sweptRows, swept}
-use Rattle.table.proofs.Sound.{Sound, row-holds, no-row, dropped-other}
-use Rattle.sweeping.proofs.Sound.{sweep-sound}
-use Rattle.pushing.proofs.Apart.{Untouched, time-after-drop, row-after-drop, drop-untouched, drop-gone}
+use Rattle.sweeping.specs.Sweep.{isOld, expired, sweptRows, swept}
+use Rattle.table.proofs.Sound.{Sound, row-holds, no-row}
+use Rattle.table.proofs.Apart.{row-after-drop, drop-gone}
+use Rattle.sweeping.proofs.Sweeping.{table-none, table-next}
+use Rattle.sweeping.proofs.Sound.{sweep-sound, later}
+use Rattle.pushing.proofs.Apart.{Untouched, drop-untouched}
 use Rattle.pushing.proofs.Own.{absent, absent-since}
-
-swept-table : (time row : ℕ) (z : Swept) → sweptRow time row z .table ≡ cond (expired (z .table) time row) (without (z .table) row) (z .table)
-unfolding sweptRow
-swept-table time row z = by-age (expired (z .table) time row)
-  where
-    by-age : (b : Bool) → cond b (record { table = without (z .table) row; counts = plusOne (lackOf (tally (z .table) row 32)) (z .counts) }) z .table ≡ cond b (without (z .table) row) (z .table)
-    by-age true = refl
-    by-age false = refl
 
 module _ (t : Table) (s : Sound t) (store : List ℕ) (time key : ℕ) where
   abbrev after : ℕ → Table
   after n = sweptRows t time n .table
-
-  next : (n : ℕ) → after (suc n) ≡ cond (expired (after n) time n) (without (after n) n) (after n)
-  unfolding sweptRows
-  next n = swept-table time n (sweptRows t time n)
-
-  start : after 0 ≡ t
-  unfolding sweptRows
-  start = refl
-
-  -- rows that are not reached yet are as they were
-  later : (n : ℕ) → n ≤ 16 → (r : ℕ) → n ≤ r → (getD (after n .used) r false ≡ getD (t .used) r false) × (getD (after n .firsts) r 0 ≡ getD (t .firsts) r 0)
-  later zero h r l = (ap (λ (z : Table). getD (z .used) r false) start, ap (λ (z : Table). getD (z .firsts) r 0) start)
-  later (suc n) h r l = by-age (later n (omega arith) r (omega arith)) (expired (after n) time n) refl
-    where
-      by-age : (getD (after n .used) r false ≡ getD (t .used) r false) × (getD (after n .firsts) r 0 ≡ getD (t .firsts) r 0) → (b : Bool) → expired (after n) time n ≡ b
-          → (getD (after (suc n) .used) r false ≡ getD (t .used) r false) × (getD (after (suc n) .firsts) r 0 ≡ getD (t .firsts) r 0)
-      by-age was b e = rw (next n, e) (by-drop b)
-        where
-          by-drop : (c : Bool) → (getD (cond c (without (after n) n) (after n) .used) r false ≡ getD (t .used) r false) × (getD (cond c (without (after n) n) (after n) .firsts) r 0 ≡ getD (t .firsts) r 0)
-          by-drop true =
-              let s′ = sweep-sound t s time n (omega arith) in
-              (dropped-other (after n) s′ n (omega arith) r (λ q. omega arith) ∙ was .0, time-after-drop (after n) s′ n (omega arith) r (λ q. omega arith) ∙ was .1)
-          by-drop false = was
 
   abbrev row : ℕ
   row = rowOf t key
@@ -68,7 +38,7 @@ module _ (t : Table) (s : Sound t) (store : List ℕ) (time key : ℕ) where
     s′ = sweep-sound t s time n (omega arith)
 
     expired-is : expired (after n) time n ≡ (getD (t .used) n false && isOld time (getD (t .firsts) n 0))
-    expired-is = rw (later n (omega arith) n (omega arith) .0, later n (omega arith) n (omega arith) .1)
+    expired-is = let was = later t s time n (omega arith) n (omega arith) in rw (was .0, was .1)
 
     both : (a b : Bool) → (a && b) ≡ true → (a ≡ true) × (b ≡ true)
     both true true e = (refl, refl)
@@ -125,11 +95,11 @@ module _ (t : Table) (s : Sound t) (store : List ℕ) (time key : ℕ) where
             by-less false g l₃ = absurd (eqb-false row n f (omega (arith, ltb-false row n g)))
 
     on : Fate n → (b : Bool) → expired (after n) time n ≡ b → Fate (suc n)
-    on fate true x = dropped-on fate x (next n ∙ rw x)
-    on fate false x = kept-on (after n) refl fate x (next n ∙ rw x)
+    on fate true x = dropped-on fate x (table-next t time n ∙ rw x)
+    on fate false x = kept-on (after n) refl fate x (table-next t time n ∙ rw x)
 
   fates : (n : ℕ) → n ≤ 16 → Fate n
-  fates zero h = stays (subst (λ (z : Table). Untouched key t z store store) (sym start) ((λ k. refl), refl)) (ap (λ (z : Table). rowOf z key) start) (λ l. absurd (omega arith))
+  fates zero h = stays (subst (λ (z : Table). Untouched key t z store store) (sym (table-none t time)) ((λ k. refl), refl)) (ap (λ (z : Table). rowOf z key) (table-none t time)) (λ l. absurd (omega arith))
   fates (suc n) h = on n (omega arith) (fates n (omega arith)) (expired (after n) time n) refl
 
   age : (b : Bool) → ltb row 16 ≡ b → due time (firstTime t key) ≡ (b && old)

@@ -8,6 +8,6 @@ use Rattle.pushing.specs.declared.choose.Chosen.{Chosen}
 use Rattle.pushing.specs.Push.{Heard, Way, end, pushedOf, over}
 use Rattle.pushing.specs.PrivateSteps.{endChange, Chooses}
 
-pub ends : (w : Way) (h : Heard) (bytes : List ℕ) → w ≡ end h bytes → (row : ℕ) (z : Pushed) → pushedOf z ≡ gives h → (r : Chosen) → (r .change ≡ endChange row) × (r .answer ≡ z)
+pub ends : (w : Way) (h : Heard) (bytes : List ℕ) → w ≡ end h bytes → (row : ℕ) (r : Chosen) {z : Pushed} → (r .change ≡ endChange row) × (r .answer ≡ z) → pushedOf z ≡ gives h
     → (out out′ : List ℕ) → out′ ≡ over bytes out → Chooses w row r out out′
-ends w h bytes q row z says r is out out′ puts = rw q (record { answers = ap pushedOf (is .1) ∙ says; changes = is .0; puts = puts })
+ends w h bytes q row r is says out out′ puts = rw q (record { answers = ap pushedOf (is .1) ∙ says; changes = is .0; puts = puts })

@@ -18,7 +18,7 @@ use Rattle.table.proofs.Search.{lowest-is, lowest-holds, lowest-before, lowest-
 use Rattle.table.proofs.Places.{put-here, put-elsewhere}
 use Rattle.table.proofs.Sound.{Sound, place-holds, no-place, not-held, numbered-both, open-sound, drop-sound}
 use Rattle.pushing.proofs.Pieces.{kept-in, kept-out, fragment}
-use Rattle.pushing.proofs.Apart.{bytes-apart, drop-gone}
+use Rattle.table.proofs.Apart.{bytes-apart, drop-gone}
 use Rattle.pushing.proofs.Ways.{Went, went, went-refuse, went-replace, went-keep, went-open, went-end}
 
 -- the bytes that were just written

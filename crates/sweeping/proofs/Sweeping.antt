@@ -74,6 +74,19 @@ module _ (time row : ℕ) (s : Swept) where
   unfolding sweptRow
   row-stays e = rw e
 
+-- the table alone
+pub table-none : (t : Table) (time : ℕ) → sweptRows t time 0 .table ≡ t
+unfolding sweptRows
+table-none t time = refl
+
+pub table-next : (t : Table) (time n : ℕ) → sweptRows t time (suc n) .table ≡ cond (expired (sweptRows t time n .table) time n) (without (sweptRows t time n .table) n) (sweptRows t time n .table)
+unfolding sweptRows sweptRow
+table-next t time n = by-age (sweptRows t time n) (expired (sweptRows t time n .table) time n)
+  where
+    by-age : (z : Swept) (b : Bool) → cond b (sweptAs (without (z .table) n) (plusOne (lackOf (tally (z .table) n places)) (z .counts))) z .table ≡ cond b (without (z .table) n) (z .table)
+    by-age z true = refl
+    by-age z false = refl
+
 pub rows-none : (t : Table) (time : ℕ) → sweptAs t noneDropped ≡ sweptRows t time 0
 unfolding sweptRows
 rows-none t time = refl

@@ -6,7 +6,6 @@ use lib.ListN.{length}
 use native.Mathlib.Omega.{arith}
 use denote.Ref.{now}
 use Rattle.numbers.specs.Numbers.{gives, refuses}
-use Rattle.pushing.specs.declared.Pushed.the-variants.{Single, Joined}
 use Rattle.pushing.specs.Push.{pushedOf, single, joined}
 use Rattle.pushing.specs.PrivateSteps.{piecesTo}
 use Rattle.pushing.proofs.Ways.{last-single, last-13, last-joined}
@@ -24,7 +23,7 @@ returns c =
     let n = c .before .before .before .before .before .args .count in
     let bytes = piecesTo (now (c .before .before .before .before .before .args .sizes)) (now (c .before .before .before .before .before .args .owners)) (now (c .before .before .before .before .before .args .numbers)) (now (c .before .before .before .before .before .args .store)) (c .before .before .before .before .before .args .row) (c .before .before .before .before .before .args .number) (now (c .before .before .before .before .before .args .payload)) n in
     let sized = c .before .before .before .before .before .pre .4 in
-    ends _ (single (length bytes)) [] (last-single n bytes (length out) (c .before .if1 .taken)) (c .before .before .before .before .before .args .row) (Single (c .before .before .before .before .before .args .total)) (ap (λ (k : ℕ). gives (single k)) sized) (c .ended .result) (c .ended .ensures) out out refl
+    ends _ (single (length bytes)) [] (last-single n bytes (length out) (c .before .if1 .taken)) (c .before .before .before .before .before .args .row) (c .ended .result) (c .ended .ensures) (ap (λ (k : ℕ). gives (single k)) sized) out out refl
 
 refused-requires : tie.Need-refused-requires
 refused-requires c κs = search needs
@@ -52,8 +51,8 @@ returns-3 c =
     let n = c .before .before .before .before .before .before .before .before .before .before .args .count in
     let bytes = piecesTo (now (c .before .before .before .before .before .before .before .before .before .before .args .sizes)) (now (c .before .before .before .before .before .before .before .before .before .before .args .owners)) (now (c .before .before .before .before .before .before .before .before .before .before .args .numbers)) (now (c .before .before .before .before .before .before .before .before .before .before .args .store)) (c .before .before .before .before .before .before .before .before .before .before .args .row) (c .before .before .before .before .before .before .before .before .before .before .args .number) (now (c .before .before .before .before .before .before .before .before .before .before .args .payload)) n in
     let sized = c .before .before .before .before .before .before .before .before .before .before .pre .4 in
-    ends _ (joined (length bytes)) bytes (last-joined n bytes (length out) (c .before .before .before .before .before .before .if1 .left) (omega (arith, sized, c .before .before .before .before .before .if2 .left))) (c .before .before .before .before .before .before .before .before .before .before .args .row) (Joined (c .before .before .before .before .before .before .before .before .before .before .args .total)) (ap (λ (k : ℕ). gives (joined k)) sized)
-    (c .ended2 .result) (c .ended2 .ensures) out (c .before .before .before .join-into .last .1 .1 .1 .1 .1 .1 .1 .1 .0) (c .before .before .before .join-into .ensures)
+    ends _ (joined (length bytes)) bytes (last-joined n bytes (length out) (c .before .before .before .before .before .before .if1 .left) (omega (arith, sized, c .before .before .before .before .before .if2 .left))) (c .before .before .before .before .before .before .before .before .before .before .args .row)
+    (c .ended2 .result) (c .ended2 .ensures) (ap (λ (k : ℕ). gives (joined k)) sized) out (c .before .before .before .join-into .last .1 .1 .1 .1 .1 .1 .1 .1 .0) (c .before .before .before .join-into .ensures)
 
 pub complete-spec : {M : Type 1} → statement M
 complete-spec =

@@ -4,7 +4,6 @@ use mathlib.Core.List.{List, []}
 use Prim.Native.Nat.{ℕ, _≤_}
 use lib.ListN.{length}
 use denote.Ref.{now}
-use Rattle.pushing.specs.declared.Pushed.the-variants.{InconsistentMetadata, MissingFragments, MissingLastFragment}
 use Rattle.pushing.specs.declared.join.Verdict.{Verdict}
 use Rattle.pushing.specs.declared.join.Verdict.the-variants.{Message}
 use Rattle.pushing.specs.Push.{inconsistent, missing, missingLast}
@@ -68,17 +67,17 @@ complete-requires c κs =
 returns : tie.Need-returns
 returns c =
     let out = now (c .before .before .before .before .before .before .before .args .out) in
-    ends _ inconsistent [] (as-told (c .before .before .before) _ (c .before .enum-told .given .1)) (c .before .before .before .before .before .before .before .args .row) InconsistentMetadata refl (c .ended .result) (c .ended .ensures) out out refl
+    ends _ inconsistent [] (as-told (c .before .before .before) _ (c .before .enum-told .given .1)) (c .before .before .before .before .before .before .before .args .row) (c .ended .result) (c .ended .ensures) refl out out refl
 
 returns-2 : tie.Need-returns-2
 returns-2 c =
     let out = now (c .before .before .before .before .before .before .before .args .out) in
-    ends _ missing [] (as-told (c .before .before .before) _ (c .before .enum-told2 .given .1)) (c .before .before .before .before .before .before .before .args .row) MissingFragments refl (c .ended2 .result) (c .ended2 .ensures) out out refl
+    ends _ missing [] (as-told (c .before .before .before) _ (c .before .enum-told2 .given .1)) (c .before .before .before .before .before .before .before .args .row) (c .ended2 .result) (c .ended2 .ensures) refl out out refl
 
 returns-3 : tie.Need-returns-3
 returns-3 c =
     let out = now (c .before .before .before .before .before .before .before .args .out) in
-    ends _ missingLast [] (as-told (c .before .before .before) _ (c .before .enum-told3 .given .1)) (c .before .before .before .before .before .before .before .args .row) MissingLastFragment refl (c .ended3 .result) (c .ended3 .ensures) out out refl
+    ends _ missingLast [] (as-told (c .before .before .before) _ (c .before .enum-told3 .given .1)) (c .before .before .before .before .before .before .before .args .row) (c .ended3 .result) (c .ended3 .ensures) refl out out refl
 
 same-length : tie.Need-same-length
 same-length c = search needs
