@@ -1,11 +1,9 @@
--- How firm each answer is: any two answers that a contract of this crate allows are one.
-use mathlib.Core.Path.{_≡_, refl, sym, ap, _∙_}
-use mathlib.Core.List.{List}
+-- How firm each answer is: no two are told alike.
+use mathlib.Core.Path.{_≡_, sym, ap}
 use Prim.Native.Nat.{ℕ}
-use Rattle.numbers.specs.Numbers.{Answer, gives, refuses}
 use Rattle.numbers.proofs.Firm.{firm, never}
-use Rattle.framing.specs.Tlv.{TlvRead, readOf, readTlv, writtenOf}
-use Rattle.framing.specs.Cmdu.{headerOf, readHeader}
+use Rattle.framing.specs.Tlv.{TlvRead, readOf, writtenOf}
+use Rattle.framing.specs.Cmdu.{headerOf}
 use Rattle.framing.specs.declared.CmduHeader.{CmduHeader}
 use Rattle.framing.specs.declared.Read.{Read}
 use Rattle.framing.specs.declared.Read.the-variants as Read
@@ -14,7 +12,7 @@ use Rattle.framing.specs.declared.Written.the-variants as Written
 use Rattle.framing.specs.declared.HeaderRead.{HeaderRead}
 use Rattle.framing.specs.declared.HeaderRead.the-variants as HeaderRead
 
-read-one : (a b : Read) → readOf a ≡ readOf b → a ≡ b
+pub read-one : (a b : Read) → readOf a ≡ readOf b → a ≡ b
 read-one (Read.Whole t n c) (Read.Whole t′ n′ c′) e =
     let i : _≡_ {A = TlvRead} (record { tlv-type = t; value-length = n; consumed = c }) (record { tlv-type = t′; value-length = n′; consumed = c′ }) = cc in
     rw (ap (λ (r : TlvRead). r .tlv-type) i, ap (λ (r : TlvRead). r .value-length) i, ap (λ (r : TlvRead). r .consumed) i)
@@ -28,18 +26,8 @@ written-one (Written.Bytes n) (Written.Refused r) e = never _ _ _ e
 written-one (Written.Refused r) (Written.Bytes n) e = never _ _ _ (sym e)
 written-one (Written.Refused r) (Written.Refused r′) e = ap Written.Refused (firm ℕ r r′ e)
 
-header-one : (a b : HeaderRead) → headerOf a ≡ headerOf b → a ≡ b
+pub header-one : (a b : HeaderRead) → headerOf a ≡ headerOf b → a ≡ b
 header-one (HeaderRead.Header h) (HeaderRead.Header h′) e = ap HeaderRead.Header (cc)
 header-one (HeaderRead.Header h) (HeaderRead.Refused r) e = never _ _ _ e
 header-one (HeaderRead.Refused r) (HeaderRead.Header h) e = never _ _ _ (sym e)
 header-one (HeaderRead.Refused r) (HeaderRead.Refused r′) e = ap HeaderRead.Refused (firm CmduHeader r r′ e)
-
-pub read-tlv-firm : (s : List ℕ) (a b : Read) → readOf a ≡ readTlv s → readOf b ≡ readTlv s → a ≡ b
-read-tlv-firm s a b p q = read-one a b (p ∙ sym q)
-
--- a writing call: the answer; what the buffer holds is an equation by itself, as a part that is returned is (numbers' by-equation)
-pub write-firm : (defined : Answer ℕ) (a b : Written) → writtenOf a ≡ defined → writtenOf b ≡ defined → a ≡ b
-write-firm defined a b p q = written-one a b (p ∙ sym q)
-
-pub read-header-firm : (s : List ℕ) (a b : HeaderRead) → headerOf a ≡ readHeader s → headerOf b ≡ readHeader s → a ≡ b
-read-header-firm s a b p q = header-one a b (p ∙ sym q)

@@ -1,3 +1,4 @@
+pub mod Claims
 pub mod Copying
 pub mod Firm
 pub mod Heading

@@ -8,7 +8,7 @@ use lib.Dec.{ltb}
 use lib.ListN.{length, getD, take, drop}
 use borrow.Author.Tests.{ltb-false, ltb-true, lt-ltb, le-ltb}
 use Rattle.numbers.specs.Numbers.{Answer, gives, refuses, told}
-use Rattle.framing.specs.Tlv.{TlvRead, readTlv, declared, valueIn}
+use Rattle.framing.specs.Tlv.{TlvRead, readTlv, declared, valueIn, valueFrom}
 
 pub short : (s : List ℕ) → length s < 3 → refuses 1 [] ≡ readTlv s
 unfolding readTlv
@@ -48,8 +48,10 @@ reads s t e =
       inside = omega (arith, ap (λ (u : TlvRead). u .consumed) (h .1 .1), long, fits);
     }
 
-pub value-given : (s : List ℕ) (t : TlvRead) → gives t ≡ readTlv s → take (t .consumed - 3) (drop 3 s) ≡ valueIn (readTlv s) s
-value-given s t e = let l : t .consumed - 3 ≡ t .value-length = omega (arith, reads s t e .all) in rw (← e, l)
+-- the part that holds the value, its bytes and where it starts
+module _ (s : List ℕ) where
+  pub value-given : (t : TlvRead) → gives t ≡ readTlv s → (take (t .consumed - 3) (drop 3 s) ≡ valueIn (readTlv s) s) × (3 ≡ valueFrom (readTlv s))
+  value-given t e = let l : t .consumed - 3 ≡ t .value-length = omega (arith, reads s t e .all) in rw (← e, l) (refl, refl)
 
-pub value-refused : (s : List ℕ) (n : ℕ) (vs : List ℕ) → refuses n vs ≡ readTlv s → [] ≡ valueIn (readTlv s) s
-value-refused s n vs e = rw (← e)
+  pub value-refused : (n : ℕ) (vs : List ℕ) → refuses n vs ≡ readTlv s → ([] ≡ valueIn (readTlv s) s) × (0 ≡ valueFrom (readTlv s))
+  value-refused n vs e = rw (← e) (refl, refl)

@@ -7,25 +7,18 @@ use native.Mathlib.Nat.{div-add-mod'}
 use lib.ListN.{length, take, drop, getD, length-append}
 use lib.Seq.{take-append-seam, take-add, length-take-le}
 use Rattle.numbers.specs.Numbers.{gives}
-use Rattle.framing.specs.Tlv.{TlvRead, readTlv, declared, valueIn, header, tlvBytes}
+use Rattle.framing.specs.Tlv.{TlvRead, readTlv, declared, valueIn, longestValue, tlvBytes}
+use Rattle.framing.specs.Claims.{asRead, Bytes}
 use Rattle.framing.proofs.Reading.{whole, Reads, reads}
 
--- what reading gives of a TLV
-abbrev pub asRead : ℕ → List ℕ → TlvRead
-asRead t v = record { tlv-type = t; value-length = length v; consumed = 3 + length v }
-
-pub read-written : (t : ℕ) (v rest : List ℕ) → length v ≤ 65535 → gives (asRead t v) ≡ readTlv (tlvBytes t v ++ rest)
+pub read-written : (t : ℕ) (v rest : List ℕ) → length v ≤ longestValue → gives (asRead t v) ≡ readTlv (tlvBytes t v ++ rest)
 read-written t v rest h =
     let n : length v ≡ declared (tlvBytes t v ++ rest) = sym (div-add-mod' (length v) 256) in
     let l : length (v ++ rest) ≡ length v + length rest = length-append v rest in
     whole (tlvBytes t v ++ rest) (length v) n (omega arith) (omega (arith, l))
 
-pub value-written : (t : ℕ) (v rest : List ℕ) → length v ≤ 65535 → valueIn (readTlv (tlvBytes t v ++ rest)) (tlvBytes t v ++ rest) ≡ v
+pub value-written : (t : ℕ) (v rest : List ℕ) → length v ≤ longestValue → valueIn (readTlv (tlvBytes t v ++ rest)) (tlvBytes t v ++ rest) ≡ v
 value-written t v rest h = rw (← read-written t v rest h) (take-append-seam v rest)
-
--- each element is a byte
-abbrev pub Bytes : List ℕ → Type 0
-Bytes s = (i : ℕ) → getD s i 0 < 256
 
 pub written-read : (s : List ℕ) → Bytes s → (t : TlvRead) → gives t ≡ readTlv s → tlvBytes (t .tlv-type) (valueIn (readTlv s) s) ≡ take (t .consumed) s
 written-read s b t e = rw (← e) (by-bytes s b t (reads s t e))

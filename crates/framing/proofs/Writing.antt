@@ -10,19 +10,19 @@ use lib.Seq.{take-all, drop-drop, drop-length}
 use borrow.Author.Tests.{ltb-false, lt-ltb, le-ltb}
 use borrow.Rule.Slice.PartMut.{midOf, postOf, putMid}
 use Rattle.numbers.specs.Numbers.{Answer, gives, refuses, told}
-use Rattle.framing.specs.Tlv.{writeSize, header, tlvBytes, leaves}
+use Rattle.framing.specs.Tlv.{longestValue, writeSize, header, tlvBytes, leaves}
 
-pub too-long : (n room : ℕ) → 65535 < n → refuses 8 [] ≡ writeSize n room
+pub too-long : (n room : ℕ) → longestValue < n → refuses 8 [] ≡ writeSize n room
 unfolding writeSize
-too-long n room h = simp (lt-ltb 65535 n h)
+too-long n room h = simp (lt-ltb longestValue n h)
 
-pub no-room : (n room : ℕ) → n ≤ 65535 → room < 3 + n → refuses 7 [] ≡ writeSize n room
+pub no-room : (n room : ℕ) → n ≤ longestValue → room < 3 + n → refuses 7 [] ≡ writeSize n room
 unfolding writeSize
-no-room n room h k = simp (le-ltb 65535 n h, lt-ltb room (3 + n) k)
+no-room n room h k = simp (le-ltb longestValue n h, lt-ltb room (3 + n) k)
 
-pub fits : (n room : ℕ) → n ≤ 65535 → 3 + n ≤ room → gives (3 + n) ≡ writeSize n room
+pub fits : (n room : ℕ) → n ≤ longestValue → 3 + n ≤ room → gives (3 + n) ≡ writeSize n room
 unfolding writeSize
-fits n room h k = simp (le-ltb 65535 n h, le-ltb room (3 + n) k)
+fits n room h k = simp (le-ltb longestValue n h, le-ltb room (3 + n) k)
 
 by-tests : (x y : Bool) (m k : ℕ) → gives m ≡ cond x (refuses 8 []) (cond y (refuses 7 []) (gives k)) → (x ≡ false) × ((y ≡ false) × (m ≡ k))
 by-tests true y m k e = let z : _≡_ {A = ℕ} 0 1 = cc in absurd (omega arith)
@@ -30,11 +30,11 @@ by-tests false true m k e = let z : _≡_ {A = ℕ} 0 1 = cc in absurd (omega ar
 by-tests false false m k e = (refl, (refl, cc))
 
 -- what is written fits both limits
-pub written : (m n room : ℕ) → gives m ≡ writeSize n room → (m ≡ 3 + n) × ((n ≤ 65535) × (3 + n ≤ room))
+pub written : (m n room : ℕ) → gives m ≡ writeSize n room → (m ≡ 3 + n) × ((n ≤ longestValue) × (3 + n ≤ room))
 unfolding writeSize
 written m n room e =
-    let h = by-tests (ltb 65535 n) (ltb room (3 + n)) m (3 + n) e in
-    (h .1 .1, (ltb-false 65535 n (h .0), ltb-false room (3 + n) (h .1 .0)))
+    let h = by-tests (ltb longestValue n) (ltb room (3 + n)) m (3 + n) e in
+    (h .1 .1, (ltb-false longestValue n (h .0), ltb-false room (3 + n) (h .1 .0)))
 
 -- a refusal leaves all as lent
 pub kept : (a : Answer ℕ) (n : ℕ) (vs bytes out : List ℕ) → refuses n vs ≡ a → out ≡ leaves a bytes out

@@ -31,10 +31,14 @@ readTlv s =
     (cond (ltb (length s - 3) (declared s)) (refuses 2 [])
     (gives (record { tlv-type = getD s 0 0; value-length = declared s; consumed = 3 + declared s })))
 
--- the value of a TLV that reads as said, as a part of the bytes; where none reads, their empty start
+-- the value of a TLV that reads as said, as a part of the bytes, and where it starts in them; where none reads, their empty start
 abbrev pub valueIn : Answer TlvRead → List ℕ → List ℕ
 valueIn (gives t) s = take (t .value-length) (drop 3 s)
 valueIn (refuses n vs) s = []
+
+abbrev pub valueFrom : Answer TlvRead → ℕ
+valueFrom (gives t) = 3
+valueFrom (refuses n vs) = 0
 
 -- the three header bytes of a TLV whose value has n bytes, and the whole TLV
 abbrev pub header : ℕ → ℕ → List ℕ
@@ -48,9 +52,13 @@ abbrev pub writtenOf : Written → Answer ℕ
 writtenOf (Written.Bytes n) = gives n
 writtenOf (Written.Refused r) = told r
 
+-- "value to be written above 65,535": the longest that a length in two bytes can say
+abbrev pub longestValue : ℕ
+longestValue = 65535
+
 -- a TLV whose value has n bytes, into a buffer with room for so many: 8, then 7, or the bytes written
 unfoldable pub writeSize : ℕ → ℕ → Answer ℕ
-writeSize n room = cond (ltb 65535 n) (refuses 8 []) (cond (ltb room (3 + n)) (refuses 7 []) (gives (3 + n)))
+writeSize n room = cond (ltb longestValue n) (refuses 8 []) (cond (ltb room (3 + n)) (refuses 7 []) (gives (3 + n)))
 
 -- what a buffer holds after some bytes were to be written at its start: "bytes past the TLV stay as lent", on a refusal all do
 abbrev pub leaves : Answer ℕ → List ℕ → List ℕ → List ℕ

@@ -4,8 +4,12 @@ ghost use mathlib.Core.Path.{_≡_};
 ghost use mathlib.Core.List.{_++_};
 ghost use Prim.Native.Nat.{ℕ, _+_, _*_, _-_, _<_, _≤_};
 ghost use lib.ListN.{length, take, drop, getD};
-ghost use Rattle.framing.specs.Tlv.{readOf, readTlv, valueIn, writtenOf, writeSize, header, tlvBytes, leaves};
+ghost use Rattle.numbers.specs.Parts.{behind};
+ghost use Rattle.framing.specs.Tlv.{readOf, readTlv, valueIn, valueFrom, writtenOf, writeSize, header, tlvBytes, leaves};
 ghost use Rattle.framing.specs.Cmdu.{headerOf, readHeader};
+
+// The longest value that a length in two bytes can say.
+const LONGEST_VALUE: usize = 65535;
 
 // What reading a TLV finds: its type, the length of its value, and the bytes consumed. The value stands behind the three header bytes.
 pub enum Read {
@@ -65,7 +69,8 @@ pub fn read_tlv(s: &[u8]) -> Read
 
 // The value of the TLV at the start of s, as a part of s; the empty start of s where no TLV reads.
 pub fn value(s: &[u8]) -> &[u8]
-    ensures { λ r. ⌜ now r ≡ valueIn (readTlv (now (s .entry))) (now (s .entry)) ⌝ }
+    ensures bytes { λ r. ⌜ now r ≡ valueIn (readTlv (now (s .entry))) (now (s .entry)) ⌝ }
+    ensures place { λ r. ⌜ r .ptr ≡ behind (valueFrom (readTlv (now (s .entry)))) (s .entry) ⌝ }
 {
     match read_tlv(s) {
         Read::Whole {
@@ -83,7 +88,7 @@ pub fn write_header(tlv_type: u8, value_length: usize, out: &mut [u8]) -> Writte
     ensures answer { λ r. ⌜ writtenOf r ≡ writeSize «value_length» (length (now (out .entry))) ⌝ }
     ensures bytes { λ _. ⌜ now (out .exit) ≡ leaves (writeSize «value_length» (length (now (out .entry)))) (header «tlv_type» «value_length») (now (out .entry)) ⌝ }
 {
-    if 65535 < value_length {
+    if LONGEST_VALUE < value_length {
         return Written::Refused(Refusal::ValueTooLong);
     }
     let size = 3 + value_length;

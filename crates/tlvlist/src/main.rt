@@ -1,8 +1,9 @@
 // Lists the TLVs of the payload on standard input, a line for each: its type and the length of its value. Then `end` and where the payload
 // ends, or `bad`, the number of the refusal and the offset of the TLV that failed.
-use framing::Read;
 use libc::STDIN_FILENO;
 use libc::STDOUT_FILENO;
+use walking::Stepped;
+use walking::Tlv;
 ghost use Prim.Native.Nat.{_≤_};
 ghost use lib.ListN.{length};
 
@@ -34,13 +35,13 @@ fn put_number(text: &mut [u8], used: usize, n: usize) -> usize
     put(text, used, &digits[..k])
 }
 
-fn put_tlv(text: &mut [u8], used: usize, tlv_type: u8, size: usize) -> usize
+fn put_tlv(text: &mut [u8], used: usize, tlv: Tlv) -> usize
     requires { ⌜ used ≤ length (now text) ⌝ }
     ensures { λ r. ⌜ r ≤ length (now (text .entry)) ⌝ }
 {
-    let a = put_number(text, used, tlv_type as usize);
+    let a = put_number(text, used, tlv.tlv_type as usize);
     let b = put(text, a, b" ");
-    let c = put_number(text, b, size);
+    let c = put_number(text, b, tlv.length as usize);
     put(text, c, b"\n")
 }
 
@@ -89,24 +90,21 @@ fn list(payload: &[u8], text: &mut [u8]) -> usize
 {
     let mut at = 0;
     let mut used = 0;
-    while at < payload.len() {
+    loop {
         used = with_room(text, used);
-        match framing::read_tlv(&payload[at..]) {
-            Read::Whole {
-                tlv_type,
-                length,
-                consumed,
-            } => {
-                used = put_tlv(text, used, tlv_type, length);
-                at += consumed;
+        match walking::step(payload, at) {
+            Stepped::End => {
+                return put_end(text, used, at);
             }
-            Read::Refused(refusal) => {
+            Stepped::Tlv { tlv, next } => {
+                used = put_tlv(text, used, tlv);
+                at = next;
+            }
+            Stepped::Refused { refusal, at } => {
                 return put_bad(text, used, numbers::number_of(refusal), at);
             }
         }
     }
-    used = with_room(text, used);
-    put_end(text, used, at)
 }
 
 fn main() {

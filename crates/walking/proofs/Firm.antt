@@ -1,24 +1,37 @@
--- How firm each answer is: any two answers that a contract of this crate allows are one.
-use mathlib.Core.Path.{_≡_, refl, sym, ap, _∙_}
-use mathlib.Core.List.{List, [], _∷_}
+-- How firm each answer is: no two are told alike.
+use mathlib.Core.Path.{_≡_, refl, sym, ap}
+use mathlib.Core.List.{List, _∷_}
 use Prim.Native.Nat.{ℕ}
+use native.Mathlib.Omega.{arith}
 use Rattle.numbers.specs.Numbers.{Answer, gives, refuses, number, values}
 use Rattle.numbers.specs.declared.Refusal.{Refusal}
 use Rattle.numbers.proofs.Firm.{firm-numbered, never}
+use Rattle.walking.specs.Walk.{steppedOf, walkedOf}
+use Rattle.walking.specs.declared.Stepped.{Stepped}
+use Rattle.walking.specs.declared.Stepped.the-variants as Stepped
 use Rattle.walking.specs.declared.Walked.{Walked}
-use Rattle.walking.specs.declared.Walked.the-variants.{Count, Refused}
-use Rattle.walking.specs.Walk.{walkedOf}
+use Rattle.walking.specs.declared.Walked.the-variants as Walked
 
-one : (a b : Walked) → walkedOf a ≡ walkedOf b → a ≡ b
-one (Count n) (Count m) e = ap Count (cc)
-one (Count n) (Refused r at) e = never _ _ _ e
-one (Refused r at) (Count n) e = never _ _ _ (sym e)
-one (Refused r at) (Refused r′ at′) e =
-    let n : number r ≡ number r′ = cc in
-    let v : values r ≡ values r′ = cc in
-    let a : at ≡ at′ = cc in
-    rw (firm-numbered r r′ n v, a)
+-- a refusal with an offset
+with-offset : {A : Type 0} (r r′ : Refusal) (at at′ : ℕ) → _≡_ {A = Answer A} (refuses (number r) (at ∷ values r)) (refuses (number r′) (at′ ∷ values r′)) → (r ≡ r′) × (at ≡ at′)
+with-offset r r′ at at′ e = (firm-numbered r r′ (cc) (cc), cc)
 
--- `walk` and `walk_into`: the answer; what the list holds is an equation by itself (numbers' by-equation)
-pub walk-firm : (defined : Answer ℕ) (a b : Walked) → walkedOf a ≡ defined → walkedOf b ≡ defined → a ≡ b
-walk-firm defined a b p q = one a b (p ∙ sym q)
+pub walked-one : (a b : Walked) → walkedOf a ≡ walkedOf b → a ≡ b
+walked-one (Walked.Count n) (Walked.Count m) e = ap Walked.Count (cc)
+walked-one (Walked.Count n) (Walked.Refused r at) e = never _ _ _ e
+walked-one (Walked.Refused r at) (Walked.Count n) e = never _ _ _ (sym e)
+walked-one (Walked.Refused r at) (Walked.Refused r′ at′) e = let o = with-offset r r′ at at′ e in rw (o .0, o .1)
+
+pub stepped-one : (a b : Stepped) → steppedOf a ≡ steppedOf b → a ≡ b
+stepped-one Stepped.End Stepped.End e = refl
+stepped-one Stepped.End (Stepped.Tlv t n) e = let z : _≡_ {A = ℕ} 0 1 = cc in absurd (omega arith)
+stepped-one (Stepped.Tlv t n) Stepped.End e = let z : _≡_ {A = ℕ} 0 1 = cc in absurd (omega arith)
+stepped-one (Stepped.Tlv t n) (Stepped.Tlv t′ n′) e =
+    let i : t ≡ t′ = cc in
+    let j : n ≡ n′ = cc in
+    rw (i, j)
+stepped-one Stepped.End (Stepped.Refused r at) e = never _ _ _ e
+stepped-one (Stepped.Refused r at) Stepped.End e = never _ _ _ (sym e)
+stepped-one (Stepped.Tlv t n) (Stepped.Refused r at) e = never _ _ _ e
+stepped-one (Stepped.Refused r at) (Stepped.Tlv t n) e = never _ _ _ (sym e)
+stepped-one (Stepped.Refused r at) (Stepped.Refused r′ at′) e = let o = with-offset r r′ at at′ e in rw (o .0, o .1)

@@ -1,5 +1,6 @@
 pub mod Body
 pub mod Chained
+pub mod Claims
 pub mod Elem
 pub mod Filled
 pub mod Firm

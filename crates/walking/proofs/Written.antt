@@ -9,18 +9,12 @@ use Rattle.numbers.specs.Numbers.{Answer, gives, refuses}
 use Rattle.numbers.proofs.Firm.{never}
 use Rattle.numbers.proofs.Answers.{given}
 use Rattle.framing.specs.Tlv.{readTlv, valueIn, tlvBytes}
-use Rattle.framing.proofs.RoundTrip.{Bytes, written-read}
+use Rattle.framing.specs.Claims.{Bytes}
+use Rattle.framing.proofs.RoundTrip.{written-read}
 use Rattle.walking.specs.declared.Tlv.{Tlv}
 use Rattle.walking.specs.Walk.{Ahead, ended, passed, stepAt, Walk, walkBy, walkFrom, walkOf}
+use Rattle.walking.specs.Claims.{tlvOf, written}
 use Rattle.walking.proofs.Stepping.{Passes, passes, ends}
-
--- the TLV of a record, with its value from the payload, and TLVs one behind the other
-abbrev pub tlvOf : List ℕ → Tlv → List ℕ
-tlvOf p t = tlvBytes (t .«tlv_type») (take (t .length) (drop (t .offset + 3) p))
-
-abbrev pub written : List ℕ → List Tlv → List ℕ
-written p [] = []
-written p (t ∷ ts) = tlvOf p t ++ written p ts
 
 module _ (p : List ℕ) (bytes : Bytes p) where
   -- what a walk from `at` wrote, where it succeeds, is what stands there, and it ends at the payload's end

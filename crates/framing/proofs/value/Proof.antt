@@ -1,7 +1,9 @@
 -- `value` meets its contract: the part from byte 3 to the last byte consumed.
 use mathlib.Core.Path.{sym, _∙_, ap}
+use Prim.Native.Nat.{ℕ}
 use native.Mathlib.Omega.{arith}
 use borrow.Author.Needs.{needs}
+use Rattle.numbers.specs.Parts.{behind}
 use Rattle.framing.specs.Tlv.{readOf}
 use Rattle.framing.proofs.Reading.{reads, value-given, value-refused}
 use Rattle.framing.proofs.value.Statement.{statement}
@@ -35,10 +37,14 @@ part-result-end-2 : tie.Need-part-result-end-2
 part-result-end-2 c = search needs
 
 returns : tie.Need-returns
-returns c = value-given _ _ (ap readOf (sym (c .before .before .consumed .given .1)) ∙ c .before .before .before .before .read-tlv .ensures)
+returns c =
+    let v = value-given _ _ (ap readOf (sym (c .before .before .consumed .given .1)) ∙ c .before .before .before .before .read-tlv .ensures) in
+    (v .0, ap (λ (n : ℕ). behind n (c .before .before .before .before .before .before .args .s)) (v .1))
 
 returns-2 : tie.Need-returns-2
-returns-2 c = value-refused _ _ _ (ap readOf (sym (c .before .enum-told .given .1)) ∙ c .before .before .before .read-tlv .ensures)
+returns-2 c =
+    let v = value-refused _ _ _ (ap readOf (sym (c .before .enum-told .given .1)) ∙ c .before .before .before .read-tlv .ensures) in
+    (v .0, ap (λ (n : ℕ). behind n (c .before .before .before .before .before .args .s)) (v .1))
 
 pub value-spec : {M : Type 1} → statement M
 value-spec =

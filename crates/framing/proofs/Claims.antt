@@ -1,0 +1,22 @@
+-- The claims of specs/Claims.antt, proved.
+use denote.Ref.{now}
+use lib.ListN.{length}
+use Rattle.numbers.specs.Parts.{behind}
+use Rattle.numbers.proofs.Firm.{by-equation, by-telling, both}
+use Rattle.framing.specs.Tlv.{readOf, readTlv, valueIn, valueFrom, header, tlvBytes, writtenOf, writeSize, leaves}
+use Rattle.framing.specs.Cmdu.{headerOf, readHeader}
+use Rattle.framing.specs.Claims.{Firmness, RoundTrip}
+use Rattle.framing.proofs.Firm.{read-one, written-one, header-one}
+use Rattle.framing.proofs.RoundTrip.{read-written, value-written, written-read}
+
+pub firmness : Firmness
+firmness = record {
+  read-tlv = λ s. by-telling readOf read-one (readTlv s);
+  value = λ s. both _ _ (by-equation (valueIn (readTlv (now s)) (now s))) (by-equation (behind (valueFrom (readTlv (now s))) s));
+  write-header = λ t n out. both _ _ (by-telling writtenOf written-one (writeSize n (length out))) (by-equation (leaves (writeSize n (length out)) (header t n) out));
+  write-tlv = λ t bytes out. both _ _ (by-telling writtenOf written-one (writeSize (length bytes) (length out))) (by-equation (leaves (writeSize (length bytes) (length out)) (tlvBytes t bytes) out));
+  read-cmdu-header = λ s. by-telling headerOf header-one (readHeader s);
+}
+
+pub round-trip : RoundTrip
+round-trip = record { read-written = read-written; value-written = value-written; written-read = written-read }

@@ -1,0 +1,37 @@
+-- What is claimed of this crate's calls; proofs/Claims.antt proves it.
+use mathlib.Core.Path.{_≡_}
+use mathlib.Core.List.{List, _++_}
+use Prim.Native.Nat.{ℕ, _+_, _<_, _≤_}
+use lib.ListN.{length, take, getD}
+use denote.Ref.{RefT, now}
+use Rattle.numbers.specs.Numbers.{gives}
+use Rattle.numbers.specs.Parts.{behind}
+use Rattle.numbers.specs.Firmness.{Firm}
+use Rattle.framing.specs.Tlv.{TlvRead, readOf, readTlv, valueIn, valueFrom, header, tlvBytes, writtenOf, longestValue, writeSize, leaves}
+use Rattle.framing.specs.Cmdu.{headerOf, readHeader}
+use Rattle.framing.specs.declared.Written.{Written}
+
+-- each public call by its name: any two outcomes that its contract allows are one
+pub record Firmness : Type 0 where
+  pub read-tlv : (s : List ℕ) → Firm (λ r. readOf r ≡ readTlv s)
+  -- the part's bytes, and where it lies
+  pub value : (s : RefT (List ℕ)) → Firm {A = List ℕ × (ℕ × ℕ)} (λ o. (o .0 ≡ valueIn (readTlv (now s)) (now s)) × (o .1 ≡ behind (valueFrom (readTlv (now s))) s))
+  -- the answer, and what the buffer holds
+  pub write-header : (t n : ℕ) (out : List ℕ) → Firm {A = Written × List ℕ} (λ o. (writtenOf (o .0) ≡ writeSize n (length out)) × (o .1 ≡ leaves (writeSize n (length out)) (header t n) out))
+  pub write-tlv : (t : ℕ) (bytes out : List ℕ) → Firm {A = Written × List ℕ} (λ o. (writtenOf (o .0) ≡ writeSize (length bytes) (length out)) × (o .1 ≡ leaves (writeSize (length bytes) (length out)) (tlvBytes t bytes) out))
+  pub read-cmdu-header : (s : List ℕ) → Firm (λ h. headerOf h ≡ readHeader s)
+
+-- what reading gives of a TLV
+abbrev pub asRead : ℕ → List ℕ → TlvRead
+asRead t v = record { tlv-type = t; value-length = length v; consumed = 3 + length v }
+
+-- each element is a byte
+abbrev pub Bytes : List ℕ → Type 0
+Bytes s = (i : ℕ) → getD s i 0 < 256
+
+pub record RoundTrip : Type 0 where
+  -- reading what was written gives the same type and value, whatever stands behind
+  pub read-written : (t : ℕ) (v rest : List ℕ) → length v ≤ longestValue → gives (asRead t v) ≡ readTlv (tlvBytes t v ++ rest)
+  pub value-written : (t : ℕ) (v rest : List ℕ) → length v ≤ longestValue → valueIn (readTlv (tlvBytes t v ++ rest)) (tlvBytes t v ++ rest) ≡ v
+  -- writing what was read gives the consumed bytes
+  pub written-read : (s : List ℕ) → Bytes s → (t : TlvRead) → gives t ≡ readTlv s → tlvBytes (t .tlv-type) (valueIn (readTlv s) s) ≡ take (t .consumed) s

@@ -1,0 +1,31 @@
+-- What is claimed of this crate's calls; proofs/Claims.antt proves it.
+use mathlib.Core.Path.{_≡_}
+use mathlib.Core.List.{List, [], _∷_, _++_}
+use Prim.Native.Nat.{ℕ, _+_}
+use lib.ListN.{length, take, drop}
+use Rattle.numbers.specs.Numbers.{gives}
+use Rattle.numbers.specs.Firmness.{Firm}
+use Rattle.framing.specs.Tlv.{tlvBytes}
+use Rattle.framing.specs.Claims.{Bytes}
+use Rattle.walking.specs.declared.Tlv.{Tlv}
+use Rattle.walking.specs.declared.Walked.{Walked}
+use Rattle.walking.specs.Walk.{steppedOf, stepAt, walkedOf, walkOf, counted, listed, filled}
+
+-- each public call by its name: any two outcomes that its contract allows are one
+pub record Firmness : Type 0 where
+  pub step : (p : List ℕ) (at : ℕ) → Firm (λ s. steppedOf s ≡ stepAt p at)
+  pub walk : (p : List ℕ) → Firm (λ w. walkedOf w ≡ counted (walkOf p))
+  -- the answer, and what the list holds
+  pub walk-into : (list : List Tlv) (p : List ℕ) → Firm {A = Walked × List Tlv} (λ o. (walkedOf (o .0) ≡ listed (length list) (walkOf p)) × (o .1 ≡ filled (listed (length list) (walkOf p)) (walkOf p .tlvs) list))
+
+-- the TLV of a record, with its value from the payload, and TLVs one behind the other
+abbrev pub tlvOf : List ℕ → Tlv → List ℕ
+tlvOf p t = tlvBytes (t .«tlv_type») (take (t .length) (drop (t .offset + 3) p))
+
+abbrev pub written : List ℕ → List Tlv → List ℕ
+written p [] = []
+written p (t ∷ ts) = tlvOf p t ++ written p ts
+
+-- The TLVs of a walk that succeeds, written again, are the payload, byte for byte, and it ends at the payload's end.
+abbrev pub WalkWritten : Type 0
+WalkWritten = (p : List ℕ) → Bytes p → (end : ℕ) → walkOf p .end ≡ gives end → (written p (walkOf p .tlvs) ≡ p) × (end ≡ length p)
