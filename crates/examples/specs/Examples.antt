@@ -20,7 +20,7 @@ use Rattle.records.specs.declared.ByteCounterUnits.{ByteCounterUnits}
 use Rattle.layouts.specs.Access.{partOf}
 use Rattle.kinds.specs.Kinds.{isKind, one, list, Typed, readKind, locateKind}
 use Rattle.pushing.specs.Push.{waiting, joined as joinedAs, missing}
-use Rattle.orders.specs.Runs.{Push, push, sweep, pushed, counted as swept, after, tells, start, holding, holdsNothing, toldOf}
+use Rattle.orders.specs.Runs.{Push, push, sweep, pushed, dropped, after, tells, start, holding, holdsNothing, repliesTo}
 use Rattle.orders.specs.Shares.{noneDropped}
 
 -- an address of six equal octets, and the bytes of an association of two such with a last byte
@@ -210,14 +210,14 @@ pub record Examples : Type 0 where
   pub last-beyond : entry-of 30 (0 ∷ 0 ∷ 1 ∷ []) beyond ≡ mac 4
   -- "elapsed 2,999 stays, 3,000 goes": one fragment, not marked last, and a sweep so many milliseconds later
   pub stays : (store : List ℕ) (p : Push) → LetIn store p → p .arrival .fragment .last ≡ false
-      → (tells (after (start store) (push p)) (sweep (p .arrival .time + 2999)) ≡ swept noneDropped)
+      → (tells (after (start store) (push p)) (sweep (p .arrival .time + 2999)) ≡ dropped noneDropped)
       × (holding (p .arrival .key) (after (after (start store) (push p)) (sweep (p .arrival .time + 2999))) ≡ holding (p .arrival .key) (after (start store) (push p)))
   pub goes : (store : List ℕ) (p : Push) → LetIn store p → p .arrival .fragment .last ≡ false
-      → (tells (after (start store) (push p)) (sweep (p .arrival .time + 3000)) ≡ swept (record { empty = 0; unmarked = 1; incomplete = 0; neither = 0 }))
+      → (tells (after (start store) (push p)) (sweep (p .arrival .time + 3000)) ≡ dropped (record { empty = 0; unmarked = 1; incomplete = 0; neither = 0 }))
       × (holding (p .arrival .key) (after (after (start store) (push p)) (sweep (p .arrival .time + 3000))) ≡ holdsNothing)
   -- "number 0 then last 1 completes"
   pub completes : (store : List ℕ) (p q : Push) → LetIn store p → LetIn store q → ZeroThenLastOne p q
-      → toldOf (q .arrival .key) (start store) (push p ∷ push q ∷ [])
+      → repliesTo (q .arrival .key) (start store) (push p ∷ push q ∷ [])
       ≡ pushed (gives waiting) [] ∷ pushed (gives (joinedAs (length (p .payload ++ q .payload)))) (p .payload ++ q .payload) ∷ []
   -- "last 1 alone gives `MissingFragments`"
   pub alone : (store : List ℕ) (p : Push) → LetIn store p → p .arrival .fragment .number ≡ 1 → p .arrival .fragment .last ≡ true

@@ -12,7 +12,7 @@ use Rattle.pushing.specs.Push.{Heard, pushedOf, way, Goes, outputBy, answerBy}
 use Rattle.sweeping.specs.Sweep.{swept, sweptAs}
 use Rattle.pushing.specs.Show.{shown}
 use Rattle.pushing.proofs.Ways.{shown-same}
-use Rattle.orders.specs.Runs.{State, Push, push, sweep, pushed, counted, finishedBy, part, wayOf, after, tells}
+use Rattle.orders.specs.Runs.{State, Push, push, sweep, pushed, dropped, finishedBy, part, wayOf, after, tells}
 
 -- the finished bytes are what the showing call shows of the payload and of the output, whatever the output held
 pub finished-shown : (z : State) (p : Push) (out : List ℕ) → shown (answerBy (wayOf z p)) (p .payload) (outputBy (wayOf z p) out) ≡ finishedBy (wayOf z p) (p .payload)
@@ -30,5 +30,5 @@ push-call z p out long answer′ table′ store′ out′ goes =
 
 -- and a sweep, by sweep's
 pub sweep-call : (z : State) (time : ℕ) (table′ : Table) (counts′ : Counts) → sweptAs table′ counts′ ≡ swept (z .table) time
-    → (record { table = table′; store = z .store } ≡ after z (sweep time)) × (counted counts′ ≡ tells z (sweep time))
-sweep-call z time table′ counts′ e = (ap (λ (r : Swept). record { table = r .table; store = z .store }) e, ap (λ (r : Swept). counted (r .counts)) e)
+    → (record { table = table′; store = z .store } ≡ after z (sweep time)) × (dropped counts′ ≡ tells z (sweep time))
+sweep-call z time table′ counts′ e = (ap (λ (r : Swept). record { table = r .table; store = z .store }) e, ap (λ (r : Swept). dropped (r .counts)) e)

@@ -19,9 +19,9 @@ use Rattle.pushing.proofs.Ways.{Went, went, went-refuse, went-replace, went-kee
 use Rattle.table.proofs.Sound.{Sound, fresh-sound}
 use Rattle.pushing.proofs.Sound.{sound}
 use Rattle.machines.specs.Machine.{those, remaining, every}
-use Rattle.orders.specs.Runs.{State, Push, Call, push, Told, pushed, finishedBy, part, wayOf, after, tells, hasRoom, isOwn, isSweep, concerns, start, Holding, holding, holdsNothing, mine, crossed, toldOf, toldOfAccepted}
+use Rattle.orders.specs.Runs.{State, Push, Call, push, Reply, pushed, finishedBy, part, wayOf, after, tells, hasRoom, isOwn, isSweep, concerns, start, Holding, holding, holdsNothing, mine, crossed, repliesTo, repliesToAccepted}
 use Rattle.orders.specs.Shares.{andKept, tallyOf, isIn, distinct}
-use Rattle.orders.specs.Messages.{Message, whole, Brings, Ordering, calls, freeIn, Room, completing}
+use Rattle.orders.specs.Messages.{Message, heldAt, whole, Brings, Ordering, calls, freeIn, Room, completing}
 use Rattle.orders.specs.Claims.{Completes}
 use Rattle.table.proofs.Places.{put-elsewhere}
 use Rattle.machines.proofs.Lists.{left-true, right-true, every-remains, every-gathered}
@@ -32,7 +32,7 @@ use Rattle.orders.proofs.Locality.{has-room, good-after, own-push, loca
 use Rattle.orders.proofs.Tallies.{tally-same, tally-nothing, tally-new}
 use Rattle.orders.proofs.Alone.{fresh-holds}
 use Rattle.orders.proofs.Free.{one-fewer, some-free}
-use Rattle.orders.proofs.Completion.{heldAt, Has, waits, added, completes-as}
+use Rattle.orders.proofs.Completion.{Has, waits, added, completes-as}
 use Rattle.orders.proofs.Orders.{told-alone}
 use Rattle.machines.proofs.Story as Y
 
@@ -124,7 +124,7 @@ module _ (m : Message) (long : ℕ) (store : 47744 ≤ long) (bring : ℕ → Pu
   come ks = calls m bring ks
 
   -- the story of the key alone
-  abbrev answersOf : Holding → List Call → List Told
+  abbrev answersOf : Holding → List Call → List Reply
   answersOf = Y.answers after tells holding isOwn isSweep (tell long) (answer long) (m .key)
 
   abbrev viewBehind : Holding → List Call → Holding
@@ -151,7 +151,7 @@ module _ (m : Message) (long : ℕ) (store : 47744 ≤ long) (bring : ℕ → Pu
     as-story [] done v d has =
         let last = brings (m .final) (omega arith) in
         let end = completes-as m long store (bring (m .final)) last v (due-last done v d has) room in (
-          gathered-one v (bring (m .final)) [] (last .key) ∙ ap (λ (es : List Told). answer long v (push (bring (m .final))) ∷ es) (gathered-none (tell long v (push (bring (m .final))))) ∙ ap (λ (x : Told). x ∷ []) (end .0),
+          gathered-one v (bring (m .final)) [] (last .key) ∙ ap (λ (es : List Reply). answer long v (push (bring (m .final))) ∷ es) (gathered-none (tell long v (push (bring (m .final))))) ∙ ap (λ (x : Reply). x ∷ []) (end .0),
           view-one v (push (bring (m .final))) [] ∙ view-none (tell long v (push (bring (m .final)))) ∙ end .1,
         )
     as-story (k ∷ ks) done v d has =
@@ -162,7 +162,7 @@ module _ (m : Message) (long : ℕ) (store : 47744 ≤ long) (bring : ℕ → Pu
         let next : tell long v (push (bring k)) ≡ withNew v (bring k) = ap (λ (w : Way). byOwn w v (bring k)) is in
         let said : answer long v (push (bring k)) ≡ pushed (gives waiting) [] = ap (λ (w : Way). pushed (answerBy w) (finishedBy w (bring k .payload))) is in
         let rest = as-story ks (λ j. done j || eqb k j) (withNew v (bring k)) (due-next done k ks d) (added m long store k (bring k) b v new done has) in (
-          gathered-one v (bring k) (come ks) (b .key) ∙ ap (λ (x : Told). x ∷ answersOf (tell long v (push (bring k))) (come ks)) said ∙ ap (λ (u : Holding). pushed (gives waiting) [] ∷ answersOf u (come ks)) next ∙ ap (λ (es : List Told). pushed (gives waiting) [] ∷ es) (rest .0),
+          gathered-one v (bring k) (come ks) (b .key) ∙ ap (λ (x : Reply). x ∷ answersOf (tell long v (push (bring k))) (come ks)) said ∙ ap (λ (u : Holding). pushed (gives waiting) [] ∷ answersOf u (come ks)) next ∙ ap (λ (es : List Reply). pushed (gives waiting) [] ∷ es) (rest .0),
           view-one v (push (bring k)) (come ks) ∙ ap (λ (u : Holding). viewBehind u (come ks)) next ∙ rest .1,
         )
 
@@ -180,7 +180,7 @@ module _ (m : Message) (long : ℕ) (store : 47744 ≤ long) (bring : ℕ → Pu
   finds-room [] done z g d has places seat =
       let p = bring (m .final) in
       let b = brings (m .final) (omega arith) in
-      let roomy : hasRoom z (push p) ≡ true = has-room z p ∙ room-unless long z p g (λ l f. true≢false (sym (b .last ∙ eq-eqb (m .final) (m .final) refl) ∙ l)) in
+      let roomy : hasRoom z (push p) ≡ true = has-room z p ∙ room-unless long z p g (λ l f. true≢false (sym (ap (λ (h : Held). h .last) (b .fragment) ∙ eq-eqb (m .final) (m .final) refl) ∙ l)) in
       rw roomy
   finds-room (k ∷ ks) done z g d has places seat =
       let p = bring k in
@@ -252,8 +252,8 @@ fresh-completes m bring order store long = completes m bring order (start store)
 pub completes-among : (m : Message) (bring : ℕ → Push) (order : List ℕ) (store : List ℕ) (others : List Call) → 47744 ≤ length store
     → ((k : ℕ) → k ≤ m .final → Brings m k (bring k)) → Ordering m order → (1 ≤ m .final → length (whole m) ≤ bring (m .final) .room)
     → mine (m .key) (crossed (start store) others) ≡ calls m bring order
-    → toldOfAccepted (m .key) (start store) others ≡ completing m order
+    → repliesToAccepted (m .key) (start store) others ≡ completing m order
 completes-among m bring order store others long brings ordering room story =
     told-alone store store refl (m .key) others .answers
-    ∙ ap (toldOf (m .key) (start store)) story
+    ∙ ap (repliesTo (m .key) (start store)) story
     ∙ fresh-completes m bring order store long brings ordering room .answers

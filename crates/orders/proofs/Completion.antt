@@ -9,40 +9,33 @@ use lib.ListN.{length}
 use lib.Seq.{take-length}
 use borrow.Author.Tests.{eqb-true, eqb-false, eq-eqb, ne-eqb, ltb-true, ltb-false, lt-ltb, le-ltb, le-leb}
 use Rattle.numbers.specs.Numbers.{gives}
-use Rattle.pushing.specs.Joining.{Held, nothing, kept, heldOf, isKept}
+use Rattle.pushing.specs.Joining.{Held, nothing, kept, heldOf, isKept, payloads}
 use Rattle.pushing.specs.Push.{Way, keepAt, end, messageWay, single, joined, answerBy}
 use Rattle.pushing.specs.Show.{startOf}
 use Rattle.pushing.proofs.Ways.{last-single, last-joined, start-over}
 use Rattle.orders.specs.Runs.{Push, push, pushed, finishedBy, Holding, holdsNothing}
-use Rattle.orders.specs.Messages.{Message, pieces, whole, Brings, completed}
+use Rattle.orders.specs.Messages.{Message, heldAt, whole, Brings, completed}
 use Rattle.orders.proofs.Telling.{ownJoining, ownWay, own-keep, own-last, byOwn, withNew, tell, answer}
 use Rattle.orders.proofs.Joined.{joins}
-
--- fragment k as the table holds it
-abbrev pub heldAt : Message → ℕ → Held
-heldAt m k = record { version = m .version; message-type = m .message-type; last = eqb k (m .final); payload = m .piece k }
 
 -- the numbers that are there, and what a key holds of the message with them
 abbrev pub Has : Message → (ℕ → Bool) → Holding → Type 0
 Has m done v = (k : ℕ) → v .fragments k ≡ cond (done k) (kept (heldAt m k)) nothing
 
 module _ (m : Message) (long : ℕ) (store : 47744 ≤ long) where
-  brought : (k : ℕ) (p : Push) → Brings m k p → heldOf (p .arrival .fragment) (p .payload) ≡ heldAt m k
-  brought k p b = λ i. record { version = b .version i; message-type = b .message-type i; last = b .last i; payload = b .payload i }
-
   module _ (k : ℕ) (p : Push) (b : Brings m k p) (v : Holding) (new : v .fragments k ≡ nothing) where
     h₁ : 47744 ≤ min (p .lent) long
     h₁ = omega (arith, b .lent)
 
     h₂ : length (p .payload) ≤ 1492
-    h₂ = subst (λ (l : List ℕ). length l ≤ 1492) (sym (b .payload)) (m .small k)
+    h₂ = subst (λ (l : List ℕ). length l ≤ 1492) (sym (ap (λ (h : Held). h .payload) (b .fragment))) (m .small k)
 
     h₃ : isKept (v .fragments (p .arrival .fragment .number)) ≡ false
     h₃ = ap (λ (n : ℕ). isKept (v .fragments n)) (b .number) ∙ ap isKept new
 
     -- one that is not the last waits, and is added
     pub waits : (k ≡ m .final → ⊥) → ownWay long v p ≡ keepAt 0
-    waits ne = own-keep long v p h₁ h₂ h₃ (b .last ∙ ne-eqb k (m .final) ne)
+    waits ne = own-keep long v p h₁ h₂ h₃ (ap (λ (h : Held). h .last) (b .fragment) ∙ ne-eqb k (m .final) ne)
 
     pub added : (done : ℕ → Bool) → Has m done v → Has m (λ j. done j || eqb k j) (withNew v p)
     added done has j = by-number (eqb j k) refl
@@ -51,7 +44,7 @@ module _ (m : Message) (long : ℕ) (store : 47744 ≤ long) where
         by-number true e =
             let same : j ≡ k = eqb-true j k e in
             rw (eq-eqb j (p .arrival .fragment .number) (same ∙ sym (b .number)), eq-eqb k j (sym same), or-true (done j))
-            (ap kept (brought k p b ∙ ap (heldAt m) (sym same)))
+            (ap kept (b .fragment ∙ ap (heldAt m) (sym same)))
         by-number false e =
             let ne = eqb-false j k e in
             rw (ne-eqb j (p .arrival .fragment .number) (λ q. ne (q ∙ b .number)), ne-eqb k j (λ q. ne (sym q)), or-false (done j)) (has j)
@@ -77,19 +70,19 @@ module _ (m : Message) (long : ℕ) (store : 47744 ≤ long) where
         joins (heldOf (p .arrival .fragment) (p .payload)) (withNew v p .fragments) (heldAt m) (suc (m .final)) (omega (arith, m .few))
         (λ k l. all k ∙ ap (λ (c : Bool). cond c (kept (heldAt m k)) nothing) (up-to k ∙ lt-ltb k (suc (m .final)) l))
         (λ k l. all k ∙ ap (λ (c : Bool). cond c (kept (heldAt m k)) nothing) (up-to k ∙ le-ltb k (suc (m .final)) l))
-        (λ k l. (sym (b .version), sym (b .message-type)))
-        (m .piece) (λ k l. refl) (omega arith) (ap (λ (k : ℕ). eqb k (m .final)) (last-is (m .final)) ∙ eq-eqb (m .final) (m .final) refl) (p .room)
+        (λ k l. (sym (ap (λ (h : Held). h .version) (b .fragment)), sym (ap (λ (h : Held). h .message-type) (b .fragment))))
+        (omega arith) (ap (λ (k : ℕ). eqb k (m .final)) (last-is (m .final)) ∙ eq-eqb (m .final) (m .final) refl) (p .room)
       where
         last-is : (n : ℕ) → suc n - 1 ≡ n
         last-is n = omega arith
 
     goes : ownWay long v p ≡ messageWay (suc (m .final)) (whole m) (p .room)
-    goes = own-last long v p (h₁ (m .final) p b v not-yet) (h₂ (m .final) p b v not-yet) (h₃ (m .final) p b v not-yet) (b .last ∙ eq-eqb (m .final) (m .final) refl) ∙ joins-all
+    goes = own-last long v p (h₁ (m .final) p b v not-yet) (h₂ (m .final) p b v not-yet) (h₃ (m .final) p b v not-yet) (ap (λ (h : Held). h .last) (b .fragment) ∙ eq-eqb (m .final) (m .final) refl) ∙ joins-all
 
     -- alone it is the payload itself
     only : m .final ≡ 0 → p .payload ≡ whole m
-    unfolding pieces
-    only e = b .payload ∙ ap (m .piece) e ∙ ap (pieces (m .piece)) (ap suc (sym e))
+    unfolding payloads
+    only e = ap (λ (h : Held). h .payload) (b .fragment) ∙ ap (m .piece) e ∙ ap (λ (n : ℕ). payloads (λ k. kept (heldAt m k)) n) (ap suc (sym e))
 
     pub completes-as : (1 ≤ m .final → length (whole m) ≤ p .room) → (answer long v (push p) ≡ pushed (gives (completed m)) (whole m)) × (tell long v (push p) ≡ holdsNothing)
     completes-as room = by-count (eqb (m .final) 0) refl

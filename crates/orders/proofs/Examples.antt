@@ -10,18 +10,18 @@ use borrow.Author.Tests.{eqb-true, eqb-false, eq-eqb, ne-eqb, le-leb, lt-leb, lt
 use Rattle.numbers.specs.Numbers.{gives}
 use Rattle.table.specs.Search.{lowest}
 use Rattle.table.specs.Rows.{freshTable}
-use Rattle.pushing.specs.Joining.{Held, nothing, kept, Fragments, heldOf, isKept, unlike, inconsistentWith, andNew}
+use Rattle.pushing.specs.Joining.{Held, nothing, kept, Fragments, heldOf, isKept, unlike, inconsistentWith, andNew, payloads}
 use Rattle.pushing.specs.Push.{Way, end, joinWay, waiting, missing, joined, answerBy}
 use Rattle.sweeping.specs.Sweep.{noneMarkedLast, lackOf}
 use Rattle.sweeping.proofs.Sweeping.{lack-mark}
 use Rattle.table.proofs.Sound.{fresh-sound}
 use Rattle.pushing.proofs.Sound.{sound}
-use Rattle.orders.specs.Runs.{State, Push, push, sweep, pushed, counted, finishedBy, after, tells, hasRoom, start, Holding, holding, holdsNothing, toldOf}
+use Rattle.orders.specs.Runs.{State, Push, push, sweep, pushed, dropped, finishedBy, after, tells, hasRoom, start, Holding, holding, holdsNothing, repliesTo}
 use Rattle.orders.specs.Shares.{due, andOne, tallyOf, noneDropped, share, total, isIn, distinct}
-use Rattle.orders.specs.Messages.{Message, pieces, Brings, Ordering}
+use Rattle.orders.specs.Messages.{Message, Brings, Ordering}
 use Rattle.orders.proofs.Telling.{ownJoining, ownWay, own-keep, own-last, byOwn, withNew, tell, answer}
 use Rattle.orders.proofs.Pushing.{Good, Full, no-place, no-row, room-unless}
-use Rattle.orders.proofs.Locality.{has-room, good-after, good-start, untouched, own-push, own-told, own-sweep}
+use Rattle.orders.proofs.Locality.{has-room, good-after, good-start, untouched, own-push, own-reply, own-sweep}
 use Rattle.orders.proofs.Tallies.{tally-new, tally-nothing}
 use Rattle.orders.proofs.Totals.{none-plus}
 use Rattle.orders.proofs.Counting.{counts-add-up}
@@ -81,7 +81,7 @@ module _ (store : List ℕ) (long : 47744 ≤ length store) (p : Push) (lent : 4
     pub last-one-alone : tells z (push p) ≡ pushed (gives missing) []
     last-one-alone =
         let is : ownWay (length store) holdsNothing p ≡ end missing [] = own-last (length store) holdsNothing p enough small refl last ∙ misses-zero in
-        own-told (length store) z g p roomy
+        own-reply (length store) z g p roomy
         ∙ ap (λ (v : Holding). answer (length store) v (push p)) fresh-key
         ∙ ap (λ (w : Way). pushed (answerBy w) (finishedBy w (p .payload))) is
 
@@ -107,10 +107,10 @@ module _ (store : List ℕ) (long : 47744 ≤ length store) (p : Push) (lent : 4
         other e true q h = true≢false h
         other e false q h = eqb-false key k q (sym e)
 
-    counts-are : (time : ℕ) → tells waiting-state (sweep time) ≡ counted (share time (withNew holdsNothing p))
+    counts-are : (time : ℕ) → tells waiting-state (sweep time) ≡ dropped (share time (withNew holdsNothing p))
     unfolding total distinct isIn
     counts-are time =
-        ap counted (counts-add-up waiting-state (sound (g′ .made)) time (key ∷ []) refl others-none
+        ap dropped (counts-add-up waiting-state (sound (g′ .made)) time (key ∷ []) refl others-none
         ∙ none-plus (share time (holding key waiting-state)) ∙ ap (share time) holds-it)
 
     one : tallyOf (withNew holdsNothing p .fragments) 256 ≡ andOne (p .arrival .fragment .number) (p .arrival .fragment .last) (record { many = 0; beyond = 0; marked = false })
@@ -132,9 +132,9 @@ module _ (store : List ℕ) (long : 47744 ≤ length store) (p : Push) (lent : 4
     young : leb 3000 (p .arrival .time + 2999 - p .arrival .time) ≡ false
     young = lt-leb 3000 (p .arrival .time + 2999 - p .arrival .time) (omega arith)
 
-    pub stays-at-2999 : (tells waiting-state (sweep (p .arrival .time + 2999)) ≡ counted noneDropped) × (holding key (after waiting-state (sweep (p .arrival .time + 2999))) ≡ holding key waiting-state)
+    pub stays-at-2999 : (tells waiting-state (sweep (p .arrival .time + 2999)) ≡ dropped noneDropped) × (holding key (after waiting-state (sweep (p .arrival .time + 2999))) ≡ holding key waiting-state)
     stays-at-2999 = (
-      counts-are (p .arrival .time + 2999) ∙ ap counted (share-is (p .arrival .time + 2999) false young),
+      counts-are (p .arrival .time + 2999) ∙ ap dropped (share-is (p .arrival .time + 2999) false young),
       swept-to (p .arrival .time + 2999) false young ∙ sym holds-it,
     )
 
@@ -142,9 +142,9 @@ module _ (store : List ℕ) (long : 47744 ≤ length store) (p : Push) (lent : 4
     old : leb 3000 (p .arrival .time + 3000 - p .arrival .time) ≡ true
     old = le-leb 3000 (p .arrival .time + 3000 - p .arrival .time) (omega arith)
 
-    pub goes-at-3000 : (tells waiting-state (sweep (p .arrival .time + 3000)) ≡ counted (record { empty = 0; unmarked = 1; incomplete = 0; neither = 0 })) × (holding key (after waiting-state (sweep (p .arrival .time + 3000))) ≡ holdsNothing)
+    pub goes-at-3000 : (tells waiting-state (sweep (p .arrival .time + 3000)) ≡ dropped (record { empty = 0; unmarked = 1; incomplete = 0; neither = 0 })) × (holding key (after waiting-state (sweep (p .arrival .time + 3000))) ≡ holdsNothing)
     goes-at-3000 =
-        (counts-are (p .arrival .time + 3000) ∙ ap counted (share-is (p .arrival .time + 3000) true old), swept-to (p .arrival .time + 3000) true old)
+        (counts-are (p .arrival .time + 3000) ∙ ap dropped (share-is (p .arrival .time + 3000) true old), swept-to (p .arrival .time + 3000) true old)
 
 -- number 0 then last 1 completes
 module _ (store : List ℕ) (long : 47744 ≤ length store) (p q : Push) (lent : 47744 ≤ p .lent) (lent′ : 47744 ≤ q .lent)
@@ -180,11 +180,13 @@ module _ (store : List ℕ) (long : 47744 ≤ length store) (p q : Push) (lent :
       by-number : (b : Bool) → eqb k 0 ≡ b → Brings two k (cond b p q)
       by-number true e =
           let is : k ≡ 0 = eqb-true k 0 e in
-          record { key = one-key; version = one-version; message-type = one-type; number = zeroth ∙ sym is; last = more ∙ sym (ne-eqb k 1 (λ c. omega arith)); payload = rw e; lent = lent }
+          let bytes : p .payload ≡ either k (p .payload) (q .payload) = rw e in
+          record { key = one-key; number = zeroth ∙ sym is; fragment = λ i. record { version = one-version i; message-type = one-type i; last = (more ∙ sym (ne-eqb k 1 (λ c. omega arith))) i; payload = bytes i }; lent = lent }
       by-number false e =
           let ne = eqb-false k 0 e in
           let is : k ≡ 1 = omega (arith, ne) in
-          record { key = refl; version = refl; message-type = refl; number = first ∙ sym is; last = last ∙ sym (eq-eqb k 1 is); payload = rw e; lent = lent′ }
+          let bytes : q .payload ≡ either k (p .payload) (q .payload) = rw e in
+          record { key = refl; number = first ∙ sym is; fragment = λ i. record { version = q .arrival .fragment .version; message-type = q .arrival .fragment .«message_type»; last = (last ∙ sym (eq-eqb k 1 is)) i; payload = bytes i }; lent = lent′ }
 
   ordering : Ordering two (0 ∷ [])
   unfolding two isIn distinct
@@ -194,6 +196,6 @@ module _ (store : List ℕ) (long : 47744 ≤ length store) (p q : Push) (lent :
       by-number k true e = sym (lt-ltb k 1 (omega (arith, eqb-true 0 k e)))
       by-number k false e = sym (le-ltb k 1 (omega (arith, eqb-false 0 k e)))
 
-  pub zero-then-last-one : toldOf (q .arrival .key) (start store) (push p ∷ push q ∷ []) ≡ pushed (gives waiting) [] ∷ pushed (gives (joined (length (p .payload ++ q .payload)))) (p .payload ++ q .payload) ∷ []
-  unfolding two bring pieces
+  pub zero-then-last-one : repliesTo (q .arrival .key) (start store) (push p ∷ push q ∷ []) ≡ pushed (gives waiting) [] ∷ pushed (gives (joined (length (p .payload ++ q .payload)))) (p .payload ++ q .payload) ∷ []
+  unfolding two bring payloads
   zero-then-last-one = fresh-completes two bring (0 ∷ []) store long brings ordering (λ l. room) .answers

@@ -13,7 +13,7 @@ use Rattle.table.proofs.Places.{all-same}
 use Rattle.reassembler.specs.Keys.{Origin, keyFor}
 use Rattle.reassembler.proofs.Keys.{key-is-one's}
 use Rattle.machines.specs.Machine.{those, run, remaining, gathered, every}
-use Rattle.orders.specs.Runs.{State, Call, push, sweep, after, tells, isAccepted, hasRoom, isOwn, isSweep, mine, start, holding, ends, crossed, toldOf}
+use Rattle.orders.specs.Runs.{State, Call, push, sweep, after, tells, isAccepted, hasRoom, isOwn, isSweep, mine, start, holding, ends, crossed, repliesTo}
 use Rattle.orders.specs.Happened.{Event, push-event, sweep-event, Happens, by-push, by-sweep, Happened, none, more, callOf, Got, from-push, from-sweep, gotBy, replyOf, isRefused, isFull, sameBytes, isFrom, sweeps, isAbout}
 use Rattle.orders.specs.Claims.{Reordered, IsRun, AskedReordered, NoneFull, SameGot, AskedAlone, GotAlone}
 use Rattle.machines.proofs.Lists.{left-true, right-true, those-both}
@@ -175,7 +175,7 @@ reordered es fs same c = by-key (known c es) (known c fs)
     by-key (nobody's h) (nobody's k) = h ∙ sym (sweeps-among (keyFor nobody) (map callOf es)) ∙ ap (those isSweep) (at nobody) ∙ sweeps-among (keyFor nobody) (map callOf fs) ∙ sym k
 
 -- what is told of a key's own pushes
-own : (o : Origin) {z z′ : State} {es : List Event} → Happened z es z′ → toldOf (keyFor o) z (map callOf es) ≡ map (λ e. replyOf (gotBy e)) (those (isFrom o) es)
+own : (o : Origin) {z z′ : State} {es : List Event} → Happened z es z′ → repliesTo (keyFor o) z (map callOf es) ≡ map (λ e. replyOf (gotBy e)) (those (isFrom o) es)
 own o = gathers (λ s e. isOwn (keyFor o) e) (isFrom o) (λ z z′ e h. own-from o e)
 
 -- what a call's answer says of it
@@ -211,7 +211,7 @@ module _ (store : List ℕ) (es : List Event) (z : State) (h : Happened (start s
           answers = all-got (those (isFrom o) (those (λ e. not (isRefused e)) es)) (those (isFrom o) fs)
               (ap (map (λ e. replyOf (gotBy e))) (those-both (isFrom o) (λ e. not (isRefused e)) es)
               ∙ sym (gathers (λ s e. isOwn (keyFor o) e && isAccepted s e) (λ e. isFrom o e && not (isRefused e)) (λ s s′ e g. rw (own-from o e, accepted s s′ e g)) h)
-              ∙ alone .answers ∙ ap (toldOf (keyFor o) (start store′)) hers ∙ own o h′);
+              ∙ alone .answers ∙ ap (repliesTo (keyFor o) (start store′)) hers ∙ own o h′);
           holds = ap (holding (keyFor o)) (sym (ends-at h)) ∙ alone .holds ∙ ap (λ (calls : List Call). holding (keyFor o) (ends (start store′) calls)) hers ∙ ap (holding (keyFor o)) (ends-at h′);
           none-refused = none-fails isAccepted isRefused accepted h′ (subst (λ (calls : List Call). every after isAccepted (start store′) calls ≡ true) hers (alone .none-refused));
         }

@@ -11,7 +11,6 @@ use Rattle.pushing.specs.Joining.{Held, Kept, nothing, kept, Fragments, isKept,
 use Rattle.pushing.specs.Push.{end, missing, messageWay, joinWay}
 use Rattle.table.proofs.Search.{lowest-before, lowest-is, lowest-none}
 use Rattle.pushing.proofs.Pieces.{some-at}
-use Rattle.orders.specs.Messages.{pieces}
 
 pub none-passes : (test : ℕ → Bool) (n : ℕ) → ((k : ℕ) → k < n → test k ≡ false) → some test n ≡ false
 none-passes test n none = le-ltb (lowest test n) n (omega (arith, lowest-none test n none))
@@ -41,17 +40,16 @@ module _ (new : Held) (fs : Fragments) (h : ℕ → Held) (n : ℕ) (in-byte : n
   no-gap = none-passes (λ k. isKept (fs k) && ltb (reach fs) k) 256 (λ k l. by-number (λ (x : Kept). (isKept x && ltb (reach fs) k) ≡ false) k
       (λ q. le-ltb (reach fs) k (omega (arith, reaches))) (λ q. refl))
 
-  -- the pieces in number order
-  payloads-are : (piece : ℕ → List ℕ) → ((k : ℕ) → k < n → h k .payload ≡ piece k) → (m : ℕ) → m ≤ n → payloads fs m ≡ pieces piece m
-  unfolding inOrder pieces
-  payloads-are piece same zero l = refl
-  payloads-are piece same (suc m) l = rw (payloads-are piece same m (omega arith), there m (omega arith), same m (omega arith))
+  payloads-are : (m : ℕ) → m ≤ n → payloads fs m ≡ payloads (λ k. kept (h k)) m
+  unfolding inOrder
+  payloads-are zero l = refl
+  payloads-are (suc m) l = rw (payloads-are m (omega arith), there m (omega arith))
 
-  pub joins : (piece : ℕ → List ℕ) → ((k : ℕ) → k < n → h k .payload ≡ piece k) → 1 ≤ n → h (n - 1) .last ≡ true → (room : ℕ) → joinWay new fs room ≡ messageWay n (pieces piece n) room
+  pub joins : 1 ≤ n → h (n - 1) .last ≡ true → (room : ℕ) → joinWay new fs room ≡ messageWay n (payloads (λ k. kept (h k)) n) room
   unfolding joinWay
-  joins piece same l last room =
+  joins l last room =
       let marked : isLast (fs (reach fs - 1)) ≡ true = ap (λ (k : ℕ). isLast (fs (k - 1))) reaches ∙ ap isLast (there (n - 1) (omega arith)) ∙ last in
-      rw (consistent, no-gap, marked, reaches, payloads-are piece same n (omega arith))
+      rw (consistent, no-gap, marked, reaches, payloads-are n (omega arith))
 
 -- and where one is missing: a number that is there, beyond one that is not
 pub misses : (new : Held) (fs : Fragments) (k low : ℕ) → inconsistentWith new fs ≡ false → k < 256 → fs low ≡ nothing → low < k → isKept (fs k) ≡ true → (room : ℕ) → joinWay new fs room ≡ end missing []

@@ -58,8 +58,8 @@ module _ (long : ℕ) (z : State) (g : Good long z) where
       own-same z p s (sound (good-after long z (push p) g .made))
       ∙ ap (λ (w : Way). byOwn w (holding (p .arrival .key) z) p) (way-shape long z p g (sym (has-room z p) ∙ h))
 
-  pub own-told : (p : Push) → hasRoom z (push p) ≡ true → tells z (push p) ≡ answer long (holding (p .arrival .key) z) (push p)
-  own-told p h =
+  pub own-reply : (p : Push) → hasRoom z (push p) ≡ true → tells z (push p) ≡ answer long (holding (p .arrival .key) z) (push p)
+  own-reply p h =
       let w = wayOf z p in
       let is = way-shape long z p g (sym (has-room z p) ∙ h) in
       let said : answerBy w ≡ answerBy (ownWay long (holding (p .arrival .key) z) p) = sym (same-answer w) ∙ ap answerBy is in
@@ -88,7 +88,7 @@ module _ (long : ℕ) (passes : State → Call → Bool) (room : (z : State) (e 
   other c z (sweep time) g k = absurd (true≢false k)
 
   said : (c : ℕ) (z : State) (e : Call) → Good long z → passes z e ≡ true → isOwn c e ≡ true → tells z e ≡ answer long (holding c z) e
-  said c z (push p) g h k = subst (λ (d : ℕ). tells z (push p) ≡ answer long (holding d z) (push p)) (eqb-true _ _ k) (own-told long z g p (room z (push p) h))
+  said c z (push p) g h k = subst (λ (d : ℕ). tells z (push p) ≡ answer long (holding d z) (push p)) (eqb-true _ _ k) (own-reply long z g p (room z (push p) h))
   said c z (sweep time) g h k = absurd (false≢true k)
 
   pub local : Y.Local after tells holding isOwn isSweep (tell long) (answer long) passes (Good long)

@@ -12,13 +12,13 @@ use Rattle.pushing.specs.Made.{Made}
 use Rattle.table.proofs.Sound.{fresh-sound}
 use Rattle.pushing.proofs.Sound.{sound}
 use Rattle.machines.specs.Machine.{those, run, remaining}
-use Rattle.orders.specs.Runs.{State, Push, Call, push, sweep, counted, after, tells, isAccepted, hasRoom, isOwn, isSweep, concerns, mine, start, Holding, holding, ends, neverFull, holdsNothing, crossed}
+use Rattle.orders.specs.Runs.{State, Push, Call, push, sweep, dropped, after, tells, isAccepted, hasRoom, isOwn, isSweep, concerns, mine, start, Holding, holding, ends, neverFull, holdsNothing, crossed}
 use Rattle.orders.specs.Shares.{due, share, total, isIn, distinct}
 use Rattle.orders.specs.Claims.{Local, Alike, ToldAlone, SharesAddUp, AddsUp, Reordered, SameStory}
 use Rattle.machines.proofs.Lists.{those-append, every-remains, every-gathered}
 use Rattle.orders.proofs.Telling.{tell, answer}
 use Rattle.orders.proofs.Pushing.{Good}
-use Rattle.orders.proofs.Locality.{refused-nothing, good-after, good-start, untouched, own-push, own-told, own-sweep, local-room, local-accepted}
+use Rattle.orders.proofs.Locality.{refused-nothing, good-after, good-start, untouched, own-push, own-reply, own-sweep, local-room, local-accepted}
 use Rattle.orders.proofs.Totals.{none-plus, total-same}
 use Rattle.orders.proofs.Counting.{counts-add-up, counts-same}
 use Rattle.orders.proofs.Alone.{Lone, echo, fresh-holds}
@@ -51,7 +51,7 @@ module _ (store store′ : List ℕ) (long : length store′ ≡ length store) w
   -- the counts of a sweep go by what the keys hold
   common-same : (z z′ : State) (e : Call) → Good n z → Good n z′ → isSweep e ≡ true → ((key : ℕ) → holding key z ≡ holding key z′) → tells z e ≡ tells z′ e
   common-same z z′ (push p) g g′ h same = absurd (false≢true h)
-  common-same z z′ (sweep time) g g′ h same = ap counted (counts-same z z′ (sound (g .made)) (sound (g′ .made)) time same)
+  common-same z z′ (sweep time) g g′ h same = ap dropped (counts-same z z′ (sound (g .made)) (sound (g′ .made)) time same)
 
   -- demand 3
   pub order-across-keys : (calls calls′ : List Call) → Reordered calls calls′ → neverFull (start store) calls ≡ true → neverFull (start store′) calls′ ≡ true → SameStory store store′ calls calls′
@@ -149,7 +149,7 @@ alike z z′ made made′ long key same =
     let g : Good n z = record { made = made; same-long = long } in
     let g′ : Good n z′ = record { made = made′; same-long = refl } in
     record {
-      tells-same = λ p e h h′. own-told n z g p h ∙ ap (λ (v : Holding). answer n v (push p)) (at p e) ∙ sym (own-told n z′ g′ p h′);
+      tells-same = λ p e h h′. own-reply n z g p h ∙ ap (λ (v : Holding). answer n v (push p)) (at p e) ∙ sym (own-reply n z′ g′ p h′);
       push-same = λ p e h h′. subst (λ (k : ℕ). holding k (after z (push p)) ≡ holding k (after z′ (push p))) e (own-push n z g p h ∙ ap (λ (v : Holding). tell n v (push p)) (at p e) ∙ sym (own-push n z′ g′ p h′));
       sweep-same = λ time. own-sweep n z g key time ∙ ap (λ (v : Holding). tell n v (sweep time)) same ∙ sym (own-sweep n z′ g′ key time);
     }

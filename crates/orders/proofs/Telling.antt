@@ -8,7 +8,7 @@ use lib.ListN.{length}
 use borrow.Author.Tests.{lt-ltb, le-ltb}
 use Rattle.pushing.specs.Joining.{Since, never, since, isKept, heldOf, andNew}
 use Rattle.pushing.specs.Push.{Way, refuse, replace, keepAt, openAt, end, joinWay, answerBy}
-use Rattle.orders.specs.Runs.{Push, Call, push, sweep, Told, pushed, counted, finishedBy, refusedBy, Holding, holdsNothing}
+use Rattle.orders.specs.Runs.{Push, Call, push, sweep, Reply, pushed, dropped, finishedBy, refusedBy, Holding, holdsNothing}
 use Rattle.orders.specs.Shares.{due, noneDropped}
 
 -- a way, but for the places and rows that it names
@@ -92,6 +92,6 @@ tell long v (push p) = byOwn (ownWay long v p) v p
 tell long v (sweep time) = cond (due time (v .first)) holdsNothing v
 
 -- the counts of a sweep are not one key's to tell
-abbrev pub answer : ℕ → Holding → Call → Told
+abbrev pub answer : ℕ → Holding → Call → Reply
 answer long v (push p) = pushed (answerBy (ownWay long v p)) (finishedBy (ownWay long v p) (p .payload))
-answer long v (sweep time) = counted noneDropped
+answer long v (sweep time) = dropped noneDropped

@@ -9,7 +9,7 @@ use Rattle.reassembler.specs.Keys.{Origin, keyFor}
 use Rattle.machines.specs.Machine.{those, every}
 use Rattle.orders.specs.Shares.{share, total}
 use Rattle.orders.specs.Messages.{Message, calls, completing}
-use Rattle.orders.specs.Runs.{State, Push, Call, push, sweep, isAccepted, hasRoom, after, tells, mine, start, holding, holdsNothing, ends, crossed, toldOf, toldOfAccepted, toldOfSweeps}
+use Rattle.orders.specs.Runs.{State, Push, Call, push, sweep, isAccepted, hasRoom, after, tells, mine, start, holding, holdsNothing, ends, crossed, repliesTo, repliesToAccepted, repliesToSweeps}
 use Rattle.orders.specs.Happened.{Event, callOf, gotBy, isRefused, isFull, isFrom, sweeps, isAbout}
 
 -- What a key holds is untouched by every push under another key, refused or not; a refused call changes nothing.
@@ -27,7 +27,7 @@ pub record Alike (z z′ : State) (key : ℕ) : Type 0 where
 -- Request 2026-09: "Take any calls from a fresh table and cross out those refused. For each key, the answers to its remaining pushes, its finished bytes, kept fragments and first time
 -- shall be those of a fresh table given only that key's remaining pushes and all the sweeps, in the same order." What a store held before does not matter, so that the two may differ.
 pub record ToldAlone (key : ℕ) (store store′ : List ℕ) (calls : List Call) : Type 0 where
-  pub answers : toldOfAccepted key (start store) calls ≡ toldOf key (start store′) (mine key (crossed (start store) calls))
+  pub answers : repliesToAccepted key (start store) calls ≡ repliesTo key (start store′) (mine key (crossed (start store) calls))
   pub holds : holding key (ends (start store) calls) ≡ holding key (ends (start store′) (mine key (crossed (start store) calls)))
   pub none-refused : every after isAccepted (start store′) (mine key (crossed (start store) calls)) ≡ true
 
@@ -47,13 +47,13 @@ Reordered calls calls′ = (key : ℕ) → mine key calls ≡ mine key calls′
 
 -- "each call gets the same answer and, as it returns, the same finished bytes, and both tables end with the same fragments and first times per key"
 pub record SameStory (store store′ : List ℕ) (calls calls′ : List Call) : Type 0 where
-  pub pushes : (key : ℕ) → toldOf key (start store) calls ≡ toldOf key (start store′) calls′
-  pub sweeps : toldOfSweeps (start store) calls ≡ toldOfSweeps (start store′) calls′
+  pub pushes : (key : ℕ) → repliesTo key (start store) calls ≡ repliesTo key (start store′) calls′
+  pub sweeps : repliesToSweeps (start store) calls ≡ repliesToSweeps (start store′) calls′
   pub holds : (key : ℕ) → holding key (ends (start store) calls) ≡ holding key (ends (start store′) calls′)
 
 -- "a message cut into fragments 0 to n-1, pushed in any order that ends with the last one, with room, completes with the message": all others wait, and the key is dropped
 pub record Completes (m : Message) (bring : ℕ → Push) (order : List ℕ) (z : State) : Type 0 where
-  pub answers : toldOf (m .key) z (calls m bring order) ≡ completing m order
+  pub answers : repliesTo (m .key) z (calls m bring order) ≡ completing m order
   pub holds : holding (m .key) (ends z (calls m bring order)) ≡ holdsNothing
 
 -- Calls that happened are a run: the table at their end is the run's, and one that push asks for.

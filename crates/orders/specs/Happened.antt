@@ -12,7 +12,7 @@ use Rattle.pushing.specs.Push.{pushedOf, way, Goes}
 use Rattle.pushing.specs.Show.{shown}
 use Rattle.sweeping.specs.Sweep.{swept, sweptAs}
 use Rattle.reassembler.specs.Keys.{Origin, keyFor}
-use Rattle.orders.specs.Runs.{State, Push, Call, push, sweep, Told, pushed, counted, part, refusedBy, forRoom, isSweep}
+use Rattle.orders.specs.Runs.{State, Push, Call, push, sweep, Reply, pushed, dropped, part, refusedBy, forRoom, isSweep}
 
 -- a call as it happened: a push under the key that key_of makes, with the output as it was lent, the answer, and the output as it came back; a sweep with its time and its counts
 pub data Event : Type 0 where
@@ -47,9 +47,9 @@ gotBy (push-event o p key out answer out′) = from-push answer (shown (pushedOf
 gotBy (sweep-event time counts) = from-sweep counts
 
 -- the same in a run's words, and whether it is a refusal, or one for table room
-abbrev pub replyOf : Got → Told
+abbrev pub replyOf : Got → Reply
 replyOf (from-push answer bytes) = pushed (pushedOf answer) bytes
-replyOf (from-sweep counts) = counted counts
+replyOf (from-sweep counts) = dropped counts
 
 abbrev pub isRefused : Event → Bool
 isRefused e = refusedBy (λ n. true) (replyOf (gotBy e))

@@ -8,8 +8,9 @@ use lib.ListN.{length}
 use Rattle.numbers.specs.Numbers.{gives}
 use Rattle.table.specs.declared.Table.{Table}
 use Rattle.table.specs.Rows.{placeAt, isFree, spareRow}
+use Rattle.pushing.specs.Joining.{Held, kept, heldOf, payloads}
 use Rattle.pushing.specs.Push.{Heard, waiting, single, joined}
-use Rattle.orders.specs.Runs.{Push, Call, push, Told, pushed}
+use Rattle.orders.specs.Runs.{Push, Call, push, Reply, pushed}
 use Rattle.orders.specs.Shares.{isIn, distinct}
 
 -- fragments 0 to final, each at most 1,492 bytes
@@ -22,23 +23,19 @@ pub record Message : Type 0 where
   pub few : final ≤ 32
   pub small : (k : ℕ) → length (piece k) ≤ 1492
 
--- the pieces below n, one behind the other
-unfoldable pub pieces : (ℕ → List ℕ) → ℕ → List ℕ
-pieces piece zero = []
-pieces piece (suc n) = pieces piece n ++ piece n
+-- fragment k as a table holds it: "only the last marked last"
+abbrev pub heldAt : Message → ℕ → Held
+heldAt m k = record { version = m .version; message-type = m .message-type; last = eqb k (m .final); payload = m .piece k }
 
+-- "the payloads in number order"
 abbrev pub whole : Message → List ℕ
-whole m = pieces (m .piece) (suc (m .final))
+whole m = payloads (λ k. kept (heldAt m k)) (suc (m .final))
 
 -- a push that brings fragment k, with a large enough store; its time and its output are any
 pub record Brings (m : Message) (k : ℕ) (p : Push) : Type 0 where
   pub key : p .arrival .key ≡ m .key
-  pub version : p .arrival .fragment .version ≡ m .version
-  pub message-type : p .arrival .fragment .«message_type» ≡ m .message-type
   pub number : p .arrival .fragment .number ≡ k
-  -- "only the last marked last"
-  pub last : p .arrival .fragment .last ≡ eqb k (m .final)
-  pub payload : p .payload ≡ m .piece k
+  pub fragment : heldOf (p .arrival .fragment) (p .payload) ≡ heldAt m k
   pub lent : 47744 ≤ p .lent
 
 -- "in any order that ends with the last one": each number below the final one, once
@@ -63,5 +60,5 @@ pub record Room (m : Message) (t : Table) : Type 0 where
 abbrev pub completed : Message → Heard
 completed m = cond (eqb (m .final) 0) (single (length (whole m))) (joined (length (whole m)))
 
-abbrev pub completing : Message → List ℕ → List Told
+abbrev pub completing : Message → List ℕ → List Reply
 completing m order = map (λ k. pushed (gives waiting) []) order ++ (pushed (gives (completed m)) (whole m) ∷ [])

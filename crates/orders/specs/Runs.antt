@@ -34,9 +34,9 @@ pub data Call : Type 0 where
   sweep : ℕ → Call
 
 -- what a call tells as it returns: a push its answer and the finished bytes, a sweep its four counts
-pub data Told : Type 0 where
-  pushed : Answer Heard → List ℕ → Told
-  counted : Counts → Told
+pub data Reply : Type 0 where
+  pushed : Answer Heard → List ℕ → Reply
+  dropped : Counts → Reply
 
 -- the finished bytes: what the showing call shows of the payload and of an output, whatever it held (see `finished-shown`): here, of an empty one
 abbrev pub finishedBy : Way → List ℕ → List ℕ
@@ -57,15 +57,15 @@ abbrev pub after : State → Call → State
 after s (push p) = afterWay (wayOf s p) s p
 after s (sweep time) = record { table = swept (s .table) time .table; store = s .store }
 
-abbrev pub tells : State → Call → Told
+abbrev pub tells : State → Call → Reply
 tells s (push p) = pushed (answerBy (wayOf s p)) (finishedBy (wayOf s p) (p .payload))
-tells s (sweep time) = counted (swept (s .table) time .counts)
+tells s (sweep time) = dropped (swept (s .table) time .counts)
 
 -- a call is refused by some number, or for table room
-abbrev pub refusedBy : (ℕ → Bool) → Told → Bool
+abbrev pub refusedBy : (ℕ → Bool) → Reply → Bool
 refusedBy test (pushed (gives given) bytes) = false
 refusedBy test (pushed (refuses n values) bytes) = test n
-refusedBy test (counted c) = false
+refusedBy test (dropped c) = false
 
 abbrev pub isAccepted : State → Call → Bool
 isAccepted s e = not (refusedBy (λ n. true) (tells s e))
@@ -114,14 +114,14 @@ abbrev pub crossed : State → List Call → List Call
 crossed = remaining after isAccepted
 
 -- what is told of a key's own pushes, of those not refused, and of the sweeps
-abbrev pub toldOf : ℕ → State → List Call → List Told
-toldOf key = gathered after (λ s e. isOwn key e) tells
+abbrev pub repliesTo : ℕ → State → List Call → List Reply
+repliesTo key = gathered after (λ s e. isOwn key e) tells
 
-abbrev pub toldOfAccepted : ℕ → State → List Call → List Told
-toldOfAccepted key = gathered after (λ s e. isOwn key e && isAccepted s e) tells
+abbrev pub repliesToAccepted : ℕ → State → List Call → List Reply
+repliesToAccepted key = gathered after (λ s e. isOwn key e && isAccepted s e) tells
 
-abbrev pub toldOfSweeps : State → List Call → List Told
-toldOfSweeps = gathered after (λ s e. isSweep e) tells
+abbrev pub repliesToSweeps : State → List Call → List Reply
+repliesToSweeps = gathered after (λ s e. isSweep e) tells
 
 -- no call of a run is refused for table room
 abbrev pub neverFull : State → List Call → Bool
