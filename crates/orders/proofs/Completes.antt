@@ -21,7 +21,7 @@ use Rattle.pushing.proofs.Sound.{sound}
 use Rattle.machines.specs.Machine.{those, remaining, every}
 use Rattle.orders.specs.Runs.{State, Push, Call, push, Reply, pushed, finishedBy, part, wayOf, after, tells, hasRoom, isOwn, isSweep, concerns, start, Holding, holding, holdsNothing, mine, crossed, repliesTo, repliesToAccepted}
 use Rattle.orders.specs.Shares.{andKept, tallyOf, isIn, distinct}
-use Rattle.orders.specs.Messages.{Message, heldAt, whole, Brings, Ordering, calls, freeIn, Room, completing}
+use Rattle.orders.specs.Messages.{Message, heldAt, whole, Brings, Sent, calls, freeIn, Room, completing}
 use Rattle.orders.specs.Claims.{Completes}
 use Rattle.table.proofs.Places.{put-elsewhere}
 use Rattle.machines.proofs.Lists.{left-true, right-true, every-remains, every-gathered}
@@ -211,21 +211,20 @@ module _ (m : Message) (long : ℕ) (store : 47744 ≤ long) (bring : ℕ → Pu
       rw (eq-eqb (bring k .arrival .key) (m .key) (brings k (omega (arith, due-here done k ks d .1)) .key), all-concern ks (λ j. done j || eqb k j) (due-next done k ks d))
 
 -- from any table that the calls made, in which the key is not held and which has room
-pub completes : (m : Message) (bring : ℕ → Push) (order : List ℕ) (z : State)
-    → Made (z .table) → 47744 ≤ length (z .store) → holding (m .key) z ≡ holdsNothing → Room m (z .table)
-    → ((k : ℕ) → k ≤ m .final → Brings m k (bring k)) → Ordering m order → (1 ≤ m .final → length (whole m) ≤ bring (m .final) .room)
-    → Completes m bring order z
-completes m bring order z made store absent-key has-place brings ordering room =
+pub completes : (m : Message) (bring : ℕ → Push) (order : List ℕ) (z : State) → Made (z .table) → 47744 ≤ length (z .store) → holding (m .key) z ≡ holdsNothing → Room m (z .table)
+    → Sent m bring order → Completes m bring order z
+completes m bring order z made store absent-key has-place sent =
+    let brings = sent .brings in
     let long = length (z .store) in
     let g : Good long z = record { made = made; same-long = refl } in
     let none : ℕ → Bool = λ k. false in
-    let d : Due m long store bring brings none order = record { once = ordering .once; new = λ k h. refl; all = ordering .all } in
+    let d : Due m long store bring brings none order = record { once = sent .once; new = λ k h. refl; all = sent .all } in
     let has : Has m none (holding (m .key) z) = λ k. ap (λ (v : Holding). v .fragments k) absent-key in
-    let few : length order ≤ m .final = at-most (heldAt m 0) (m .final) order (ordering .once) (λ k h. ltb-true k (m .final) (sym (ordering .all k) ∙ h)) in
+    let few : length order ≤ m .final = at-most (heldAt m 0) (m .final) order (sent .once) (λ k h. ltb-true k (m .final) (sym (sent .all k) ∙ h)) in
     let roomy = finds-room m long store bring brings order none z g d has (omega (arith, has-place .places)) (λ l out spare. omega (arith, has-place .row (omega arith))) in
     let story : those (concerns (m .key)) (remaining after hasRoom z (calls m bring order)) ≡ calls m bring order
     = ap (those (concerns (m .key))) (every-remains after hasRoom (calls m bring order) z roomy) ∙ all-concern m long store bring brings order none d in
-    let told = as-story m long store bring brings room order none (holding (m .key) z) d has in
+    let told = as-story m long store bring brings (sent .room) order none (holding (m .key) z) d has in
     record {
       answers =
           sym (every-gathered after hasRoom (λ s e. isOwn (m .key) e) tells (calls m bring order) z roomy)
@@ -243,17 +242,11 @@ fresh-room : (m : Message) → Room m freshTable
 unfolding freeIn lowest
 fresh-room m = record { places = m .few; row = λ l. omega arith }
 
-pub fresh-completes : (m : Message) (bring : ℕ → Push) (order : List ℕ) (store : List ℕ) → 47744 ≤ length store
-    → ((k : ℕ) → k ≤ m .final → Brings m k (bring k)) → Ordering m order → (1 ≤ m .final → length (whole m) ≤ bring (m .final) .room)
-    → Completes m bring order (start store)
+pub fresh-completes : (m : Message) (bring : ℕ → Push) (order : List ℕ) (store : List ℕ) → 47744 ≤ length store → Sent m bring order → Completes m bring order (start store)
 fresh-completes m bring order store long = completes m bring order (start store) byFresh long (fresh-holds store fresh-sound (m .key)) (fresh-room m)
 
--- and among pushes under other keys, by the story told alone: if these are all that is left of the key's calls and the run's sweeps, they are answered so
-pub completes-among : (m : Message) (bring : ℕ → Push) (order : List ℕ) (store : List ℕ) (others : List Call) → 47744 ≤ length store
-    → ((k : ℕ) → k ≤ m .final → Brings m k (bring k)) → Ordering m order → (1 ≤ m .final → length (whole m) ≤ bring (m .final) .room)
-    → mine (m .key) (crossed (start store) others) ≡ calls m bring order
-    → repliesToAccepted (m .key) (start store) others ≡ completing m order
-completes-among m bring order store others long brings ordering room story =
-    told-alone store store refl (m .key) others .answers
-    ∙ ap (repliesTo (m .key) (start store)) story
-    ∙ fresh-completes m bring order store long brings ordering room .answers
+-- and among pushes under other keys, by the story told alone
+pub completes-among : (m : Message) (bring : ℕ → Push) (order : List ℕ) (store : List ℕ) (others : List Call) → 47744 ≤ length store → Sent m bring order
+    → mine (m .key) (crossed (start store) others) ≡ calls m bring order → repliesToAccepted (m .key) (start store) others ≡ completing m order
+completes-among m bring order store others long sent story =
+    told-alone store store refl (m .key) others .answers ∙ ap (repliesTo (m .key) (start store)) story ∙ fresh-completes m bring order store long sent .answers

@@ -18,8 +18,8 @@ use Rattle.table.proofs.Sound.{fresh-sound}
 use Rattle.pushing.proofs.Sound.{sound}
 use Rattle.orders.specs.Runs.{State, Push, push, sweep, pushed, dropped, finishedBy, after, tells, hasRoom, start, Holding, holding, holdsNothing, repliesTo}
 use Rattle.orders.specs.Shares.{due, andOne, tallyOf, noneDropped, share, total, isIn, distinct}
-use Rattle.orders.specs.Messages.{Message, Brings, Ordering}
-use Rattle.orders.proofs.Telling.{ownJoining, ownWay, own-keep, own-last, byOwn, withNew, tell, answer}
+use Rattle.orders.specs.Messages.{Message, Brings, Sent}
+use Rattle.orders.proofs.Telling.{ownWay, own-keep, own-last, byOwn, withNew, tell, answer}
 use Rattle.orders.proofs.Pushing.{Good, Full, no-place, no-row, room-unless}
 use Rattle.orders.proofs.Locality.{has-room, good-after, good-start, untouched, own-push, own-reply, own-sweep}
 use Rattle.orders.proofs.Tallies.{tally-new, tally-nothing}
@@ -188,9 +188,9 @@ module _ (store : List ℕ) (long : 47744 ≤ length store) (p q : Push) (lent :
           let bytes : q .payload ≡ either k (p .payload) (q .payload) = rw e in
           record { key = refl; number = first ∙ sym is; fragment = λ i. record { version = q .arrival .fragment .version; message-type = q .arrival .fragment .«message_type»; last = (last ∙ sym (eq-eqb k 1 is)) i; payload = bytes i }; lent = lent′ }
 
-  ordering : Ordering two (0 ∷ [])
-  unfolding two isIn distinct
-  ordering = record { once = refl; all = λ k. by-number k (eqb 0 k) refl }
+  sent : Sent two bring (0 ∷ [])
+  unfolding two bring payloads isIn distinct
+  sent = record { brings = brings; once = refl; all = λ k. by-number k (eqb 0 k) refl; room = λ l. room }
     where
       by-number : (k : ℕ) (b : Bool) → eqb 0 k ≡ b → (b || false) ≡ ltb k 1
       by-number k true e = sym (lt-ltb k 1 (omega (arith, eqb-true 0 k e)))
@@ -198,4 +198,4 @@ module _ (store : List ℕ) (long : 47744 ≤ length store) (p q : Push) (lent :
 
   pub zero-then-last-one : repliesTo (q .arrival .key) (start store) (push p ∷ push q ∷ []) ≡ pushed (gives waiting) [] ∷ pushed (gives (joined (length (p .payload ++ q .payload)))) (p .payload ++ q .payload) ∷ []
   unfolding two bring payloads
-  zero-then-last-one = fresh-completes two bring (0 ∷ []) store long brings ordering (λ l. room) .answers
+  zero-then-last-one = fresh-completes two bring (0 ∷ []) store long sent .answers

@@ -1,23 +1,26 @@
 -- Calls that happened are a run of the table: what is claimed of runs holds for them.
 use mathlib.Core.Path.{_≡_, refl, sym, ap, _∙_, subst}
-use mathlib.Core.List.{List, [], _∷_, map}
+use mathlib.Core.List.{List, [], _∷_, _++_, map}
 use mathlib.Core.Bool.{Bool, true, false, cond, not, _&&_, _||_, false≢true}
 use Prim.Native.Nat.{ℕ}
 use native.Mathlib.Omega.{arith}
 use lib.Dec.{eqb}
-use lib.ListN.{length, replicate}
+use lib.ListN.{length, drop, replicate}
 use borrow.Author.Tests.{eqb-true, eqb-false, eq-eqb}
+use Rattle.sweeping.specs.declared.Swept.{Swept}
+use Rattle.pushing.specs.Push.{pushedOf, Goes, outputBy, answerBy}
+use Rattle.pushing.specs.Show.{shown}
 use Rattle.pushing.specs.Made.{Made}
+use Rattle.pushing.proofs.Ways.{shown-same}
 use Rattle.pushing.proofs.Firm.{one-answer}
 use Rattle.table.proofs.Places.{all-same}
 use Rattle.reassembler.specs.Keys.{Origin, keyFor}
 use Rattle.reassembler.proofs.Keys.{key-is-one's}
 use Rattle.machines.specs.Machine.{those, run, remaining, gathered, every}
-use Rattle.orders.specs.Runs.{State, Call, push, sweep, after, tells, isAccepted, hasRoom, isOwn, isSweep, mine, start, holding, ends, crossed, repliesTo}
+use Rattle.orders.specs.Runs.{State, Push, Call, push, sweep, pushed, dropped, finishedBy, part, wayOf, after, tells, isAccepted, hasRoom, isOwn, isSweep, mine, start, holding, ends, crossed, repliesTo}
 use Rattle.orders.specs.Happened.{Event, push-event, sweep-event, Happens, by-push, by-sweep, Happened, none, more, callOf, Got, from-push, from-sweep, gotBy, replyOf, isRefused, isFull, sameBytes, isFrom, sweeps, isAbout}
 use Rattle.orders.specs.Claims.{Reordered, IsRun, AskedReordered, NoneFull, SameGot, AskedAlone, GotAlone}
 use Rattle.machines.proofs.Lists.{left-true, right-true, those-both}
-use Rattle.orders.proofs.Calls.{push-call, sweep-call}
 use Rattle.orders.proofs.Orders.{run-made, told-alone, order-across-keys}
 
 -- no two answers are told alike
@@ -36,11 +39,18 @@ all-got [] (y ∷ ys) h = let no : _≡_ {A = ℕ} 0 1 = cc in absurd (omega ari
 all-got (x ∷ xs) [] h = let no : _≡_ {A = ℕ} 0 1 = cc in absurd (omega arith)
 all-got (x ∷ xs) (y ∷ ys) h = rw (one-got (gotBy x) (gotBy y) (cc), all-got xs ys (cc))
 
+-- the finished bytes are what the showing call shows of the payload and of the output, whatever the output held
+pub finished-shown : (z : State) (p : Push) (out : List ℕ) → shown (answerBy (wayOf z p)) (p .payload) (outputBy (wayOf z p) out) ≡ finishedBy (wayOf z p) (p .payload)
+finished-shown z p out = shown-same (z .table) (part z p) (p .arrival) (p .payload) (p .room) out
+
 -- one call that happened is a call of the run
 happens : {z z′ : State} {e : Event} → Happens z e z′ → (after z (callOf e) ≡ z′) × (tells z (callOf e) ≡ replyOf (gotBy e))
 happens {z = z} (by-push {p = p} {answer = answer} {table′ = table′} {part′ = part′} {out = out} {out′ = out′} long goes) =
-    let r = push-call z p out long answer table′ part′ out′ goes in (sym (r .0), sym (r .1))
-happens {z = z} (by-sweep {time = time} {counts = counts} {table′ = table′} e) = let r = sweep-call z time table′ counts e in (sym (r .0), sym (r .1))
+    let w = wayOf z p in
+    let met : Goes w (z .table) (part z p) out (p .arrival) (p .payload) answer table′ part′ out′ = rw long at goes in
+    let bytes : shown (pushedOf answer) (p .payload) out′ ≡ finishedBy w (p .payload) = rw (met .answers, met .puts) (finished-shown z p out) in
+    ((λ i. record { table = sym (met .keeps) i; store = sym (met .stores) i ++ drop (p .lent) (z .store) }), (λ i. pushed (sym (met .answers) i) (sym bytes i)))
+happens {z = z} (by-sweep e) = (ap (λ (r : Swept). record { table = r .table; store = z .store }) (sym e), ap (λ (r : Swept). dropped (r .counts)) (sym e))
 
 -- what a run gathers from the calls that pass a test is what the events that pass it have
 module _ (test : State → Call → Bool) (passes : Event → Bool) (agree : (z z′ : State) (e : Event) → Happens z e z′ → test z (callOf e) ≡ passes e) where

@@ -15,7 +15,6 @@ pub mod Joined
 pub mod Free
 pub mod Completion
 pub mod Completes
-pub mod Tidy
-pub mod Calls
 pub mod Happened
 pub mod Examples
+pub mod Claims

@@ -1,16 +1,19 @@
--- What is claimed of runs of the table. proofs/Orders.antt proves each for all calls, and proofs/Completes.antt the last.
+-- What is claimed of runs of the table, and of calls that happened: the record Claims at the end, which proofs/Claims.antt proves.
 use mathlib.Core.Path.{_≡_}
-use mathlib.Core.List.{List, [], map}
+use mathlib.Core.List.{List, [], _∷_, _++_, map}
 use mathlib.Core.Bool.{true, false, not}
-use Prim.Native.Nat.{ℕ}
+use Prim.Native.Nat.{ℕ, _≤_}
+use lib.ListN.{length}
 use Rattle.sweeping.specs.Sweep.{swept}
+use Rattle.pushing.specs.Push.{answerBy, outputBy}
+use Rattle.pushing.specs.Show.{shown}
 use Rattle.pushing.specs.Made.{Made}
 use Rattle.reassembler.specs.Keys.{Origin, keyFor}
 use Rattle.machines.specs.Machine.{those, every}
-use Rattle.orders.specs.Shares.{share, total}
-use Rattle.orders.specs.Messages.{Message, calls, completing}
-use Rattle.orders.specs.Runs.{State, Push, Call, push, sweep, isAccepted, hasRoom, after, tells, mine, start, holding, holdsNothing, ends, crossed, repliesTo, repliesToAccepted, repliesToSweeps}
-use Rattle.orders.specs.Happened.{Event, callOf, gotBy, isRefused, isFull, isFrom, sweeps, isAbout}
+use Rattle.orders.specs.Shares.{share, total, isIn, distinct}
+use Rattle.orders.specs.Messages.{Message, Room, Sent, calls, completing}
+use Rattle.orders.specs.Runs.{State, Push, Call, push, sweep, finishedBy, wayOf, isAccepted, isOwn, neverFull, hasRoom, after, tells, mine, start, holding, holdsNothing, ends, crossed, repliesTo, repliesToAccepted, repliesToSweeps}
+use Rattle.orders.specs.Happened.{Event, Happened, callOf, gotBy, isRefused, isFull, isFrom, sweeps, isAbout}
 
 -- What a key holds is untouched by every push under another key, refused or not; a refused call changes nothing.
 pub record Local (z : State) : Type 0 where
@@ -82,3 +85,32 @@ pub record GotAlone (o : Origin) (events events′ : List Event) (z z′ : State
   pub answers : map gotBy (those (isFrom o) (those (λ e. not (isRefused e)) events)) ≡ map gotBy (those (isFrom o) events′)
   pub holds : holding (keyFor o) z ≡ holding (keyFor o) z′
   pub none-refused : those isRefused events′ ≡ []
+
+pub record Claims : Type 0 where
+  -- what one call does, at every table that the calls made
+  pub local : (z : State) → Made (z .table) → Local z
+  pub alike : (z z′ : State) → Made (z .table) → Made (z′ .table) → length (z .store) ≡ length (z′ .store) → (key : ℕ) → holding key z ≡ holding key z′ → Alike z z′ key
+  pub shares-add-up : (z : State) → Made (z .table) → (time : ℕ) (keys : List ℕ) → distinct keys ≡ true → ((key : ℕ) → isIn key keys ≡ false → holding key z ≡ holdsNothing) → SharesAddUp z time keys
+  -- the finished bytes are what show shows, whatever the output held
+  pub finished-shown : (z : State) (p : Push) (out : List ℕ) → shown (answerBy (wayOf z p)) (p .payload) (outputBy (wayOf z p) out) ≡ finishedBy (wayOf z p) (p .payload)
+  -- the tables of a run are those that push asks for
+  pub run-made : (store : List ℕ) (calls : List Call) → Made (ends (start store) calls .table)
+  -- request 2026-09
+  pub told-alone : (store store′ : List ℕ) → length store′ ≡ length store → (key : ℕ) (calls : List Call) → ToldAlone key store store′ calls
+  pub sweeps-add-up : (store : List ℕ) (calls : List Call) (time : ℕ) (keys : List ℕ) → distinct keys ≡ true → ((key : ℕ) → isIn key keys ≡ false → those (isOwn key) calls ≡ []) → AddsUp store calls time keys
+  -- demand 3; two neighbouring pushes under different keys that change places are such an order
+  pub order-across-keys : (store store′ : List ℕ) → length store′ ≡ length store → (calls calls′ : List Call) → Reordered calls calls′
+      → neverFull (start store) calls ≡ true → neverFull (start store′) calls′ ≡ true → SameStory store store′ calls calls′
+  pub swapped : (before behind : List Call) (p q : Push) → (p .arrival .key ≡ q .arrival .key → ⊥) → Reordered (before ++ push p ∷ push q ∷ behind) (before ++ push q ∷ push p ∷ behind)
+  -- the same for calls that happened
+  pub is-run : (store : List ℕ) (events : List Event) (z : State) → Happened (start store) events z → IsRun store events z
+  pub order-across-senders : (store : List ℕ) (events : List Event) (z : State) → Happened (start store) events z → (store′ : List ℕ) (events′ : List Event) (z′ : State) → Happened (start store′) events′ z′
+      → length store′ ≡ length store → AskedReordered events events′ → NoneFull events → NoneFull events′ → SameGot events events′ z z′
+  pub sender-alone : (store : List ℕ) (events : List Event) (z : State) → Happened (start store) events z → (store′ : List ℕ) (events′ : List Event) (z′ : State) → Happened (start store′) events′ z′
+      → length store′ ≡ length store → (o : Origin) → AskedAlone o events events′ → GotAlone o events events′ z z′
+  -- a message completes: at any table that the calls made, at a fresh one, and among pushes under other keys, where these are all that is left of the key's calls and the run's sweeps
+  pub completes : (m : Message) (bring : ℕ → Push) (order : List ℕ) (z : State) → Made (z .table) → 47744 ≤ length (z .store) → holding (m .key) z ≡ holdsNothing → Room m (z .table)
+      → Sent m bring order → Completes m bring order z
+  pub fresh-completes : (m : Message) (bring : ℕ → Push) (order : List ℕ) (store : List ℕ) → 47744 ≤ length store → Sent m bring order → Completes m bring order (start store)
+  pub completes-among : (m : Message) (bring : ℕ → Push) (order : List ℕ) (store : List ℕ) (others : List Call) → 47744 ≤ length store → Sent m bring order
+      → mine (m .key) (crossed (start store) others) ≡ calls m bring order → repliesToAccepted (m .key) (start store) others ≡ completing m order

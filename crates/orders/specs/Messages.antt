@@ -38,10 +38,12 @@ pub record Brings (m : Message) (k : ℕ) (p : Push) : Type 0 where
   pub fragment : heldOf (p .arrival .fragment) (p .payload) ≡ heldAt m k
   pub lent : 47744 ≤ p .lent
 
--- "in any order that ends with the last one": each number below the final one, once
-pub record Ordering (m : Message) (order : List ℕ) : Type 0 where
+-- "in any order that ends with the last one, with room": pushes that bring each number below the final one once and then the final one, whose output has room for the whole
+pub record Sent (m : Message) (bring : ℕ → Push) (order : List ℕ) : Type 0 where
+  pub brings : (k : ℕ) → k ≤ m .final → Brings m k (bring k)
   pub once : distinct order ≡ true
   pub all : (k : ℕ) → isIn k order ≡ ltb k (m .final)
+  pub room : 1 ≤ m .final → length (whole m) ≤ bring (m .final) .room
 
 abbrev pub calls : Message → (ℕ → Push) → List ℕ → List Call
 calls m bring order = map (λ k. push (bring k)) order ++ (push (bring (m .final)) ∷ [])

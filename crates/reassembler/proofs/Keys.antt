@@ -4,7 +4,8 @@ use mathlib.Core.List.{List, [], _∷_}
 use Prim.Native.Nat.{ℕ, suc, _+_, _*_, _<_}
 use native.Mathlib.Omega.{arith}
 use lib.ListN.{length, getD}
-use Rattle.reassembler.specs.Keys.{bigEndian, Origin, keyFor}
+use Rattle.reassembler.specs.Keys.{bigEndian}
+use Rattle.reassembler.specs.Claims.{KeyIsOne's}
 
 -- digit by digit
 one-number : (n m : ℕ) (bs cs : List ℕ) → length bs ≡ length cs → ((i : ℕ) → getD bs i 0 < 256) → ((i : ℕ) → getD cs i 0 < 256) → bigEndian n bs ≡ bigEndian m cs → (n ≡ m) × (bs ≡ cs)
@@ -16,7 +17,7 @@ one-number n m (b ∷ bs) (c ∷ cs) l h k e =
     let same : b ≡ c = omega (arith, rest .0, h 0, k 0) in
     (omega (arith, rest .0, h 0, k 0), rw (same, rest .1))
 
-pub key-is-one's : (a b : Origin) → keyFor a ≡ keyFor b → (a .sender ≡ b .sender) × (a .message-id ≡ b .message-id)
+pub key-is-one's : KeyIsOne's
 key-is-one's a b e =
     let high : bigEndian 0 (a .sender) ≡ bigEndian 0 (b .sender) = omega arith in
     (one-number 0 0 (a .sender) (b .sender) (a .six ∙ sym (b .six)) (a .bytes) (b .bytes) high .1, omega arith)

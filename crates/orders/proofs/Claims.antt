@@ -1,0 +1,24 @@
+-- The claims of specs/Claims.antt, proved.
+use Rattle.orders.specs.Claims.{Claims}
+use Rattle.orders.proofs.Orders.{local, alike, shares-add-up, run-made, told-alone, sweeps-add-up, order-across-keys, swapped}
+use Rattle.orders.proofs.Happened.{finished-shown, is-run, order-across-senders, sender-alone}
+use Rattle.orders.proofs.Completes.{completes, fresh-completes, completes-among}
+
+pub claims : Claims
+claims = record {
+  local = local;
+  alike = alike;
+  shares-add-up = shares-add-up;
+  finished-shown = finished-shown;
+  run-made = run-made;
+  told-alone = told-alone;
+  sweeps-add-up = sweeps-add-up;
+  order-across-keys = order-across-keys;
+  swapped = swapped;
+  is-run = is-run;
+  order-across-senders = order-across-senders;
+  sender-alone = sender-alone;
+  completes = completes;
+  fresh-completes = fresh-completes;
+  completes-among = completes-among;
+}
