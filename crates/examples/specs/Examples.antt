@@ -21,7 +21,7 @@ use Rattle.layouts.specs.Access.{partOf}
 use Rattle.kinds.specs.Kinds.{isKind, one, list, Typed, readKind, locateKind}
 use Rattle.pushing.specs.Push.{waiting, joined as joinedAs, missing}
 use Rattle.orders.specs.Runs.{Push, push, sweep, pushed, dropped, after, tells, start, holding, holdsNothing, repliesTo}
-use Rattle.orders.specs.Shares.{noneDropped}
+use Rattle.sweeping.specs.Sweep.{noneDropped}
 
 -- an address of six equal octets, and the bytes of an association of two such with a last byte
 abbrev pub address : ℕ → MacAddr

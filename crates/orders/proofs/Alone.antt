@@ -7,18 +7,17 @@ use native.Mathlib.Omega.{arith}
 use lib.Dec.{eqb}
 use borrow.Author.Tests.{eqb-true, eqb-false, eq-eqb, ne-eqb, not-false}
 use Rattle.table.specs.declared.Table.{Table}
-use Rattle.sweeping.specs.Sweep.{Tally}
+use Rattle.sweeping.specs.Sweep.{Tally, tally}
 use Rattle.table.specs.Rows.{ownerOf, freshTable, placeAt, rowOf, isSpare, lowestFree, isFree}
-use Rattle.pushing.specs.Joining.{never, since}
+use Rattle.pushing.specs.Joining.{never, since, due}
 use Rattle.pushing.specs.Push.{Way, refuse, replace, keepAt, openAt, end}
-use Rattle.sweeping.specs.Sweep.{tally}
 use Rattle.table.proofs.Search.{lowest-holds, lowest-before}
 use Rattle.pushing.proofs.Ways.{Went, went, went-refuse, went-replace, went-keep, went-open, went-end}
 use Rattle.sweeping.proofs.Sweeping.{tally-none}
 use Rattle.table.proofs.Sound.{Sound}
 use Rattle.pushing.proofs.Sound.{sound}
 use Rattle.orders.specs.Runs.{State, Push, Call, push, sweep, finishedBy, part, wayOf, after, tells, isAccepted, isOwn, isSweep, concerns, start, Holding, holding, holdsNothing}
-use Rattle.orders.specs.Shares.{due, tallyOf}
+use Rattle.orders.specs.Shares.{tallyOf}
 use Rattle.table.proofs.Places.{all-same}
 use Rattle.orders.proofs.Rows.{isUsed, codeAt, firstAt}
 use Rattle.orders.proofs.Lookups.{row-none, row-is}

@@ -9,7 +9,7 @@ use lib.ListN.{length}
 use lib.Seq.{take-length}
 use borrow.Author.Tests.{eqb-true, eqb-false, eq-eqb, ne-eqb, ltb-true, ltb-false, lt-ltb, le-ltb, le-leb}
 use Rattle.numbers.specs.Numbers.{gives}
-use Rattle.pushing.specs.Joining.{Held, nothing, kept, heldOf, isKept, payloads}
+use Rattle.pushing.specs.Joining.{Held, nothing, kept, heldOf, isKept, inOrder}
 use Rattle.pushing.specs.Push.{Way, keepAt, end, messageWay, single, joined, answerBy}
 use Rattle.pushing.specs.Show.{startOf}
 use Rattle.pushing.proofs.Ways.{last-single, last-joined, start-over}
@@ -81,8 +81,8 @@ module _ (m : Message) (long : ℕ) (store : 47744 ≤ long) where
 
     -- alone it is the payload itself
     only : m .final ≡ 0 → p .payload ≡ whole m
-    unfolding payloads
-    only e = ap (λ (h : Held). h .payload) (b .fragment) ∙ ap (m .piece) e ∙ ap (λ (n : ℕ). payloads (λ k. kept (heldAt m k)) n) (ap suc (sym e))
+    unfolding inOrder
+    only e = ap (λ (h : Held). h .payload) (b .fragment) ∙ ap (m .piece) e ∙ ap (inOrder (m .piece)) (ap suc (sym e))
 
     pub completes-as : (1 ≤ m .final → length (whole m) ≤ p .room) → (answer long v (push p) ≡ pushed (gives (completed m)) (whole m)) × (tell long v (push p) ≡ holdsNothing)
     completes-as room = by-count (eqb (m .final) 0) refl

@@ -9,14 +9,13 @@ use borrow.Author.Tests.{ltb-true, ltb-false, lt-ltb, le-ltb, eqb-true, eqb-fals
 use Rattle.table.specs.declared.Table.{Table}
 use Rattle.sweeping.specs.declared.Counts.{Counts}
 use Rattle.sweeping.specs.declared.Swept.{Swept}
-use Rattle.sweeping.specs.Sweep.{Tally}
+use Rattle.sweeping.specs.Sweep.{Tally, noneDropped, expired, tallied, tally, lackOf, plusOne, sweptRow, sweptRows, swept}
 use Rattle.table.specs.Rows.{Place, ownerOf, placeAt, rowOf, without}
 use Rattle.pushing.specs.Joining.{heldIn, never, since}
-use Rattle.sweeping.specs.Sweep.{expired, tallied, tally, lackOf, plusOne, sweptRow, sweptRows, swept}
 use Rattle.table.proofs.Sound.{Sound, row-holds}
 use Rattle.sweeping.proofs.Sound.{sweep-sound}
 use Rattle.orders.specs.Runs.{State, Holding, holding, holdsNothing}
-use Rattle.orders.specs.Shares.{tallyOf, noneDropped, share, plus, total, isIn, distinct}
+use Rattle.orders.specs.Shares.{tallyOf, share, plus, total, isIn, distinct}
 use Rattle.table.proofs.Places.{after-drop}
 use Rattle.orders.proofs.Rows.{isUsed, codeAt, firstAt, dropped-used, dropped-first}
 use Rattle.orders.proofs.Lookups.{row-is}

@@ -10,14 +10,14 @@ use borrow.Author.Tests.{eqb-true, eqb-false, eq-eqb, ne-eqb, le-leb, lt-leb, lt
 use Rattle.numbers.specs.Numbers.{gives}
 use Rattle.table.specs.Search.{lowest}
 use Rattle.table.specs.Rows.{freshTable}
-use Rattle.pushing.specs.Joining.{Held, nothing, kept, Fragments, heldOf, isKept, unlike, inconsistentWith, andNew, payloads}
+use Rattle.pushing.specs.Joining.{Held, nothing, kept, Fragments, heldOf, isKept, unlike, inconsistentWith, andNew, inOrder, due}
 use Rattle.pushing.specs.Push.{Way, end, joinWay, waiting, missing, joined, answerBy}
-use Rattle.sweeping.specs.Sweep.{noneMarkedLast, lackOf}
+use Rattle.sweeping.specs.Sweep.{noFragments, noneMarkedLast, lackOf, andOne, noneDropped}
 use Rattle.sweeping.proofs.Sweeping.{lack-mark}
 use Rattle.table.proofs.Sound.{fresh-sound}
 use Rattle.pushing.proofs.Sound.{sound}
 use Rattle.orders.specs.Runs.{State, Push, push, sweep, pushed, dropped, finishedBy, after, tells, hasRoom, start, Holding, holding, holdsNothing, repliesTo}
-use Rattle.orders.specs.Shares.{due, andOne, tallyOf, noneDropped, share, total, isIn, distinct}
+use Rattle.orders.specs.Shares.{tallyOf, share, total, isIn, distinct}
 use Rattle.orders.specs.Messages.{Message, Brings, Sent}
 use Rattle.orders.proofs.Telling.{ownWay, own-keep, own-last, byOwn, withNew, tell, answer}
 use Rattle.orders.proofs.Pushing.{Good, Full, no-place, no-row, room-unless}
@@ -113,13 +113,13 @@ module _ (store : List ℕ) (long : 47744 ≤ length store) (p : Push) (lent : 4
         ap dropped (counts-add-up waiting-state (sound (g′ .made)) time (key ∷ []) refl others-none
         ∙ none-plus (share time (holding key waiting-state)) ∙ ap (share time) holds-it)
 
-    one : tallyOf (withNew holdsNothing p .fragments) 256 ≡ andOne (p .arrival .fragment .number) (p .arrival .fragment .last) (record { many = 0; beyond = 0; marked = false })
+    one : tallyOf (withNew holdsNothing p .fragments) 256 ≡ andOne (p .arrival .fragment .number) (p .arrival .fragment .last) noFragments
     one =
         tally-new (λ n. nothing) (p .arrival .fragment .number) (heldOf (p .arrival .fragment) (p .payload)) refl 256 (p .byte)
         ∙ ap (andOne (p .arrival .fragment .number) (p .arrival .fragment .last)) (tally-nothing (λ n. nothing) 256 (λ k. refl))
 
     lacks : lackOf (tallyOf (withNew holdsNothing p .fragments) 256) ≡ noneMarkedLast
-    lacks = ap lackOf one ∙ lack-mark (andOne (p .arrival .fragment .number) (p .arrival .fragment .last) (record { many = 0; beyond = 0; marked = false })) (λ e. omega arith) more
+    lacks = ap lackOf one ∙ lack-mark (andOne (p .arrival .fragment .number) (p .arrival .fragment .last) noFragments) (λ e. omega arith) more
 
     share-is : (time : ℕ) (b : Bool) → leb 3000 (time - p .arrival .time) ≡ b → share time (withNew holdsNothing p) ≡ cond b (record { empty = 0; unmarked = 1; incomplete = 0; neither = 0 }) noneDropped
     unfolding share
@@ -189,7 +189,7 @@ module _ (store : List ℕ) (long : 47744 ≤ length store) (p q : Push) (lent :
           record { key = refl; number = first ∙ sym is; fragment = λ i. record { version = q .arrival .fragment .version; message-type = q .arrival .fragment .«message_type»; last = (last ∙ sym (eq-eqb k 1 is)) i; payload = bytes i }; lent = lent′ }
 
   sent : Sent two bring (0 ∷ [])
-  unfolding two bring payloads isIn distinct
+  unfolding two bring inOrder isIn distinct
   sent = record { brings = brings; once = refl; all = λ k. by-number k (eqb 0 k) refl; room = λ l. room }
     where
       by-number : (k : ℕ) (b : Bool) → eqb 0 k ≡ b → (b || false) ≡ ltb k 1
@@ -197,5 +197,5 @@ module _ (store : List ℕ) (long : 47744 ≤ length store) (p q : Push) (lent :
       by-number k false e = sym (le-ltb k 1 (omega (arith, eqb-false 0 k e)))
 
   pub zero-then-last-one : repliesTo (q .arrival .key) (start store) (push p ∷ push q ∷ []) ≡ pushed (gives waiting) [] ∷ pushed (gives (joined (length (p .payload ++ q .payload)))) (p .payload ++ q .payload) ∷ []
-  unfolding two bring payloads
+  unfolding two bring inOrder
   zero-then-last-one = fresh-completes two bring (0 ∷ []) store long sent .answers

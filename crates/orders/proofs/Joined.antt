@@ -2,15 +2,15 @@
 use mathlib.Core.Path.{_≡_, refl, sym, ap, _∙_, subst}
 use mathlib.Core.List.{[]}
 use mathlib.Core.Bool.{Bool, true, false, not, _&&_, false≢true}
-use Prim.Native.Nat.{ℕ, zero, suc, _-_, _≤_, _<_}
+use Prim.Native.Nat.{ℕ, _-_, _≤_, _<_}
 use native.Mathlib.Omega.{arith}
 use lib.Dec.{ltb}
 use borrow.Author.Tests.{ltb-true, ltb-false, lt-ltb, le-ltb, eq-eqb}
 use Rattle.table.specs.Search.{lowest, some}
-use Rattle.pushing.specs.Joining.{Held, Kept, nothing, kept, Fragments, isKept, isLast, unlike, inconsistentWith, reach, gapped, inOrder, payloads}
+use Rattle.pushing.specs.Joining.{Held, Kept, nothing, kept, Fragments, isKept, isLast, unlike, inconsistentWith, reach, gapped, payloadOf, inOrder}
 use Rattle.pushing.specs.Push.{end, missing, messageWay, joinWay}
 use Rattle.table.proofs.Search.{lowest-before, lowest-is, lowest-none}
-use Rattle.pushing.proofs.Pieces.{some-at}
+use Rattle.pushing.proofs.Pieces.{some-at, in-order-same}
 
 pub none-passes : (test : ℕ → Bool) (n : ℕ) → ((k : ℕ) → k < n → test k ≡ false) → some test n ≡ false
 none-passes test n none = le-ltb (lowest test n) n (omega (arith, lowest-none test n none))
@@ -40,16 +40,11 @@ module _ (new : Held) (fs : Fragments) (h : ℕ → Held) (n : ℕ) (in-byte : n
   no-gap = none-passes (λ k. isKept (fs k) && ltb (reach fs) k) 256 (λ k l. by-number (λ (x : Kept). (isKept x && ltb (reach fs) k) ≡ false) k
       (λ q. le-ltb (reach fs) k (omega (arith, reaches))) (λ q. refl))
 
-  payloads-are : (m : ℕ) → m ≤ n → payloads fs m ≡ payloads (λ k. kept (h k)) m
-  unfolding inOrder
-  payloads-are zero l = refl
-  payloads-are (suc m) l = rw (payloads-are m (omega arith), there m (omega arith))
-
-  pub joins : 1 ≤ n → h (n - 1) .last ≡ true → (room : ℕ) → joinWay new fs room ≡ messageWay n (payloads (λ k. kept (h k)) n) room
+  pub joins : 1 ≤ n → h (n - 1) .last ≡ true → (room : ℕ) → joinWay new fs room ≡ messageWay n (inOrder (λ k. h k .payload) n) room
   unfolding joinWay
   joins l last room =
       let marked : isLast (fs (reach fs - 1)) ≡ true = ap (λ (k : ℕ). isLast (fs (k - 1))) reaches ∙ ap isLast (there (n - 1) (omega arith)) ∙ last in
-      rw (consistent, no-gap, marked, reaches, payloads-are n (omega arith))
+      rw (consistent, no-gap, marked, reaches, in-order-same (λ k. payloadOf (fs k)) (λ k. h k .payload) n (λ k l. ap payloadOf (there k l)))
 
 -- and where one is missing: a number that is there, beyond one that is not
 pub misses : (new : Held) (fs : Fragments) (k low : ℕ) → inconsistentWith new fs ≡ false → k < 256 → fs low ≡ nothing → low < k → isKept (fs k) ≡ true → (room : ℕ) → joinWay new fs room ≡ end missing []

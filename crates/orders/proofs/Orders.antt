@@ -12,8 +12,9 @@ use Rattle.pushing.specs.Made.{Made}
 use Rattle.table.proofs.Sound.{fresh-sound}
 use Rattle.pushing.proofs.Sound.{sound}
 use Rattle.machines.specs.Machine.{those, run, remaining}
+use Rattle.pushing.specs.Joining.{due}
 use Rattle.orders.specs.Runs.{State, Push, Call, push, sweep, dropped, after, tells, isAccepted, hasRoom, isOwn, isSweep, concerns, mine, start, Holding, holding, ends, neverFull, holdsNothing, crossed}
-use Rattle.orders.specs.Shares.{due, share, total, isIn, distinct}
+use Rattle.orders.specs.Shares.{share, total, isIn, distinct}
 use Rattle.orders.specs.Claims.{Local, Alike, ToldAlone, SharesAddUp, AddsUp, Reordered, SameStory}
 use Rattle.machines.proofs.Lists.{those-append, every-remains, every-gathered}
 use Rattle.orders.proofs.Telling.{tell, answer}

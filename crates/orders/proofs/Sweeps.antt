@@ -7,12 +7,11 @@ use lib.ListN.{getD}
 use borrow.Author.Tests.{lt-ltb, le-ltb}
 use Rattle.table.specs.declared.Table.{Table}
 use Rattle.table.specs.Rows.{rowOf}
-use Rattle.pushing.specs.Joining.{nothing, Since, never, since, due as isOld, heldBy, firstTime}
+use Rattle.pushing.specs.Joining.{nothing, Since, never, since, due as isOld, heldBy, firstTime, due}
 use Rattle.sweeping.specs.Sweep.{expired, swept}
 use Rattle.pushing.proofs.Aged.{sweep-told}
 use Rattle.table.proofs.Sound.{Sound, row-holds}
 use Rattle.orders.specs.Runs.{State, holding, holdsNothing}
-use Rattle.orders.specs.Shares.{due}
 
 -- a row's time has come exactly when its key's has
 pub due-is : (t : Table) (time c row : ℕ) → rowOf t c ≡ row → row < 16 → due time (firstTime t c) ≡ expired t time row

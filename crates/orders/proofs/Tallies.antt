@@ -7,13 +7,12 @@ use native.Mathlib.Omega.{arith}
 use lib.Dec.{eqb}
 use borrow.Author.Tests.{eqb-true, eqb-false, eq-eqb, ne-eqb}
 use Rattle.table.specs.declared.Table.{Table}
-use Rattle.sweeping.specs.Sweep.{Tally}
+use Rattle.sweeping.specs.Sweep.{Tally, noFragments, andOne, tally}
 use Rattle.table.specs.Rows.{ownerOf, placeAt, bytesAt}
 use Rattle.pushing.specs.Joining.{Held, Kept, nothing, kept, Fragments, heldIn, andNew}
-use Rattle.sweeping.specs.Sweep.{tally}
 use Rattle.pushing.proofs.Pieces.{kept-in}
 use Rattle.table.proofs.Sound.{Sound}
-use Rattle.orders.specs.Shares.{andOne, andKept, tallyOf}
+use Rattle.orders.specs.Shares.{andKept, tallyOf}
 use Rattle.orders.proofs.Lookups.{held-cases}
 use Rattle.orders.proofs.Holdings.{heldAs}
 
@@ -40,7 +39,7 @@ unfolding tallyOf
 tally-same fs gs zero same = refl
 tally-same fs gs (suc n) same = rw (same n (omega arith), tally-same fs gs n (λ k h. same k (omega arith)))
 
-pub tally-nothing : (fs : Fragments) (n : ℕ) → ((k : ℕ) → fs k ≡ nothing) → tallyOf fs n ≡ record { many = 0; beyond = 0; marked = false }
+pub tally-nothing : (fs : Fragments) (n : ℕ) → ((k : ℕ) → fs k ≡ nothing) → tallyOf fs n ≡ noFragments
 unfolding tallyOf
 tally-nothing fs zero none = refl
 tally-nothing fs (suc n) none = rw (none n, tally-nothing fs n none)

@@ -6,10 +6,10 @@ use Prim.Native.Nat.{ℕ, min, _≤_, _<_}
 use lib.Dec.{ltb}
 use lib.ListN.{length}
 use borrow.Author.Tests.{lt-ltb, le-ltb}
-use Rattle.pushing.specs.Joining.{Since, never, since, isKept, heldOf, andNew}
+use Rattle.pushing.specs.Joining.{Since, never, since, isKept, heldOf, andNew, due}
 use Rattle.pushing.specs.Push.{Way, refuse, replace, keepAt, openAt, end, joinWay, answerBy}
+use Rattle.sweeping.specs.Sweep.{noneDropped}
 use Rattle.orders.specs.Runs.{Push, Call, push, sweep, Reply, pushed, dropped, finishedBy, refusedBy, Holding, holdsNothing}
-use Rattle.orders.specs.Shares.{due, noneDropped}
 
 -- a way, but for the places and rows that it names
 abbrev pub shape : Way → Way

@@ -7,8 +7,8 @@ use native.Mathlib.Omega.{arith}
 use lib.Dec.{eqb}
 use borrow.Author.Tests.{eqb-true, eqb-false, eq-eqb, not-true}
 use Rattle.sweeping.specs.declared.Counts.{Counts}
-use Rattle.sweeping.specs.Sweep.{Lack, emptyFragments, noneMarkedLast, fewerKept, neitherOf, plusOne}
-use Rattle.orders.specs.Shares.{noneDropped, plus, total, isIn, distinct}
+use Rattle.sweeping.specs.Sweep.{Lack, emptyFragments, noneMarkedLast, fewerKept, neitherOf, plusOne, noneDropped}
+use Rattle.orders.specs.Shares.{plus, total, isIn, distinct}
 use Rattle.machines.proofs.Lists.{left-true, right-true}
 
 -- counts that agree in each of the four

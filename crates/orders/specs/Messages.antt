@@ -8,7 +8,7 @@ use lib.ListN.{length}
 use Rattle.numbers.specs.Numbers.{gives}
 use Rattle.table.specs.declared.Table.{Table}
 use Rattle.table.specs.Rows.{placeAt, isFree, spareRow}
-use Rattle.pushing.specs.Joining.{Held, kept, heldOf, payloads}
+use Rattle.pushing.specs.Joining.{Held, heldOf, inOrder}
 use Rattle.pushing.specs.Push.{Heard, waiting, single, joined}
 use Rattle.orders.specs.Runs.{Push, Call, push, Reply, pushed}
 use Rattle.orders.specs.Shares.{isIn, distinct}
@@ -29,7 +29,7 @@ heldAt m k = record { version = m .version; message-type = m .message-type; last
 
 -- "the payloads in number order"
 abbrev pub whole : Message → List ℕ
-whole m = payloads (λ k. kept (heldAt m k)) (suc (m .final))
+whole m = inOrder (m .piece) (suc (m .final))
 
 -- a push that brings fragment k, with a large enough store; its time and its output are any
 pub record Brings (m : Message) (k : ℕ) (p : Push) : Type 0 where

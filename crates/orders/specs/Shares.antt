@@ -1,33 +1,21 @@
 -- One key's share in the four counts of a sweep, from what the key holds, and the sum over some keys.
 use mathlib.Core.List.{List, [], _∷_}
 use mathlib.Core.Bool.{Bool, true, false, cond, not, _&&_, _||_}
-use Prim.Native.Nat.{ℕ, zero, suc, max, _+_}
-use lib.Dec.{eqb, leb}
+use Prim.Native.Nat.{ℕ, zero, suc, _+_}
+use lib.Dec.{eqb}
 use Rattle.sweeping.specs.declared.Counts.{Counts}
-use Rattle.sweeping.specs.Sweep.{Tally}
-use Rattle.pushing.specs.Joining.{Kept, nothing, kept, Fragments, Since, never, since}
-use Rattle.sweeping.specs.Sweep.{elapsed, lackOf, plusOne}
+use Rattle.sweeping.specs.Sweep.{Tally, noFragments, andOne, lackOf, noneDropped, plusOne}
+use Rattle.pushing.specs.Joining.{Kept, nothing, kept, Fragments, due}
 use Rattle.orders.specs.Runs.{Holding}
 
--- how many fragments, 1 more than the highest number, and if one is marked last: among the numbers below n
-abbrev pub andOne : ℕ → Bool → Tally → Tally
-andOne number last s = record { many = s .many + 1; beyond = max (s .beyond) (number + 1); marked = s .marked || last }
-
+-- what a sweep looks at in a key's fragments: those of numbers below n
 abbrev pub andKept : ℕ → Kept → Tally → Tally
 andKept number nothing s = s
 andKept number (kept h) s = andOne number (h .last) s
 
 unfoldable pub tallyOf : Fragments → ℕ → Tally
-tallyOf fs zero = record { many = 0; beyond = 0; marked = false }
+tallyOf fs zero = noFragments
 tallyOf fs (suc n) = andKept n (fs n) (tallyOf fs n)
-
--- "drops a key exactly when elapsed is at least 3,000"
-abbrev pub due : ℕ → Since → Bool
-due time never = false
-due time (since first) = leb 3000 (elapsed time first)
-
-abbrev pub noneDropped : Counts
-noneDropped = record { empty = 0; unmarked = 0; incomplete = 0; neither = 0 }
 
 -- a number is one byte: below 256
 unfoldable pub share : ℕ → Holding → Counts
