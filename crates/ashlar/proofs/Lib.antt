@@ -1,3 +1,3 @@
-pub mod Firm
 pub mod Measured
 pub mod Shown
+pub mod Claims

@@ -8,18 +8,14 @@ use lib.ListN.{length, take}
 use Rattle.numbers.specs.Numbers.{Answer, gives, refuses}
 use Rattle.pushing.specs.Push.{Heard, waiting, duplicated, inconsistent, missing, missingLast, single, joined}
 use Rattle.pushing.specs.Show.{startOf, shown}
-use Rattle.ashlar.specs.declared.AshlarShown.{AshlarShown}
-use Rattle.ashlar.specs.Numbers.{pushNumbers, withinOf, shownIn}
-
--- the part that an answer of `ashlar_show` names
-abbrev pub partOf : AshlarShown → List ℕ → List ℕ → List ℕ
-partOf s payload out = take (s .length) (cond (s .«in_output») out payload)
+use Rattle.ashlar.specs.Numbers.{shownIn}
+use Rattle.ashlar.specs.Claims.{ShowsTheMessage}
 
 start : (b : Bool) (n : ℕ) (s : List ℕ) → take (cond b n 0) s ≡ cond b (take n s) []
 start true n s = refl
 start false n s = refl
 
-pub shows : (h : Answer Heard) (payload out : List ℕ) → partOf (shownIn (pushNumbers h) (length payload) (length out)) payload out ≡ shown h payload out
+pub shows : ShowsTheMessage
 unfolding shownIn
 shows (gives waiting) payload out = refl
 shows (gives duplicated) payload out = refl

@@ -1,16 +1,17 @@
 -- Document 01's answers as the numbers that cross to C: `refusal` is the refusal's number, and 0 where nothing is refused.
 use mathlib.Core.Path.{_≡_}
-use mathlib.Core.Bool.{Bool, true, false, cond}
+use mathlib.Core.Bool.{true, false, cond}
 use mathlib.Core.List.{List}
 use Prim.Native.Nat.{ℕ}
 use lib.Dec.{eqb, leb}
-use lib.ListN.{length, getD}
+use lib.ListN.{getD}
 use Rattle.numbers.specs.Numbers.{Answer, gives, refuses}
-use Rattle.kinds.specs.Kinds.{Held, one, list, Typed}
+use Rattle.kinds.specs.Kinds.{Contents, one, list, Typed}
 use Rattle.finding.specs.Finding.{Hit}
 use Rattle.table.specs.declared.Table.{Table}
 use Rattle.pushing.specs.declared.Arrival.{Arrival}
-use Rattle.pushing.specs.Push.{Heard, waiting, duplicated, inconsistent, missing, missingLast, single, joined, Way, answerBy, tableBy, storeBy, outputBy}
+use Rattle.pushing.specs.declared.Pushed.{Pushed}
+use Rattle.pushing.specs.Push.{Heard, waiting, duplicated, inconsistent, missing, missingLast, single, joined, pushedOf, Way, Goes}
 use Rattle.ashlar.specs.declared.AshlarWalk.{AshlarWalk}
 use Rattle.ashlar.specs.declared.AshlarKind.{AshlarKind}
 use Rattle.ashlar.specs.declared.AshlarFound.{AshlarFound}
@@ -22,17 +23,13 @@ abbrev pub walkNumbers : Answer ℕ → AshlarWalk
 walkNumbers (gives n) = record { count = n; at = 0; refusal = 0 }
 walkNumbers (refuses n vs) = record { count = 0; at = getD vs 0 0; refusal = n }
 
-abbrev pub isList : Held → Bool
-isList (one r) = false
-isList (list n) = true
+-- a record is the first bytes of its value, as many as were consumed; of a list, how many entries its own level has
+abbrev pub contentsNumbers : {R : Type 0} → Contents R → ℕ → ℕ → AshlarKind
+contentsNumbers (one r) consumed rest = record { entries = 0; consumed = consumed; rest = rest; «is_list» = false; refusal = 0 }
+contentsNumbers (list n) consumed rest = record { entries = n; consumed = consumed; rest = rest; «is_list» = true; refusal = 0 }
 
-abbrev pub entriesOf : Held → ℕ
-entriesOf (one r) = 0
-entriesOf (list n) = n
-
--- a record is the first bytes of its value, as many as were consumed
-abbrev pub kindNumbers : Answer Typed → AshlarKind
-kindNumbers (gives t) = record { entries = entriesOf (t .held); consumed = t .consumed; rest = t .rest; «is_list» = isList (t .held); refusal = 0 }
+abbrev pub kindNumbers : {R : Type 0} → Answer (Typed R) → AshlarKind
+kindNumbers (gives t) = contentsNumbers (t .held) (t .consumed) (t .rest)
 kindNumbers (refuses n vs) = record { entries = 0; consumed = 0; rest = 0; «is_list» = false; refusal = n }
 
 -- a find says where; what the value there reads as is read_kind's to say
@@ -57,12 +54,11 @@ abbrev pub pushNumbers : Answer Heard → AshlarPushed
 pushNumbers (gives h) = heardNumbers h
 pushNumbers (refuses n vs) = record { length = getD vs 0 0; answer = 0; refusal = n }
 
--- a push's answer in numbers, with its table, store and output, are those of the way w
+-- a push goes the way w, and answer′ is what it answers, in numbers
 pub record Numbered (w : Way) (t : Table) (store out : List ℕ) (a : Arrival) (payload : List ℕ) (answer′ : AshlarPushed) (table′ : Table) (store′ out′ : List ℕ) : Type 0 where
-  pub answers : answer′ ≡ pushNumbers (answerBy w)
-  pub keeps : table′ ≡ tableBy w t a (length payload)
-  pub stores : store′ ≡ storeBy w store payload
-  pub puts : out′ ≡ outputBy w out
+  pub pushed : Pushed
+  pub tells : answer′ ≡ pushNumbers (pushedOf pushed)
+  pub goes : Goes w t store out a payload pushed table′ store′ out′
 
 -- the message of an answer in numbers lies in the output, or in the payload: "A stated length beyond that slice shows its empty start"
 abbrev pub withinOf : ℕ → ℕ → ℕ

@@ -200,25 +200,6 @@ fn push_numbers(pushed: Pushed) -> AshlarPushed
     }
 }
 
-// The table after a push, and its answer in numbers.
-struct Coded {
-    table: Table,
-    answer: AshlarPushed,
-}
-
-fn push_coded(t: Table, store: &mut [u8], out: &mut [u8], a: Arrival, payload: &[u8]) -> Coded
-    requires { ⌜ Made t ⌝ }
-    ensures { λ r. ⌜ Numbered (way t (now (store .entry)) a (now (payload .entry)) (length (now (out .entry)))) t (now (store .entry)) (now (out .entry)) a (now (payload .entry)) (r .answer) (r .table) (now (store .exit)) (now (out .exit)) ⌝ }
-{
-    let s = pushing::push_step(t, store, out, a, payload);
-    let table = s.table;
-    let pushed = s.answer;
-    Coded {
-        table,
-        answer: push_numbers(pushed),
-    }
-}
-
 // A fragment comes in, to a table that these calls made.
 #[no_mangle]
 pub extern "C" fn ashlar_push(
@@ -231,9 +212,8 @@ pub extern "C" fn ashlar_push(
     requires { ⌜ Made (now t) ⌝ }
     ensures { λ r. ⌜ Numbered (way (now (t .entry)) (now (store .entry)) a (now (payload .entry)) (length (now (out .entry)))) (now (t .entry)) (now (store .entry)) (now (out .entry)) a (now (payload .entry)) r (now (t .exit)) (now (store .exit)) (now (out .exit)) ⌝ }
 {
-    let s = push_coded(*t, store, out, a, payload);
-    *t = s.table;
-    s.answer
+    let pushed = reassembler::push(t, store, out, a, payload);
+    push_numbers(pushed)
 }
 
 // So many bytes of a slice that has at least these, none of a shorter one.
@@ -271,7 +251,5 @@ pub extern "C" fn ashlar_show(pushed: AshlarPushed, payload: &[u8], out: &[u8]) 
 pub extern "C" fn ashlar_sweep(t: &mut Table, time: u64) -> Counts
     ensures { λ r. ⌜ sweptAs (now (t .exit)) r ≡ swept (now (t .entry)) time ⌝ }
 {
-    let s = sweeping::sweep_step(*t, time);
-    *t = s.table;
-    s.counts
+    reassembler::sweep(t, time)
 }

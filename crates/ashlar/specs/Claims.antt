@@ -1,0 +1,43 @@
+-- What is claimed of the exported calls; proofs/Claims.antt proves it.
+use mathlib.Core.Path.{_≡_}
+use mathlib.Core.Bool.{cond}
+use mathlib.Core.List.{List}
+use Prim.Native.Nat.{ℕ}
+use lib.ListN.{length, take}
+use Rattle.numbers.specs.Numbers.{Answer}
+use Rattle.numbers.specs.Firmness.{Firm}
+use Rattle.walking.specs.declared.Tlv.{Tlv}
+use Rattle.walking.specs.Walk.{walkOf, counted, listed, filled}
+use Rattle.kinds.specs.Kinds.{readKind}
+use Rattle.finding.specs.Finding.{findFrom}
+use Rattle.table.specs.declared.Table.{Table}
+use Rattle.table.specs.Rows.{freshTable}
+use Rattle.sweeping.specs.declared.Counts.{Counts}
+use Rattle.sweeping.specs.Sweep.{swept, sweptAs}
+use Rattle.pushing.specs.declared.Arrival.{Arrival}
+use Rattle.pushing.specs.Push.{Heard, way}
+use Rattle.pushing.specs.Show.{shown}
+use Rattle.ashlar.specs.declared.AshlarWalk.{AshlarWalk}
+use Rattle.ashlar.specs.declared.AshlarPushed.{AshlarPushed}
+use Rattle.ashlar.specs.declared.AshlarShown.{AshlarShown}
+use Rattle.ashlar.specs.Numbers.{walkNumbers, kindNumbers, foundNumbers, pushNumbers, Numbered, shownIn}
+
+-- each call by its name: any two answers that its contract allows, with what the call leaves in the list, the table, the store and the output, are one
+pub record Firmness : Type 0 where
+  pub ashlar-walk : (payload : List ℕ) → Firm (λ r. r ≡ walkNumbers (counted (walkOf payload)))
+  pub ashlar-walk-into : (list : List Tlv) (payload : List ℕ)
+      → Firm {A = AshlarWalk × List Tlv} (λ o. (o .0 ≡ walkNumbers (listed (length list) (walkOf payload))) × (o .1 ≡ filled (listed (length list) (walkOf payload)) (walkOf payload .tlvs) list))
+  pub ashlar-read-kind : (code : ℕ) (value : List ℕ) → Firm (λ r. r ≡ kindNumbers (readKind code value))
+  pub ashlar-find : (list : List Tlv) (payload : List ℕ) (code from : ℕ) → Firm (λ r. r ≡ foundNumbers (findFrom code list payload from))
+  pub ashlar-fresh : Firm (λ r. r ≡ freshTable)
+  pub ashlar-push : (t : Table) (store out : List ℕ) (a : Arrival) (payload : List ℕ)
+      → Firm {A = (AshlarPushed × Table) × (List ℕ × List ℕ)} (λ o. Numbered (way t store a payload (length out)) t store out a payload (o .0 .0) (o .0 .1) (o .1 .0) (o .1 .1))
+  pub ashlar-show : (pushed : AshlarPushed) (payload out : List ℕ) → Firm (λ r. r ≡ shownIn pushed (length payload) (length out))
+  pub ashlar-sweep : (t : Table) (time : ℕ) → Firm {A = Counts × Table} (λ o. sweptAs (o .1) (o .0) ≡ swept t time)
+
+-- The part that an answer of `ashlar_show` names is the one that the table's own showing call returns.
+abbrev pub partOf : AshlarShown → List ℕ → List ℕ → List ℕ
+partOf s payload out = take (s .length) (cond (s .«in_output») out payload)
+
+abbrev pub ShowsTheMessage : Type 0
+ShowsTheMessage = (h : Answer Heard) (payload out : List ℕ) → partOf (shownIn (pushNumbers h) (length payload) (length out)) payload out ≡ shown h payload out
