@@ -1,5 +1,5 @@
 -- A record that can be read stands in its own bytes, with anything behind them. A law for each code of one byte, then the kinds.
-use mathlib.Core.Path.{_≡_, refl, sym, ap, _∙_}
+use mathlib.Core.Path.{_≡_, refl, sym, ap}
 use mathlib.Core.Bool.{Bool, true}
 use mathlib.Core.List.{List, [], _++_}
 use Prim.Native.Nat.{ℕ, _%_}
@@ -15,9 +15,9 @@ use Rattle.records.specs.declared.NeighborMac.{NeighborMac}
 use Rattle.records.specs.declared.AssociationState.{AssociationState}
 use Rattle.records.specs.declared.MultiApProfile.{MultiApProfile}
 use Rattle.records.specs.declared.Record.{Record}
-use Rattle.records.specs.Values.{bands, bandOf, bandByte, versions, versionOf, versionByte, results, resultOf, resultByte, profiles, profileOf, profileByte, stateOf, stateByte, queryIn, hasAddress, bytesOf}
+use Rattle.records.specs.Values.{bands, bandOf, bandByte, versions, versionOf, versionByte, results, resultOf, resultByte, profiles, profileOf, profileByte, stateOf, stateByte, bytesOf}
 use Rattle.records.specs.Kinds.{Kind, kindOf}
-use Rattle.records.specs.Reading.{Reading, empty, fixed, readAs}
+use Rattle.records.specs.Reading.{Reading, fixed, ofKind}
 use Rattle.records.proofs.Codes.{past}
 use Rattle.records.proofs.Ways.{bare, whole}
 use Rattle.record_writing.specs.Writing.{lowestBand, lowestVersion, lowestResult, lowestProfile, agrees, readable}
@@ -59,13 +59,13 @@ stands : (n : ℕ) (ok : Bool) (held r : Record) (t : List ℕ) → n ≡ length
 stands n ok held r t size taken is = rw (is, size) (sym (whole (length (bytesOf r)) ok r (bytesOf r ++ t) (omega (arith, length-append (bytesOf r) t)) taken))
 
 query-back : (n k : ℕ) (m : NeighborMac) (t : List ℕ) → agrees n m ≡ true →
-    let q = Record.LinkMetricQuery (record { «neighbor_type» = n; «neighbor_mac» = m; «requested_metrics» = k }) in readAs Kind.LinkMetricQuery (bytesOf q ++ t) ≡ gives (itself q)
+    let q = Record.LinkMetricQuery (record { «neighbor_type» = n; «neighbor_mac» = m; «requested_metrics» = k }) in ofKind Kind.LinkMetricQuery (bytesOf q ++ t) ≡ gives (itself q)
 query-back n k (NeighborMac.Address m) t h = stands _ _ _ (Record.LinkMetricQuery (record { «neighbor_type» = n; «neighbor_mac» = NeighborMac.Address m; «requested_metrics» = k })) t (simp h) refl (simp h)
 query-back n k NeighborMac.None t h =
     let f = not-true (eqb n 1) h in
     stands _ _ _ (Record.LinkMetricQuery (record { «neighbor_type» = n; «neighbor_mac» = NeighborMac.None; «requested_metrics» = k })) t (simp f) refl (simp f)
 
-pub back : (r : Record) (t : List ℕ) → readable r ≡ true → (r ≡ Record.EndOfMessage → t ≡ []) → readAs (kindOf r) (bytesOf r ++ t) ≡ gives (itself r)
+pub back : (r : Record) (t : List ℕ) → readable r ≡ true → (r ≡ Record.EndOfMessage → t ≡ []) → ofKind (kindOf r) (bytesOf r ++ t) ≡ gives (itself r)
 back Record.EndOfMessage t h e = rw (e refl) (sym (bare Record.EndOfMessage [] (omega arith)))
 back (Record.AlMacAddress m) t h e = stands _ _ _ (Record.AlMacAddress m) t refl refl refl
 back (Record.MacAddress m) t h e = stands _ _ _ (Record.MacAddress m) t refl refl refl

@@ -8,15 +8,13 @@ use lib.Dec.{leb, ltb, eqb}
 use lib.ListN.{length, getD, take, drop}
 use lib.Seq.{drop-cons}
 use borrow.Author.Tests.{le-leb, ltb-true, lt-ltb, eqb-true, eqb-false}
-use Rattle.numbers.specs.Numbers.{gives, refuses}
-use Rattle.numbers.proofs.Answers.{given}
-use Rattle.numbers.proofs.Firm.{never}
+use Rattle.numbers.specs.Numbers.{gives}
 use Rattle.records.specs.declared.AssociationState.{AssociationState}
 use Rattle.records.specs.declared.Record.{Record}
 use Rattle.records.specs.Values.{bandOf, bandByte, versionOf, versionByte, resultOf, resultByte, profileOf, profileByte, stateOf, stateByte, hasAddress, queryIn, bytesOf}
 use Rattle.records.specs.Kinds.{Kind, kindOf}
-use Rattle.records.specs.Reading.{Reading, empty, fixed, readAs}
-use Rattle.records.proofs.Given.{reads}
+use Rattle.records.specs.Reading.{Reading, fixed, ofKind}
+use Rattle.records.proofs.Given.{reads, reads-empty}
 use Rattle.record_writing.specs.Writing.{lowestBand, lowestVersion, lowestResult, lowestProfile, readable}
 use Rattle.record_writing.specs.Claims.{Bytes}
 use Rattle.record_writing.proofs.Flags.{flags-kept}
@@ -75,14 +73,6 @@ holds : (k : Kind) (n : ℕ) (ok : Bool) (r : Record) (s : List ℕ) (x : Readin
     (n ≤ length s → ok ≡ true → Kept k s (record { value = r; consumed = n })) → Kept k s x
 holds k n ok r s x e then = let h = reads n ok r s x e in rw (← h .is) (then (h .within) (h .taken))
 
-empty-kept : (s : List ℕ) (x : Reading) → empty Record.EndOfMessage s ≡ gives x → Kept Kind.EndOfMessage s x
-unfolding empty
-empty-kept s x e = go (ltb 0 (length s)) e
-  where
-    go : (more : Bool) → cond more (refuses 4 []) (gives (record { value = Record.EndOfMessage; consumed = 0 })) ≡ gives x → Kept Kind.EndOfMessage s x
-    go true e = never _ _ _ (sym e)
-    go false e = rw (← given _ _ e) (record { same = refl; bytes = refl; good = refl })
-
 query-kept : (s : List ℕ) → let n = cond {A = ℕ} (hasAddress (getD s 0 0)) 8 2 in n ≤ length s → Kept Kind.LinkMetricQuery s (record { value = Record.LinkMetricQuery (queryIn s); consumed = n })
 query-kept s h = go (eqb (getD s 0 0) 1) refl
   where
@@ -90,8 +80,8 @@ query-kept s h = go (eqb (getD s 0 0) 1) refl
     go true e = record { same = refl; bytes = simp e (front 8 s (simp e at h)); good = simp e }
     go false e = record { same = refl; bytes = simp e (front 2 s (simp e at h)); good = simp e }
 
-pub kept : (k : Kind) (s : List ℕ) → Bytes s → (x : Reading) → readAs k s ≡ gives x → Kept k s x
-kept Kind.EndOfMessage s b x e = empty-kept s x e
+pub kept : (k : Kind) (s : List ℕ) → Bytes s → (x : Reading) → ofKind k s ≡ gives x → Kept k s x
+kept Kind.EndOfMessage s b x e = rw (← reads-empty _ s x e) (record { same = refl; bytes = refl; good = refl })
 kept Kind.AlMacAddress s b x e = holds _ _ _ _ s x e (λ h a. record { same = refl; bytes = front 6 s h; good = refl })
 kept Kind.MacAddress s b x e = holds _ _ _ _ s x e (λ h a. record { same = refl; bytes = front 6 s h; good = refl })
 kept Kind.SearchedRole s b x e = holds _ _ _ _ s x e (λ h a. record { same = refl; bytes = front 1 s h; good = a })

@@ -10,7 +10,6 @@ use Rattle.records.specs.declared.SupportedFreqBand.{SupportedFreqBand}
 use Rattle.records.specs.declared.Ieee1905ProfileVersion.{Ieee1905ProfileVersion}
 use Rattle.records.specs.declared.LinkMetricResultCode.{LinkMetricResultCode}
 use Rattle.records.specs.declared.NeighborMac.{NeighborMac}
-use Rattle.records.specs.declared.LinkMetricQuery.{LinkMetricQuery}
 use Rattle.records.specs.declared.MultiApProfile.{MultiApProfile}
 use Rattle.records.specs.declared.Record.{Record}
 use Rattle.records.specs.Values.{bandByte, versionByte, resultByte, profileByte, hasAddress, bytesOf}
@@ -42,9 +41,6 @@ abbrev pub agrees : ℕ → NeighborMac → Bool
 agrees type (NeighborMac.Address m) = hasAddress type
 agrees type NeighborMac.None = not (hasAddress type)
 
-abbrev pub queryReadable : LinkMetricQuery → Bool
-queryReadable q = agrees (q .«neighbor_type») (q .«neighbor_mac»)
-
 -- not 9: "a record that reading never gives, as Reserved with a named code"
 abbrev pub readable : Record → Bool
 readable Record.EndOfMessage = true
@@ -55,7 +51,7 @@ readable (Record.SupportedRole role) = eqb role 0
 readable (Record.SupportedFreqBand band) = leb (lowestBand band) (bandByte band)
 readable (Record.Ieee1905ProfileVersion version) = leb (lowestVersion version) (versionByte version)
 readable (Record.LinkMetricResultCode result) = leb (lowestResult result) (resultByte result)
-readable (Record.LinkMetricQuery q) = queryReadable q
+readable (Record.LinkMetricQuery q) = agrees (q .«neighbor_type») (q .«neighbor_mac»)
 readable (Record.ClientAssociation a) = true
 readable (Record.MultiApProfile profile) = leb (lowestProfile profile) (profileByte profile)
 readable (Record.Profile2ApCapability c) = ltb (c .«flags_reserved») 8

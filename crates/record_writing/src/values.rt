@@ -20,7 +20,7 @@ ghost use mathlib.Core.List.{[], _∷_, _++_};
 ghost use Prim.Native.Nat.{_<_, _≤_};
 ghost use lib.ListN.{length, take, drop};
 ghost use Rattle.records.specs.Values.{octets, bit, flagsOf, queryBytes, associationBytes, capabilityBytes, bytesOf};
-ghost use Rattle.record_writing.specs.Writing.{queryReadable, readable};
+ghost use Rattle.record_writing.specs.Writing.{agrees, readable};
 
 // Whether reading can give this record: not where a role is not 0, a code with a name is kept as one without, a query has an address that its type
 // excludes, or three reserved bits are above 7.
@@ -44,7 +44,7 @@ pub(crate) fn is_readable(item: Record) -> bool
 }
 
 fn query_readable(query: LinkMetricQuery) -> bool
-    ensures { λ r. ⌜ r ≡ queryReadable query ⌝ }
+    ensures { λ r. ⌜ r ≡ agrees (query .«neighbor_type») (query .«neighbor_mac») ⌝ }
 {
     let neighbor_mac = query.neighbor_mac;
     match neighbor_mac {

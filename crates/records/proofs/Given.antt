@@ -12,7 +12,7 @@ use Rattle.numbers.proofs.Answers.{given, gave}
 use Rattle.numbers.proofs.Firm.{never}
 use Rattle.records.specs.declared.Record.{Record}
 use Rattle.records.specs.Kinds.{Kind, kinds, codeOf}
-use Rattle.records.specs.Reading.{Reading, empty, fixed, readAs, withCode, isRecord, readRecord}
+use Rattle.records.specs.Reading.{Reading, empty, fixed, ofKind, withCode, isRecord, readRecord}
 
 -- an answer that is not 16
 abbrev pub isKnown : {A : Type 0} → Answer A → Bool
@@ -49,15 +49,24 @@ module _ (n : ℕ) (ok : Bool) (r : Record) (s : List ℕ) where
       go false false = refl
       go false true = refl
 
-empty-formed : (r : Record) (s : List ℕ) → Formed s (empty r s)
-unfolding empty
-empty-formed r s = go (ltb 0 (length s))
-  where
-    go : (more : Bool) → Formed s (cond more (refuses 4 []) (gives (record { value = r; consumed = 0 })))
-    go true = record { is-known = refl; inside = λ x f. never _ _ _ (sym f) }
-    go false = record { is-known = refl; inside = λ x f. let i : record { value = r; consumed = 0 } ≡ x = cc in rw (← i) (omega arith) }
+module _ (r : Record) (s : List ℕ) where
+  pub reads-empty : (x : Reading) → empty r s ≡ gives x → record { value = r; consumed = 0 } ≡ x
+  unfolding empty
+  reads-empty x e = go (ltb 0 (length s)) e
+    where
+      go : (more : Bool) → cond more (refuses 4 []) (gives (record { value = r; consumed = 0 })) ≡ gives x → record { value = r; consumed = 0 } ≡ x
+      go true e = never _ _ _ (sym e)
+      go false e = given _ _ e
 
-formed : (k : Kind) (s : List ℕ) → Formed s (readAs k s)
+  empty-formed : Formed s (empty r s)
+  unfolding empty
+  empty-formed = record { is-known = go (ltb 0 (length s)); inside = λ x e. rw (← reads-empty x e) (omega arith) }
+    where
+      go : (more : Bool) → isKnown {A = Reading} (cond more (refuses 4 []) (gives (record { value = r; consumed = 0 }))) ≡ true
+      go true = refl
+      go false = refl
+
+formed : (k : Kind) (s : List ℕ) → Formed s (ofKind k s)
 formed Kind.EndOfMessage s = empty-formed _ s
 formed Kind.AlMacAddress s = fixed-formed _ _ _ s
 formed Kind.MacAddress s = fixed-formed _ _ _ s
@@ -71,8 +80,8 @@ formed Kind.ClientAssociation s = fixed-formed _ _ _ s
 formed Kind.MultiApProfile s = fixed-formed _ _ _ s
 formed Kind.Profile2ApCapability s = fixed-formed _ _ _ s
 
--- a code has its kind in the list, or reading answers 16
-pub coded : (c : ℕ) (ks : List Kind) (k : Kind) → withCode c ks ≡ gives k → codeOf k ≡ c
+-- a code has its kind in the list, or is refused by 16
+coded : (c : ℕ) (ks : List Kind) (k : Kind) → withCode c ks ≡ gives k → codeOf k ≡ c
 coded c [] k e = never _ _ _ (sym e)
 coded c (j ∷ ks) k e = go (eqb c (codeOf j)) refl (coded c ks k) e
   where
@@ -80,7 +89,7 @@ coded c (j ∷ ks) k e = go (eqb c (codeOf j)) refl (coded c ks k) e
     go true f later e = let i : j ≡ k = cc in rw (← i) (sym (eqb-true c (codeOf j) f))
     go false f later e = later e
 
-pub unknown : (c : ℕ) (ks : List Kind) → isKnown (withCode c ks) ≡ isGiven (withCode c ks)
+unknown : (c : ℕ) (ks : List Kind) → isKnown (withCode c ks) ≡ isGiven (withCode c ks)
 unknown c [] = refl
 unknown c (k ∷ ks) = go (eqb c (codeOf k)) (unknown c ks)
   where
@@ -92,7 +101,7 @@ pub known : (c : ℕ) (s : List ℕ) → isKnown (readRecord c s) ≡ isRecord c
 unfolding readRecord
 known c s = go (withCode c kinds) (unknown c kinds)
   where
-    go : (a : Answer Kind) → isKnown a ≡ isGiven a → isKnown (andThen a (λ k. readAs k s)) ≡ isGiven a
+    go : (a : Answer Kind) → isKnown a ≡ isGiven a → isKnown (andThen a (λ k. ofKind k s)) ≡ isGiven a
     go (gives k) e = formed k s .is-known
     go (refuses n vs) e = e
 
@@ -100,11 +109,11 @@ known c s = go (withCode c kinds) (unknown c kinds)
 pub record Coded (c : ℕ) (s : List ℕ) (x : Reading) : Type 0 where
   pub kind : Kind
   pub its : codeOf kind ≡ c
-  pub reads : readAs kind s ≡ gives x
+  pub reads : ofKind kind s ≡ gives x
 
 pub kind-read : (c : ℕ) (s : List ℕ) (x : Reading) → readRecord c s ≡ gives x → Coded c s x
 unfolding readRecord
-kind-read c s x e = let g = gave (withCode c kinds) (λ k. readAs k s) x e in record { kind = g .first; its = coded c kinds (g .first) (g .is); reads = g .then }
+kind-read c s x e = let g = gave (withCode c kinds) (λ k. ofKind k s) x e in record { kind = g .first; its = coded c kinds (g .first) (g .is); reads = g .then }
 
 -- consumed never exceeds the value's length, so that the rest is what stands behind it
 pub consumed-within : (c : ℕ) (s : List ℕ) (x : Reading) → readRecord c s ≡ gives x → x .consumed ≤ length s

@@ -8,7 +8,7 @@ use borrow.Author.Tests.{lt-ltb, le-ltb}
 use Rattle.numbers.specs.Numbers.{gives, refuses}
 use Rattle.records.specs.declared.Record.{Record}
 use Rattle.records.specs.Kinds.{Kind, codeOf}
-use Rattle.records.specs.Reading.{Reading, empty, fixed, readAs, readRecord}
+use Rattle.records.specs.Reading.{Reading, empty, fixed, ofKind, readRecord}
 
 module _ (r : Record) (s : List ℕ) where
   pub filled : 0 < length s → refuses 4 [] ≡ empty r s
@@ -33,7 +33,7 @@ module _ (n : ℕ) (ok : Bool) (r : Record) (s : List ℕ) where
   whole h a = simp (le-ltb (length s) n h, a)
 
 -- each code of the list is its own kind's: no two have one code
-pub by-kind : (k : Kind) (s : List ℕ) → readRecord (codeOf k) s ≡ readAs k s
+pub by-kind : (k : Kind) (s : List ℕ) → readRecord (codeOf k) s ≡ ofKind k s
 unfolding readRecord
 by-kind Kind.EndOfMessage s = refl
 by-kind Kind.AlMacAddress s = refl

@@ -7,7 +7,7 @@ use Rattle.numbers.specs.Numbers.{gives, mapped}
 use Rattle.numbers.specs.Firmness.{Firm}
 use Rattle.records.specs.declared.Record.{Record}
 use Rattle.records.specs.Kinds.{Kind, codeOf, kindOf}
-use Rattle.records.specs.Reading.{Reading, readOf, measuredOf, isRecord, readAs, readRecord}
+use Rattle.records.specs.Reading.{Reading, readOf, measuredOf, isRecord, ofKind, readRecord}
 
 -- each public call by its name: any two answers that its contract allows are one
 pub record Firmness : Type 0 where
@@ -18,7 +18,7 @@ pub record Firmness : Type 0 where
 
 -- no two kinds have one code: a kind's code reads as that kind
 abbrev pub OwnCodes : Type 0
-OwnCodes = (k : Kind) (s : List ℕ) → readRecord (codeOf k) s ≡ readAs k s
+OwnCodes = (k : Kind) (s : List ℕ) → readRecord (codeOf k) s ≡ ofKind k s
 
 -- what was consumed lies in the value, so that the rest is what stands behind it
 abbrev pub Inside : Type 0

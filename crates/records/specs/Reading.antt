@@ -40,19 +40,19 @@ abbrev any : Bool
 any = true
 
 -- the lines of document 01's table: the bytes that the layout takes, what of them is accepted ("role not 0, association bits 0-6 set, profile 0" are not), the record
-abbrev pub readAs : Kind → List ℕ → Answer Reading
-readAs Kind.EndOfMessage s = empty Record.EndOfMessage s
-readAs Kind.AlMacAddress s = fixed 6 any (Record.AlMacAddress (addressAt s 0)) s
-readAs Kind.MacAddress s = fixed 6 any (Record.MacAddress (addressAt s 0)) s
-readAs Kind.SearchedRole s = fixed 1 (eqb (getD s 0 0) 0) (Record.SearchedRole (getD s 0 0)) s
-readAs Kind.SupportedRole s = fixed 1 (eqb (getD s 0 0) 0) (Record.SupportedRole (getD s 0 0)) s
-readAs Kind.SupportedFreqBand s = fixed 1 any (Record.SupportedFreqBand (bandOf (getD s 0 0))) s
-readAs Kind.Ieee1905ProfileVersion s = fixed 1 any (Record.Ieee1905ProfileVersion (versionOf (getD s 0 0))) s
-readAs Kind.LinkMetricResultCode s = fixed 1 any (Record.LinkMetricResultCode (resultOf (getD s 0 0))) s
-readAs Kind.LinkMetricQuery s = fixed (cond (hasAddress (getD s 0 0)) 8 2) any (Record.LinkMetricQuery (queryIn s)) s
-readAs Kind.ClientAssociation s = fixed 13 (eqb (getD s 12 0 % 128) 0) (Record.ClientAssociation (associationIn s)) s
-readAs Kind.MultiApProfile s = fixed 1 (ltb 0 (getD s 0 0)) (Record.MultiApProfile (profileOf (getD s 0 0))) s
-readAs Kind.Profile2ApCapability s = fixed 4 any (Record.Profile2ApCapability (capabilityIn s)) s
+abbrev pub ofKind : Kind → List ℕ → Answer Reading
+ofKind Kind.EndOfMessage s = empty Record.EndOfMessage s
+ofKind Kind.AlMacAddress s = fixed 6 any (Record.AlMacAddress (addressAt s 0)) s
+ofKind Kind.MacAddress s = fixed 6 any (Record.MacAddress (addressAt s 0)) s
+ofKind Kind.SearchedRole s = fixed 1 (eqb (getD s 0 0) 0) (Record.SearchedRole (getD s 0 0)) s
+ofKind Kind.SupportedRole s = fixed 1 (eqb (getD s 0 0) 0) (Record.SupportedRole (getD s 0 0)) s
+ofKind Kind.SupportedFreqBand s = fixed 1 any (Record.SupportedFreqBand (bandOf (getD s 0 0))) s
+ofKind Kind.Ieee1905ProfileVersion s = fixed 1 any (Record.Ieee1905ProfileVersion (versionOf (getD s 0 0))) s
+ofKind Kind.LinkMetricResultCode s = fixed 1 any (Record.LinkMetricResultCode (resultOf (getD s 0 0))) s
+ofKind Kind.LinkMetricQuery s = fixed (cond (hasAddress (getD s 0 0)) 8 2) any (Record.LinkMetricQuery (queryIn s)) s
+ofKind Kind.ClientAssociation s = fixed 13 (eqb (getD s 12 0 % 128) 0) (Record.ClientAssociation (associationIn s)) s
+ofKind Kind.MultiApProfile s = fixed 1 (ltb 0 (getD s 0 0)) (Record.MultiApProfile (profileOf (getD s 0 0))) s
+ofKind Kind.Profile2ApCapability s = fixed 4 any (Record.Profile2ApCapability (capabilityIn s)) s
 
 -- the first of these kinds that has the code; 16 where none has
 abbrev pub withCode : ℕ → List Kind → Answer Kind
@@ -65,4 +65,4 @@ isRecord c = isGiven (withCode c kinds)
 
 -- "Order elsewhere: 16, then .. 3, 4, 5"
 unfoldable pub readRecord : ℕ → List ℕ → Answer Reading
-readRecord c s = andThen (withCode c kinds) (λ k. readAs k s)
+readRecord c s = andThen (withCode c kinds) (λ k. ofKind k s)
