@@ -1,7 +1,7 @@
 -- Every row of the table holds: of the first ones both sides compute to the same, the last four are theorems about runs.
 use mathlib.Core.Path.{refl}
 use Rattle.framing.specs.Tlv.{readTlv}
-use Rattle.walking.specs.Walk.{walkOf, walkFrom}
+use Rattle.walking.specs.Walk.{stepAt, walkFrom, walkOf}
 use Rattle.records.specs.Reading.{empty, fixed, readRecord}
 use Rattle.layouts.specs.Layouts.{layoutOf, isList}
 use Rattle.layouts.specs.Reading.{countAt, listOf, entriesEnd, endOf, consumedTo, readAs, readValue}
@@ -11,7 +11,7 @@ use Rattle.orders.proofs.Examples.{stays-at-2999, goes-at-3000, zero-then-last-
 use Rattle.examples.specs.Examples.{Examples}
 
 pub examples : Examples
-unfolding readTlv walkOf walkFrom empty fixed readRecord layoutOf isList countAt listOf entriesEnd endOf consumedTo readAs readValue childAt findEntry spanOf ofValue locateEntry readKind locateKind
+unfolding readTlv stepAt walkFrom walkOf empty fixed readRecord layoutOf isList countAt listOf entriesEnd endOf consumedTo readAs readValue childAt findEntry spanOf ofValue locateEntry readKind locateKind
 examples = record {
   empty = refl;
   two-bytes = refl;

@@ -19,6 +19,7 @@ use Rattle.records.specs.declared.MultiApProfile.{MultiApProfile}
 use Rattle.records.specs.declared.ByteCounterUnits.{ByteCounterUnits}
 use Rattle.layouts.specs.Access.{partOf}
 use Rattle.kinds.specs.Kinds.{isKind, one, list, Typed, readKind, locateKind}
+use Rattle.table.specs.Rows.{placeSize, storeSize}
 use Rattle.pushing.specs.Push.{waiting, joined as joinedAs, missing}
 use Rattle.orders.specs.Runs.{Push, push, sweep, pushed, dropped, after, tells, start, holding, holdsNothing, repliesTo}
 use Rattle.sweeping.specs.Sweep.{noneDropped}
@@ -132,9 +133,9 @@ beyond = 0x01 ∷ (mac 1 ++ (0x00 ∷ 0x01 ∷ (mac 2 ++ (0x00 ∷ 0x02 ∷ (mac
 
 -- a push that is let in: with a large enough store and a payload that fits a place
 pub record LetIn (store : List ℕ) (p : Push) : Type 0 where
-  pub long : 47744 ≤ length store
-  pub lent : 47744 ≤ p .lent
-  pub small : length (p .payload) ≤ 1492
+  pub long : storeSize ≤ length store
+  pub lent : storeSize ≤ p .lent
+  pub small : length (p .payload) ≤ placeSize
 
 -- two pushes under one key with equal version and type: number 0, not marked last, and number 1, marked last, with room for both payloads
 pub record ZeroThenLastOne (p q : Push) : Type 0 where

@@ -15,7 +15,7 @@ use Rattle.records.specs.Reading.{Reading, isRecord, readRecord}
 use Rattle.records.proofs.Given.{isKnown, known, consumed-within as record-within}
 use Rattle.layouts.specs.Layouts.{isList}
 use Rattle.layouts.specs.Reading.{Consumed, readValue}
-use Rattle.layouts.specs.Access.{Span, locateEntry, countEntries, partOf}
+use Rattle.layouts.specs.Access.{Span, locateEntry, countEntries, partOf, startOf}
 use Rattle.layouts.proofs.Claims.{values as list-values}
 use Rattle.kinds.specs.Kinds.{Typed, list, one, isKind, oneRecord, oneList, readKind, withoutRecord, noEntryIn, locateKind, countKind}
 use Rattle.kinds.specs.Writing.{writeKind, kindBytes}
@@ -58,6 +58,9 @@ module _ (code : ℕ) (s : List ℕ) where
     pub list-part : (is : List ℕ) → partOf (locateEntry code is s) s ≡ partOf (locateKind code is s) s
     list-part is = ap (λ (x : Answer Span). partOf x s) (list-located is)
 
+    pub list-start : (is : List ℕ) → startOf (locateEntry code is s) ≡ startOf (locateKind code is s)
+    list-start is = ap startOf (list-located is)
+
     pub list-counted : (is : List ℕ) → countEntries code is s ≡ countKind code is s
     unfolding countKind
     list-counted is = rw e
@@ -68,11 +71,11 @@ module _ (code : ℕ) (s : List ℕ) where
     unfolding readKind
     record-reads = rw e
 
-    no-entry : (is : List ℕ) → noEntryIn code s ≡ locateKind code is s
+    pub no-entry : (is : List ℕ) → noEntryIn code s ≡ locateKind code is s
     unfolding locateKind
     no-entry is = rw e
 
-    no-count : (is : List ℕ) → noEntryIn code s ≡ countKind code is s
+    pub no-count : (is : List ℕ) → noEntryIn code s ≡ countKind code is s
     unfolding countKind
     no-count is = rw e
 
@@ -82,12 +85,17 @@ module _ (code : ℕ) (s : List ℕ) where
     pub uncounted : (is : List ℕ) (n : ℕ) (vs : List ℕ) → _≡_ {A = Answer ℕ} (refuses n vs) (noEntryIn code s) → refuses n vs ≡ countKind code is s
     uncounted is n vs f = f ∙ no-count is
 
-    no-part : {A : Type 0} (y : Answer A) → [] ≡ partOf (andThen y (λ a. refuses 6 [])) s
-    no-part (gives a) = refl
-    no-part (refuses n vs) = refl
+    -- the empty start is shown
+    no-part : {A : Type 0} (y : Answer A) → ([] ≡ partOf (andThen y (λ a. refuses 6 [])) s) × (0 ≡ startOf (andThen y (λ a. refuses 6 [])))
+    no-part (gives a) = (refl, refl)
+    no-part (refuses n vs) = (refl, refl)
 
-    pub nothing : (is : List ℕ) → [] ≡ partOf (locateKind code is s) s
-    nothing is = no-part (readRecord code s) ∙ ap (λ (x : Answer Span). partOf x s) (no-entry is)
+    pub nothing : (is : List ℕ) → ([] ≡ partOf (locateKind code is s) s) × (0 ≡ startOf (locateKind code is s))
+    nothing is = let n = no-part (readRecord code s) in (n .0 ∙ ap (λ (x : Answer Span). partOf x s) (no-entry is), n .1 ∙ ap startOf (no-entry is))
+
+  -- what reads as a record has a record's code
+  pub is-record : (r : Reading) → gives r ≡ readRecord code s → true ≡ isRecord code
+  is-record r e = ap isKnown e ∙ known code s
 
   -- what was consumed lies in the value, and the rest is what is left of it
   pub record Within (t : Typed Record) : Type 0 where
@@ -120,13 +128,13 @@ module _ (code : ℕ) (s : List ℕ) where
     pub of-a-kind : true ≡ isKind code
     of-a-kind = by-list (isList code) refl
       where
-        by-record : (x : Answer Reading) → x ≡ readRecord code s → gives t ≡ mapped (oneRecord (length s)) x → true ≡ isRecord code
-        by-record (gives r) g h = ap isKnown g ∙ known code s
-        by-record (refuses n vs) g h = never _ _ _ h
+        by-reading : (x : Answer Reading) → x ≡ readRecord code s → gives t ≡ mapped (oneRecord (length s)) x → true ≡ isRecord code
+        by-reading (gives r) f g = is-record r f
+        by-reading (refuses n vs) f g = never _ _ _ g
 
         by-list : (b : Bool) → isList code ≡ b → true ≡ isKind code
         by-list true f = rw f
-        by-list false f = rw f (by-record (readRecord code s) refl (e ∙ sym (record-reads f)))
+        by-list false f = rw f (by-reading (readRecord code s) refl (e ∙ sym (record-reads f)))
 
     pub size : t .consumed ≡ length (take (t .consumed) s)
     size = sym (length-take-le (t .consumed) s (within .inside))

@@ -13,7 +13,8 @@ ghost use Prim.Native.Nat.{ℕ};
 ghost use lib.ListN.{length};
 ghost use Rattle.numbers.specs.Numbers.{told, mapped};
 ghost use Rattle.framing.specs.Tlv.{writtenOf, leaves};
-ghost use Rattle.layouts.specs.Access.{numbersOf, locatedOf, countedOf, partOf};
+ghost use Rattle.numbers.specs.Parts.{behind};
+ghost use Rattle.layouts.specs.Access.{numbersOf, locatedOf, countedOf, partOf, startOf};
 ghost use Rattle.records.specs.Reading.{readRecord};
 ghost use Rattle.kinds.specs.Kinds.{isKind, kindReadOf, oneRecord, readKind, kindSizeOf, withoutRecord, noEntryIn, locateKind, countKind};
 ghost use Rattle.kinds.specs.Writing.{writeKind, kindBytes};
@@ -77,7 +78,8 @@ pub fn read_kind(code: u8, s: &[u8]) -> KindRead
     ensures { λ r. ⌜ kindReadOf r ≡ readKind code (now (s .entry)) ⌝ }
 {
     if layouts::is_list(code) {
-        match layouts::read_value(code, s) {
+        let list = layouts::read_value(code, s);
+        match list {
             Reading::Value {
                 consumed,
                 rest,
@@ -155,11 +157,12 @@ pub fn locate(code: u8, path: Path, s: &[u8]) -> Located
 // The entry with these numbers as its own part of s, the lists under it included; the empty start of s where `locate` refuses.
 pub fn entry(code: u8, path: Path, s: &[u8]) -> &[u8]
     ensures { λ r. ⌜ now r ≡ partOf (locateKind code (numbersOf path) (now (s .entry))) (now (s .entry)) ⌝ }
+    ensures place { λ r. ⌜ r .ptr ≡ behind (startOf (locateKind code (numbersOf path) (now (s .entry)))) (s .entry) ⌝ }
 {
     if layouts::is_list(code) {
         return layouts::entry(code, path, s);
     }
-    &s[..0]
+    &s[0..0]
 }
 
 // How many entries the list of the entry with these numbers has; without numbers, the value's own list.

@@ -4,11 +4,6 @@ use Rattle.kinds.proofs.Laws.{list-counted, uncounted}
 use borrow.Author.Needs.{needs}
 use Rattle.kinds.proofs.count.Statement.{statement}
 use Rattle.kinds.proofs.count.Tie as tie
-use Rattle.kinds.proofs.count.Reads as reads
-use Rattle.kinds.proofs.count.Lts as lts
-use Rattle.kinds.proofs.no_entry_in.Reads as no-entry-in-reads
-use Rattle.layouts.proofs.count.Reads as count-reads
-use Rattle.layouts.proofs.is_list.Reads as is-list-reads
 
 is-list-requires : tie.Need-is-list-requires
 is-list-requires c κs = search needs

@@ -1,13 +1,11 @@
 -- `entry` meets its contract: the list kind's entry; no entry of a record kind is shown.
-use mathlib.Core.Path.{sym, _∙_}
-use Rattle.kinds.proofs.Laws.{list-part, nothing}
+use mathlib.Core.Path.{sym, _∙_, ap}
+use Prim.Native.Nat.{ℕ}
+use Rattle.numbers.specs.Parts.{behind}
+use Rattle.kinds.proofs.Laws.{list-part, list-start, nothing}
 use borrow.Author.Needs.{needs}
 use Rattle.kinds.proofs.entry.Statement.{statement}
 use Rattle.kinds.proofs.entry.Tie as tie
-use Rattle.kinds.proofs.entry.Reads as reads
-use Rattle.kinds.proofs.entry.Lts as lts
-use Rattle.layouts.proofs.entry.Reads as entry-reads
-use Rattle.layouts.proofs.is_list.Reads as is-list-reads
 
 is-list-requires : tie.Need-is-list-requires
 is-list-requires c κs = search needs
@@ -16,14 +14,32 @@ entry-requires : tie.Need-entry-requires
 entry-requires c κs = search needs
 
 returns : tie.Need-returns
-returns c = c .entry .ensures .0 ∙ list-part _ _ (sym (c .before .before .is-list .ensures) ∙ c .before .if1 .taken) _
+returns c =
+    let h = sym (c .before .before .is-list .ensures) ∙ c .before .if1 .taken in
+    (c .entry .ensures .0 ∙ list-part _ _ h _, c .entry .ensures .1 ∙ ap (λ (n : ℕ). behind n (c .before .before .before .before .args .s)) (list-start _ _ h _))
 
-slice-aggregate-result : tie.Need-slice-aggregate-result
-slice-aggregate-result c = search needs
+sub-result : tie.Need-sub-result
+sub-result c = search needs
+
+part-result-start : tie.Need-part-result-start
+part-result-start c = search needs
+
+part-result-end : tie.Need-part-result-end
+part-result-end c = search needs
 
 returns-2 : tie.Need-returns-2
-returns-2 c = nothing _ _ (sym (c .before .before .is-list .ensures) ∙ c .before .if1 .left) _
+returns-2 c =
+    let h = nothing _ _ (sym (c .before .before .is-list .ensures) ∙ c .before .if1 .left) _ in
+    (h .0, ap (λ (n : ℕ). behind n (c .before .before .before .before .args .s)) (h .1))
 
 pub entry-spec : {M : Type 1} → statement M
 entry-spec =
-    tie.close (tie.spec is-list-requires entry-requires returns slice-aggregate-result returns-2)
+    tie.close
+    (tie.spec
+    is-list-requires
+    entry-requires
+    returns
+    sub-result
+    part-result-start
+    part-result-end
+    returns-2)

@@ -3,10 +3,6 @@ use mathlib.Core.Path.{sym, _∙_}
 use borrow.Author.Needs.{needs}
 use Rattle.kinds.proofs.is_kind.Statement.{statement}
 use Rattle.kinds.proofs.is_kind.Tie as tie
-use Rattle.kinds.proofs.is_kind.Reads as reads
-use Rattle.kinds.proofs.is_kind.Lts as lts
-use Rattle.layouts.proofs.is_list.Reads as is-list-reads
-use Rattle.records.proofs.is_record.Reads as is-record-reads
 
 is-list-requires : tie.Need-is-list-requires
 is-list-requires c κs = search needs

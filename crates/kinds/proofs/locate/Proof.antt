@@ -4,11 +4,6 @@ use Rattle.kinds.proofs.Laws.{list-located, unlocated}
 use borrow.Author.Needs.{needs}
 use Rattle.kinds.proofs.locate.Statement.{statement}
 use Rattle.kinds.proofs.locate.Tie as tie
-use Rattle.kinds.proofs.locate.Reads as reads
-use Rattle.kinds.proofs.locate.Lts as lts
-use Rattle.kinds.proofs.no_entry_in.Reads as no-entry-in-reads
-use Rattle.layouts.proofs.is_list.Reads as is-list-reads
-use Rattle.layouts.proofs.locate.Reads as locate-reads
 
 is-list-requires : tie.Need-is-list-requires
 is-list-requires c κs = search needs

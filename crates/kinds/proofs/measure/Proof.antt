@@ -7,11 +7,6 @@ use Rattle.kinds.proofs.Laws.{list-reads, record-reads}
 use borrow.Author.Needs.{needs}
 use Rattle.kinds.proofs.measure.Statement.{statement}
 use Rattle.kinds.proofs.measure.Tie as tie
-use Rattle.kinds.proofs.measure.Reads as reads
-use Rattle.kinds.proofs.measure.Lts as lts
-use Rattle.kinds.proofs.measure_record.Reads as measure-record-reads
-use Rattle.layouts.proofs.is_list.Reads as is-list-reads
-use Rattle.layouts.proofs.read_value.Reads as read-value-reads
 
 is-list-requires : tie.Need-is-list-requires
 is-list-requires c κs = search needs

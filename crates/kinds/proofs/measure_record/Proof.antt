@@ -5,9 +5,6 @@ use Rattle.kinds.proofs.Laws.{measured, unmeasured}
 use borrow.Author.Needs.{needs}
 use Rattle.kinds.proofs.measure_record.Statement.{statement}
 use Rattle.kinds.proofs.measure_record.Tie as tie
-use Rattle.kinds.proofs.measure_record.Reads as reads
-use Rattle.kinds.proofs.measure_record.Lts as lts
-use Rattle.records.proofs.measure.Reads as measure-reads
 
 measure-requires : tie.Need-measure-requires
 measure-requires c κs = search needs

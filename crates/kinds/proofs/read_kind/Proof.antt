@@ -7,11 +7,6 @@ use Rattle.kinds.proofs.Laws.{list-reads, record-reads}
 use borrow.Author.Needs.{needs}
 use Rattle.kinds.proofs.read_kind.Statement.{statement}
 use Rattle.kinds.proofs.read_kind.Tie as tie
-use Rattle.kinds.proofs.read_kind.Reads as reads
-use Rattle.kinds.proofs.read_kind.Lts as lts
-use Rattle.kinds.proofs.read_record.Reads as read-record-reads
-use Rattle.layouts.proofs.is_list.Reads as is-list-reads
-use Rattle.layouts.proofs.read_value.Reads as read-value-reads
 
 is-list-requires : tie.Need-is-list-requires
 is-list-requires c κs = search needs
@@ -19,20 +14,20 @@ is-list-requires c κs = search needs
 read-value-requires : tie.Need-read-value-requires
 read-value-requires c κs = search needs
 
-enum-known-consumed : tie.Need-enum-known-consumed
-enum-known-consumed c = search needs
+enum-known-list : tie.Need-enum-known-list
+enum-known-list c = search needs
 
-enum-known-refusal : tie.Need-enum-known-refusal
-enum-known-refusal c = search needs
+enum-known-list-2 : tie.Need-enum-known-list-2
+enum-known-list-2 c = search needs
 
 read-record-requires : tie.Need-read-record-requires
 read-record-requires c κs = search needs
 
 returns : tie.Need-returns
-returns c = ap (mapped oneList) (ap readingOf (sym (c .before .consumed .given .1)) ∙ c .before .before .before .read-value .ensures) ∙ list-reads _ _ (sym (c .before .before .before .before .before .is-list .ensures) ∙ c .before .before .before .before .if1 .taken)
+returns c = ap (mapped oneList) (ap readingOf (sym (c .before .list .given .1)) ∙ c .before .before .before .read-value .ensures) ∙ list-reads _ _ (sym (c .before .before .before .before .before .is-list .ensures) ∙ c .before .before .before .before .if1 .taken)
 
 returns-2 : tie.Need-returns-2
-returns-2 c = ap (mapped oneList) (ap readingOf (sym (c .before .refusal .given .1)) ∙ c .before .before .before .read-value .ensures) ∙ list-reads _ _ (sym (c .before .before .before .before .before .is-list .ensures) ∙ c .before .before .before .before .if1 .taken)
+returns-2 c = ap (mapped oneList) (ap readingOf (sym (c .before .list2 .given .1)) ∙ c .before .before .before .read-value .ensures) ∙ list-reads _ _ (sym (c .before .before .before .before .before .is-list .ensures) ∙ c .before .before .before .before .if1 .taken)
 
 returns-3 : tie.Need-returns-3
 returns-3 c = c .read-record .ensures ∙ record-reads _ _ (sym (c .before .before .is-list .ensures) ∙ c .before .if1 .left)
@@ -43,8 +38,8 @@ read-kind-spec =
     (tie.spec
     is-list-requires
     read-value-requires
-    enum-known-consumed
-    enum-known-refusal
+    enum-known-list
+    enum-known-list-2
     read-record-requires
     returns
     returns-2

@@ -7,9 +7,6 @@ use Rattle.kinds.specs.Kinds.{oneRecord}
 use borrow.Author.Needs.{needs}
 use Rattle.kinds.proofs.read_record.Statement.{statement}
 use Rattle.kinds.proofs.read_record.Tie as tie
-use Rattle.kinds.proofs.read_record.Reads as reads
-use Rattle.kinds.proofs.read_record.Lts as lts
-use Rattle.records.proofs.read_record.Reads as read-record-reads
 
 read-record-requires : tie.Need-read-record-requires
 read-record-requires c κs = search needs

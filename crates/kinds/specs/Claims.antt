@@ -1,0 +1,70 @@
+-- What is claimed of the kinds, beside what the calls promise; proofs/Claims.antt proves it.
+use mathlib.Core.Path.{_≡_}
+use mathlib.Core.Bool.{true, false}
+use mathlib.Core.List.{List, _++_}
+use Prim.Native.Nat.{ℕ, _+_, _≤_}
+use denote.Ref.{RefT, now}
+use lib.ListN.{length, take}
+use Rattle.numbers.specs.Numbers.{gives, mapped}
+use Rattle.numbers.specs.Firmness.{Firm}
+use Rattle.numbers.specs.Parts.{behind}
+use Rattle.framing.specs.Tlv.{readTlv, valueIn, writtenOf, longestValue, writeSize, tlvBytes, leaves}
+use Rattle.framing.specs.Claims.{asRead, Bytes}
+use Rattle.framing.specs.declared.Written.{Written}
+use Rattle.records.specs.declared.Record.{Record}
+use Rattle.records.specs.Kinds.{codeOf, kindOf}
+use Rattle.records.specs.Values.{bytesOf}
+use Rattle.records.specs.Reading.{isRecord}
+use Rattle.record_writing.specs.Writing.{readable}
+use Rattle.layouts.specs.Layouts.{isList}
+use Rattle.layouts.specs.declared.Path.{Path}
+use Rattle.layouts.specs.Access.{numbersOf, locatedOf, countedOf, partOf, startOf}
+use Rattle.kinds.specs.Kinds.{Typed, one, isKind, kindReadOf, readKind, kindSizeOf, withoutRecord, locateKind, countKind}
+use Rattle.kinds.specs.Writing.{writeKind, kindBytes}
+
+-- each public call by its name: any two answers that its contract allows are one, with what the lent buffer holds afterwards. A part is its bytes and its place.
+pub record Firmness : Type 0 where
+  pub is-kind : (code : ℕ) → Firm (λ r. r ≡ isKind code)
+  pub read-kind : (code : ℕ) (s : List ℕ) → Firm (λ r. kindReadOf r ≡ readKind code s)
+  pub measure : (code : ℕ) (s : List ℕ) → Firm (λ r. kindSizeOf r ≡ mapped withoutRecord (readKind code s))
+  pub locate : (code : ℕ) (path : Path) (s : List ℕ) → Firm (λ r. locatedOf r ≡ locateKind code (numbersOf path) s)
+  pub entry : (code : ℕ) (path : Path) (s : RefT (List ℕ)) → Firm {A = List ℕ × (ℕ × ℕ)} (λ r.
+      (r .0 ≡ partOf (locateKind code (numbersOf path) (now s)) (now s)) × (r .1 ≡ behind (startOf (locateKind code (numbersOf path) (now s))) s))
+  pub count : (code : ℕ) (path : Path) (s : List ℕ) → Firm (λ r. countedOf r ≡ countKind code (numbersOf path) s)
+  pub write-kind : (code : ℕ) (s out : List ℕ)
+      → Firm {A = Written × List ℕ} (λ o. (writtenOf (o .0) ≡ writeKind code s (length out)) × (o .1 ≡ leaves (writeKind code s (length out)) (kindBytes code s) out))
+
+-- no code is of a record and of a list
+abbrev pub Apart : Type 0
+Apart = (code : ℕ) → isRecord code ≡ true → isList code ≡ false
+
+-- "answer, consumed and rest": what was consumed lies in the value, and the rest is what is left of it
+abbrev pub AllOfIt : Type 0
+AllOfIt = (code : ℕ) (s : List ℕ) (t : Typed Record) → readKind code s ≡ gives t → (t .consumed ≤ length s) × (t .consumed + t .rest ≡ length s)
+
+-- Round trips, for all 21 kinds. The value of the TLV at the start of s:
+abbrev pub valueAt : List ℕ → List ℕ
+valueAt s = valueIn (readTlv s) s
+
+-- the value v reads as t did, with nothing behind it, and its entries at every level are those of the value s, byte for byte
+pub record Same (code : ℕ) (t : Typed Record) (s v : List ℕ) : Type 0 where
+  pub reads : readKind code v ≡ gives (record { held = t .held; consumed = t .consumed; rest = 0 })
+  pub places : (numbers : List ℕ) → locateKind code numbers v ≡ locateKind code numbers s
+  pub counts : (numbers : List ℕ) → countKind code numbers v ≡ countKind code numbers s
+  pub entries : (numbers : List ℕ) → partOf (locateKind code numbers v) v ≡ partOf (locateKind code numbers s) s
+
+-- what is written from a value reads back, whatever stands behind it
+abbrev pub ReadsBack : Type 0
+ReadsBack = (code : ℕ) (s behind : List ℕ) (t : Typed Record) → Bytes s → readKind code s ≡ gives t → t .consumed ≤ longestValue
+    → (readTlv (kindBytes code s ++ behind) ≡ gives (asRead code (take (t .consumed) s)))
+    × Same code t s (valueAt (kindBytes code s ++ behind))
+
+-- what is written from a record reads back as that record; no reading gives a record that is not written so
+abbrev pub RecordReadsBack : Type 0
+RecordReadsBack = (r : Record) (behind : List ℕ) → readable r ≡ true
+    → readKind (codeOf (kindOf r)) (valueAt (tlvBytes (codeOf (kindOf r)) (bytesOf r) ++ behind)) ≡ gives (record { held = one r; consumed = length (bytesOf r); rest = 0 })
+
+-- writing what was read: unless 8 or 7 refuses it, it is the TLV of the consumed bytes, and nothing of the rest
+abbrev pub WritesBack : Type 0
+WritesBack = (code : ℕ) (s : List ℕ) (t : Typed Record) → readKind code s ≡ gives t
+    → ((room : ℕ) → writeKind code s room ≡ writeSize (t .consumed) room) × (kindBytes code s ≡ tlvBytes code (take (t .consumed) s))
