@@ -5,10 +5,13 @@ Usage: oracle/model.py [LEVEL] < COMMANDS. LEVEL is the last request of document
 It shakes out the driver and the language, and stands beside the proved library as a second opinion on the numbers, which the original doesn't have.
 It follows document 01's text and the readings of its open points, as plainly as it goes. The generator takes its layouts from here.
 """
+import itertools
 import sys
 
 STORE_PLACES, STORE_KEYS, PLACE = 32, 16, 1492
 EXPIRES = 3000
+# Of the command language: bytes of a line, and bytes that come out of one.
+LONGEST_LINE, MOST_BYTES = 32768, 66000
 
 
 class Refused(Exception):
@@ -32,9 +35,24 @@ def to_bytes(text):
         if text[at] == "*":
             colon = text.index(":", at)
             times, at = int(text[at + 1:colon]), colon + 1
+        if times > MOST_BYTES - len(out):
+            raise Bad
         out += bytes.fromhex(text[at:at + 2]) * times
         at += 2
     return bytes(out)
+
+
+def text(data):
+    """Bytes as a field: runs of eight and more as a repeat."""
+    if not data:
+        return "-"
+    if len(data) < 64:
+        return data.hex()
+    parts = []
+    for byte, run in itertools.groupby(data):
+        count = len(list(run))
+        parts.append("*%d:%02x" % (count, byte) if count > 7 else "%02x" % byte * count)
+    return "".join(parts)
 
 
 def checksum(data):
@@ -415,6 +433,8 @@ def listed(tlvs):
 
 
 def answer(table, line):
+    if len(line) > LONGEST_LINE:
+        raise Bad
     words = line.split(" ")
     command, last = words[0], words[-1]
     if command == "z":
@@ -481,7 +501,7 @@ def main():
     table = Table()
     for line in sys.stdin:
         try:
-            text = answer(table, line.rstrip("\n"))
+            text = answer(table, line.removesuffix("\n"))
         except Refused as refused:
             text = " ".join(["no"] + [str(number) for number in refused.args])
         except (Bad, ValueError, IndexError):

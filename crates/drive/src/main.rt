@@ -103,9 +103,18 @@ fn answered(
     ensures { λ r. ⌜ Made (r .table) ⌝ }
 {
     let t = s.table;
-    let line = parse::part(input, s.at, end);
+    let line = parse::line_in(input, s.at, end);
     let n = parse::decode_line(line, data);
-    let served = turn(t, line, parse::part(data, 0, n), out, store, text, s.used);
+    let command = parse::command_of(line, n);
+    let served = turn(
+        t,
+        command,
+        parse::part(data, 0, n),
+        out,
+        store,
+        text,
+        s.used,
+    );
     let after = served.table;
     State {
         table: after,
@@ -145,7 +154,7 @@ fn supplied(s: State, input: &mut Input, text: &Text) -> State
     }
 }
 
-// Answers a line, or reads more where no line is there.
+// Answers a line, or reads more where no line's end is there. At the input's end what is left is a line too.
 fn step(
     s: State,
     input: &mut Input,
@@ -158,7 +167,7 @@ fn step(
     ensures { λ r. ⌜ Made (r .table) ⌝ }
 {
     let end = parse::line_end(input, s.at, s.have);
-    if end < s.have {
+    if end < s.have || (s.ended && s.at < s.have) {
         return answered(s, end, input, data, out, store, text);
     }
     supplied(s, input, text)

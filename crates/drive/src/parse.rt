@@ -1,10 +1,14 @@
-// Reading a command: its fields, numbers, and bytes written as hex pairs and repeats. What is no command is answered somehow; none is ever generated.
+// Reading a command: its fields, numbers, and bytes written as hex pairs and repeats. A line that is too long, or gives too many bytes, counts as an empty
+// one, which is no command. What else is none is answered somehow; none is ever generated.
 use crate::show;
 ghost use Prim.Native.Nat.{_≤_, _<_};
 ghost use lib.ListN.{length};
 
-// More than a line ever has.
-const LONGEST: usize = 1000000;
+// The longest line, without its end.
+const LONGEST: usize = 32768;
+
+// The most bytes that may come out of a line.
+const MOST: usize = 66000;
 
 // Where the first `b` from `from` on stands; the end where there is none.
 pub(crate) fn place_of(s: &[u8], from: usize, b: u8) -> usize
@@ -80,11 +84,15 @@ pub(crate) fn field(line: &[u8], n: usize) -> &[u8] {
     piece(line, b' ', n)
 }
 
+// A number that does not fit is the greatest that does.
 fn with_digit(n: u64, digit: u8) -> u64 {
+    let last = std::num::wrapping_sub_u8(digit, b'0') as u64;
     if n <= 1844674407370955161 {
-        return std::num::wrapping_add_u64(n * 10, std::num::wrapping_sub_u8(digit, b'0') as u64);
+        if n * 10 <= u64::MAX - last {
+            return n * 10 + last;
+        }
     }
-    n
+    u64::MAX
 }
 
 pub(crate) fn number(s: &[u8]) -> u64 {
@@ -145,17 +153,21 @@ pub(crate) fn pair(s: &[u8], n: usize) -> u8 {
     0
 }
 
+// The byte goes in so many times from n on, as far as there is room; where they end.
 fn repeat(data: &mut [u8], n: usize, count: usize, b: u8) -> usize {
-    let mut end = n;
+    if data.len() < n {
+        return n;
+    }
+    let more = least(count, data.len() - n);
     let mut i = 0;
-    while i < count {
-        end = show::put_one(data, end, b);
+    while i < more {
+        data[n + i] = b;
         i += 1;
     }
-    end
+    n + more
 }
 
-// Puts the bytes of a field at the start of data: `-` for none, hex pairs, and repeats `*COUNT:PAIR`. How many there are.
+// Puts the bytes of a field at the start of data: `-` for none, hex pairs, and repeats `*COUNT:PAIR`. How many there are; bytes that have no room are left out.
 fn decode(s: &[u8], data: &mut [u8]) -> usize {
     let mut n = 0;
     if LONGEST < s.len() {
@@ -197,12 +209,29 @@ pub(crate) fn decode_line(line: &[u8], data: &mut [u8]) -> usize {
     decode(field(line, field_of_bytes(byte_at(line, 0))), data)
 }
 
+// The line from a to e; an empty one where it is too long.
+pub(crate) fn line_in(input: &[u8], a: usize, e: usize) -> &[u8] {
+    let line = part(input, a, e);
+    if LONGEST < line.len() {
+        return &line[..0];
+    }
+    line
+}
+
+// A line that gives n bytes; an empty one where those are too many.
+pub(crate) fn command_of(line: &[u8], n: usize) -> &[u8] {
+    if MOST < n {
+        return &line[..0];
+    }
+    line
+}
+
 // Where the line ends that starts at `at`, of the first `have` bytes; `have` where its end is not among them.
 pub(crate) fn line_end(input: &[u8], at: usize, have: usize) -> usize {
     place_of(part(input, 0, have), at, b'\n')
 }
 
-// Moves the bytes from a to e to the start; how many they are.
+// Moves the bytes from a to e to the start, of a line that is too long only so many as show that; how many they are.
 pub(crate) fn moved(s: &mut [u8], a: usize, e: usize) -> usize
     ensures { λ r. ⌜ r ≤ length (now (s .entry)) ⌝ }
 {
@@ -212,7 +241,7 @@ pub(crate) fn moved(s: &mut [u8], a: usize, e: usize) -> usize
     if e < a {
         return 0;
     }
-    let n = e - a;
+    let n = least(LONGEST + 1, e - a);
     let mut i = 0;
     while i < n {
         s[i] = s[a + i];

@@ -118,10 +118,31 @@ pub(crate) fn put_ok(text: &mut Text, used: usize) -> usize {
     put(text, used, b"ok")
 }
 
-// A refusal by document 01's number.
-pub(crate) fn put_refused(text: &mut Text, used: usize, refusal: Refusal) -> usize {
+// Document 01's number of a refusal.
+fn put_number_of(text: &mut Text, used: usize, refusal: Refusal) -> usize {
     let a = put(text, used, b"no");
     put_next(text, a, numbers::number_of(refusal) as u64)
+}
+
+// What a refusal carries comes last; 0 is nothing.
+fn put_carried(text: &mut Text, used: usize, refusal: Refusal) -> usize {
+    let carried = numbers::carried_by(refusal);
+    if carried == 0 {
+        return used;
+    }
+    put_next(text, used, carried as u64)
+}
+
+pub(crate) fn put_refused(text: &mut Text, used: usize, refusal: Refusal) -> usize {
+    let a = put_number_of(text, used, refusal);
+    put_carried(text, a, refusal)
+}
+
+// A walk's refusal, with the offset that it gives.
+pub(crate) fn put_refused_at(text: &mut Text, used: usize, refusal: Refusal, at: usize) -> usize {
+    let a = put_number_of(text, used, refusal);
+    let b = put_next(text, a, at as u64);
+    put_carried(text, b, refusal)
 }
 
 // The checksum goes on over one byte: it is xored in, and the sum multiplied by 2^40 + 435, modulo 2^64.

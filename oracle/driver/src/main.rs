@@ -11,7 +11,7 @@ use pnet::datalink::MacAddr;
 use std::io::{BufRead, Write};
 use std::panic::{AssertUnwindSafe, catch_unwind};
 use table::Table;
-use words::{Bad, Fields, bytes, checksum, number, shown, six, word};
+use words::{Bad, Fields, LONGEST_LINE, bytes, checksum, number, shown, six, word};
 
 const NO: &str = "no";
 
@@ -265,6 +265,9 @@ fn push(table: &mut Table, fields: &mut Fields) -> Result<String, Bad> {
 }
 
 fn answer(table: &mut Table, line: &str) -> Result<String, Bad> {
+    if line.len() > LONGEST_LINE {
+        return Err(Bad);
+    }
     let mut fields = line.split(' ');
     let known = |kind: Option<String>| kind.unwrap_or(NO.into());
     Ok(match word(&mut fields)? {

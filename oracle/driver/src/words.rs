@@ -5,6 +5,10 @@ use std::fmt::Write;
 /// A command that isn't one: the answer is `bad`.
 pub struct Bad;
 
+/// The longest line, and the most bytes that may come out of one.
+pub const LONGEST_LINE: usize = 32768;
+const MOST_BYTES: usize = 66000;
+
 pub type Fields<'a> = std::str::Split<'a, char>;
 
 pub fn number<T: std::str::FromStr>(fields: &mut Fields) -> Result<T, Bad> {
@@ -31,12 +35,15 @@ pub fn bytes(text: &str) -> Result<Vec<u8>, Bad> {
         return Ok(out);
     }
     while let Some(first) = rest.first() {
-        let mut times = 1;
+        let mut times: usize = 1;
         if *first == b'*' {
             let colon = rest.iter().position(|c| *c == b':').ok_or(Bad)?;
             let count = std::str::from_utf8(&rest[1..colon]).map_err(|_| Bad)?;
             times = count.parse().map_err(|_| Bad)?;
             rest = &rest[colon + 1..];
+        }
+        if times > MOST_BYTES - out.len() {
+            return Err(Bad);
         }
         out.resize(out.len() + times, pair(rest)?);
         rest = &rest[2..];

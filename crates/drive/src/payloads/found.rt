@@ -62,11 +62,6 @@ fn first_from(payload: &[u8], code: u8, from: usize) -> Hit {
     }
 }
 
-pub(crate) fn put_unwalked(refusal: Refusal, at: usize, text: &mut Text, used: usize) -> usize {
-    let a = show::put_refused(text, used, refusal);
-    show::put_next(text, a, at as u64)
-}
-
 fn put_place(place: usize, value: &[u8], text: &mut Text, used: usize) -> usize {
     let a = show::put_ok(text, used);
     let b = show::put_next(text, a, place as u64);
@@ -78,7 +73,7 @@ pub(crate) fn put_hit(hit: Hit, payload: &[u8], text: &mut Text, used: usize) ->
         Hit::At { place, start, end } => {
             put_place(place, parse::part(payload, start, end), text, used)
         }
-        Hit::Unwalked { refusal, at } => put_unwalked(refusal, at, text, used),
+        Hit::Unwalked { refusal, at } => show::put_refused_at(text, used, refusal, at),
         Hit::Refused(refusal) => show::put_refused(text, used, refusal),
     }
 }
@@ -87,7 +82,7 @@ pub(crate) fn put_hit(hit: Hit, payload: &[u8], text: &mut Text, used: usize) ->
 pub(crate) fn first(payload: &[u8], code: u8, text: &mut Text, used: usize) -> usize {
     match walking::walk(payload) {
         Walked::Count(_) => put_hit(first_from(payload, code, 0), payload, text, used),
-        Walked::Refused { refusal, at } => put_unwalked(refusal, at, text, used),
+        Walked::Refused { refusal, at } => show::put_refused_at(text, used, refusal, at),
     }
 }
 
@@ -121,7 +116,7 @@ fn is_refused(hit: Hit) -> bool {
     }
 }
 
-// D: every readable one.
+// D: every readable one. An unknown kind is told before a walk's refusal, as `finding` does.
 pub(crate) fn every(payload: &[u8], code: u8, text: &mut Text, used: usize) -> usize {
     let hit = first_from(payload, code, 0);
     if is_refused(hit) {

@@ -1,6 +1,5 @@
 // The commands of the walk: k and g.
 use crate::parse;
-use crate::payloads::found;
 use crate::payloads::listing;
 use crate::show;
 use crate::show::Text;
@@ -113,6 +112,6 @@ fn put_all(data: &[u8], count: usize, text: &mut Text, used: usize) -> usize {
 pub(crate) fn walk(data: &[u8], text: &mut Text, used: usize) -> usize {
     match walking::walk(data) {
         Walked::Count(count) => put_all(data, count, text, used),
-        Walked::Refused { refusal, at } => found::put_unwalked(refusal, at, text, used),
+        Walked::Refused { refusal, at } => show::put_refused_at(text, used, refusal, at),
     }
 }

@@ -18,6 +18,12 @@ returns c = search needs
 returns-2 : tie.Need-returns-2 Inv-loop μ-loop
 returns-2 c = search needs
 
+add-least : tie.Need-add-least Inv-loop μ-loop
+add-least c = search needs
+
+least-requires : tie.Need-least-requires Inv-loop μ-loop
+least-requires c κs = search needs
+
 loop-holds : tie.Need-loop-holds Inv-loop μ-loop
 loop-holds c = search needs
 
@@ -53,6 +59,8 @@ moved-spec =
     μ-loop
     returns
     returns-2
+    add-least
+    least-requires
     loop-holds
     add-s
     slice-read-s
