@@ -10,7 +10,7 @@ use Rattle.layouts.specs.declared.rows.Row.{Row}
 use Rattle.layouts.specs.Layouts.{Layout}
 use Rattle.layouts.specs.Reading.{Listed, listOf, entriesEnd, endOf}
 use Rattle.layouts.specs.Access.{numbers, childAt, below, findEntry, spanOf}
-use Rattle.layouts.specs.PrivateRows.{layoutAt}
+use Rattle.layouts.specs.PrivateRows.{rowBelow, rowLayout}
 use Rattle.layouts.proofs.Within.{among}
 use Rattle.layouts.proofs.Laws.{layout-more, list-level}
 
@@ -39,12 +39,12 @@ pub find-here : (l : Layout) (s : List ℕ) (p : ℕ) → findEntry l [] s p ≡
 unfolding findEntry
 find-here l s p = refl
 
--- only an entry above the lowest level has entries, and they are of the level below
-pub child-level : (row : Row) (k i : ℕ) (s : List ℕ) (p q : ℕ) → childAt (layoutAt row k) i s p ≡ gives q → 0 < k
-child-level row k i s p q x = let a = among (layoutAt row k) i s p q x in list-level row k s p (a .list) (a .has)
+-- only an entry above the lowest level has entries, and they are of the row below
+pub child-level : (row : Row) (i : ℕ) (s : List ℕ) (p q : ℕ) → childAt (rowLayout row) i s p ≡ gives q → 0 < row .levels
+child-level row i s p q x = let a = among (rowLayout row) i s p q x in list-level row s p (a .list) (a .has)
 
-pub below-row : (row : Row) (k : ℕ) → 0 < k → below (layoutAt row k) ≡ layoutAt row (k - 1)
-below-row row k h = rw (layout-more row k (omega arith))
+pub below-row : (row : Row) → 0 < row .levels → below (rowLayout row) ≡ rowLayout (rowBelow row)
+below-row row h = rw (layout-more row (omega arith))
 
 -- the numbers of a path, one at a time
 pub numbers-none : (d i j k : ℕ) → d ≤ 0 → numbers d i j k ≡ []

@@ -10,64 +10,70 @@ use lib.ListN.{length}
 use lib.Dec.{leb}
 use borrow.Author.Tests.{leb-true}
 use Rattle.numbers.specs.Numbers.{Answer, gives, refuses, andThen}
+use Rattle.numbers.proofs.Firm.{never}
+use Rattle.numbers.proofs.Answers.{follows, stops}
 use Rattle.layouts.specs.declared.rows.Row.{Row}
 use Rattle.layouts.specs.Layouts.{bytes, entry, Kind}
 use Rattle.layouts.specs.Reading.{reaching, Listed, headOf, countAt, listOf, entriesEnd, endOf, consumedTo, readAs}
-use Rattle.layouts.specs.PrivateRows.{headAt, widthAt, counting, layoutAt}
-use Rattle.layouts.proofs.Within.{reaches, cut, list-leaf, leafless}
+use Rattle.layouts.specs.PrivateRows.{counting, rowBelow, layoutIn, rowLayout}
+use Rattle.layouts.proofs.Within.{reaches, cut, list-leaf}
 
--- a level of a row
-pub layout-zero : (row : Row) (k : ℕ) → k ≡ 0 → layoutAt row k ≡ bytes (row .h0)
-unfolding layoutAt
-layout-zero row k e = rw e
+-- a row's entry: its head, and its list where it has one
+pub layout-zero : (row : Row) → row .levels ≡ 0 → rowLayout row ≡ bytes (row .h0)
+unfolding layoutIn
+layout-zero row e = rw e
 
-pub layout-more : (row : Row) (k : ℕ) → (k ≡ 0 → ⊥) → layoutAt row k ≡ entry (headAt row k) (counting (widthAt row (k - 1))) (layoutAt row (k - 1))
-unfolding layoutAt
-layout-more row zero f = absurd (f refl)
-layout-more row (suc k) f = rw (sub-one (suc k))
+pub layout-more : (row : Row) → (row .levels ≡ 0 → ⊥) → rowLayout row ≡ entry (row .h0) (counting (row .w0)) (rowLayout (rowBelow row))
+unfolding layoutIn
+layout-more row f = go (row .levels) refl where
+  go : (k : ℕ) → row .levels ≡ k → layoutIn k row ≡ entry (row .h0) (counting (row .w0)) (layoutIn (k - 1) (rowBelow row))
+  go zero e = absurd (f e)
+  go (suc k) e = rw (sub-one (suc k))
 
-head-of : (row : Row) (k : ℕ) → headOf (layoutAt row k) ≡ headAt row k
-unfolding layoutAt
-head-of row zero = refl
-head-of row (suc k) = refl
+head-of : (row : Row) → headOf (rowLayout row) ≡ row .h0
+unfolding layoutIn
+head-of row = go (row .levels) where
+  go : (k : ℕ) → headOf (layoutIn k row) ≡ row .h0
+  go zero = refl
+  go (suc k) = refl
 
--- the list of an entry stands behind its head
-pub list-none : (row : Row) (k : ℕ) (s : List ℕ) (p : ℕ) → k ≡ 0 → listOf (layoutAt row k) s p ≡ refuses 6 []
-list-none row k s p e = rw (layout-zero row k e) (list-leaf (row .h0) s p)
+module _ (row : Row) (s : List ℕ) (p : ℕ) where
+  -- the list of an entry stands behind its head
+  pub list-none : row .levels ≡ 0 → listOf (rowLayout row) s p ≡ refuses 6 []
+  list-none e = rw (layout-zero row e) (list-leaf (row .h0) s p)
 
--- only an entry above the lowest level has one
-pub list-level : (row : Row) (k : ℕ) (s : List ℕ) (p : ℕ) (m : Listed) → listOf (layoutAt row k) s p ≡ gives m → 0 < k
-list-level row zero s p m x = leafless (row .h0) s p m (rw (layout-zero row 0 refl) at x)
-list-level row (suc k) s p m x = omega arith
+  -- only an entry above the lowest level has one
+  pub list-level : (m : Listed) → listOf (rowLayout row) s p ≡ gives m → 0 < row .levels
+  list-level m x = go (row .levels) refl where
+    go : (k : ℕ) → row .levels ≡ k → 0 < k
+    go zero e = never m 6 [] (sym x ∙ list-none e)
+    go (suc k) e = omega arith
 
-pub list-cut : (row : Row) (k : ℕ) (s : List ℕ) (p : ℕ) → (k ≡ 0 → ⊥) → length s < p + headAt row k → listOf (layoutAt row k) s p ≡ refuses 3 []
-unfolding listOf
-list-cut row k s p f h = rw (layout-more row k f, cut (p + headAt row k) s (p + headAt row k) h)
+  pub list-cut : (row .levels ≡ 0 → ⊥) → length s < p + row .h0 → listOf (rowLayout row) s p ≡ refuses 3 []
+  unfolding listOf
+  list-cut f h = rw (layout-more row f, cut (p + row .h0) s (p + row .h0) h)
 
-pub list-there : (row : Row) (k : ℕ) (s : List ℕ) (p : ℕ) → (k ≡ 0 → ⊥) → p + headAt row k ≤ length s →
-    listOf (layoutAt row k) s p ≡ countAt (counting (widthAt row (k - 1))) (headAt row (k - 1)) s (p + headAt row k)
-unfolding listOf
-list-there row k s p f h = rw (layout-more row k f, reaches (p + headAt row k) s (p + headAt row k) h, head-of row (k - 1))
+  pub list-there : (row .levels ≡ 0 → ⊥) → p + row .h0 ≤ length s → listOf (rowLayout row) s p ≡ countAt (counting (row .w0)) (row .h1) s (p + row .h0)
+  unfolding listOf
+  list-there f h = rw (layout-more row f, reaches (p + row .h0) s (p + row .h0) h, head-of (rowBelow row))
 
--- an entry ends in its list
-end-list : (row : Row) (k : ℕ) (s : List ℕ) (p : ℕ) → (k ≡ 0 → ⊥) →
-    endOf (layoutAt row k) s p ≡ andThen (listOf (layoutAt row k) s p) (λ m. entriesEnd (endOf (layoutAt row (k - 1)) s) (m .many) (m .first))
-unfolding endOf
-end-list row k s p f = rw (layout-more row k f)
+  -- an entry ends in its list
+  end-list : (row .levels ≡ 0 → ⊥) → endOf (rowLayout row) s p ≡ andThen (listOf (rowLayout row) s p) (λ m. entriesEnd (endOf (rowLayout (rowBelow row)) s) (m .many) (m .first))
+  unfolding endOf
+  end-list f = rw (layout-more row f)
 
-pub end-there : (row : Row) (k : ℕ) (s : List ℕ) (p : ℕ) (m : Listed) → (k ≡ 0 → ⊥) → listOf (layoutAt row k) s p ≡ gives m →
-    entriesEnd (endOf (layoutAt row (k - 1)) s) (m .many) (m .first) ≡ endOf (layoutAt row k) s p
-end-there row k s p m f e = sym (end-list row k s p f ∙ rw e)
+  pub end-there : (m : Listed) → listOf (rowLayout row) s p ≡ gives m → entriesEnd (endOf (rowLayout (rowBelow row)) s) (m .many) (m .first) ≡ endOf (rowLayout row) s p
+  end-there m e = let l = list-level m e in sym (end-list (omega arith) ∙ follows _ m _ e)
 
-pub end-cut : (row : Row) (k : ℕ) (s : List ℕ) (p n : ℕ) (vs : List ℕ) → (k ≡ 0 → ⊥) → listOf (layoutAt row k) s p ≡ refuses n vs → refuses n vs ≡ endOf (layoutAt row k) s p
-end-cut row k s p n vs f e = sym (end-list row k s p f ∙ rw e)
+  pub end-cut : (n : ℕ) (vs : List ℕ) → (row .levels ≡ 0 → ⊥) → listOf (rowLayout row) s p ≡ refuses n vs → refuses n vs ≡ endOf (rowLayout row) s p
+  end-cut n vs f e = sym (end-list f ∙ stops _ n vs _ e)
 
-pub end-zero : (row : Row) (k : ℕ) (s : List ℕ) (p : ℕ) → k ≡ 0 → endOf (layoutAt row k) s p ≡ entriesEnd (endOf (bytes (row .h0)) s) 1 p
-unfolding entriesEnd
-end-zero row k s p e = rw (layout-zero row k e) (go (endOf (bytes (row .h0)) s p)) where
-  go : (x : Answer ℕ) → x ≡ andThen x (λ q. gives q)
-  go (gives q) = refl
-  go (refuses n vs) = refl
+  pub end-zero : row .levels ≡ 0 → endOf (rowLayout row) s p ≡ entriesEnd (endOf (bytes (row .h0)) s) 1 p
+  unfolding entriesEnd
+  end-zero e = rw (layout-zero row e) (go (endOf (bytes (row .h0)) s p)) where
+    go : (x : Answer ℕ) → x ≡ andThen x (λ q. gives q)
+    go (gives q) = refl
+    go (refuses n vs) = refl
 
 -- of the entries i to n: none is left, or one and those behind it
 pub entries-none : (f : ℕ → Answer ℕ) (n i p : ℕ) → n ≤ i → entriesEnd f (n - i) p ≡ gives p

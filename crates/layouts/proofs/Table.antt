@@ -2,13 +2,11 @@
 use mathlib.Core.Path.{_≡_, refl}
 use mathlib.Core.Bool.{Bool, true, false, cond}
 use mathlib.Core.List.{List, [], _∷_}
-use Prim.Native.Nat.{ℕ, zero, suc, _<_, _≤_}
+use Prim.Native.Nat.{ℕ}
 use native.Mathlib.Omega.{arith}
-use lib.Dec.{eqb, leb, T, leb→le}
+use lib.Dec.{eqb, T}
 use Rattle.numbers.specs.Numbers.{gives}
 use Rattle.layouts.specs.Layouts.{Counting, c1, c2, to-end, Layout, bytes, entry, Rest, handed-back, refused, Kind, Line, table, lineOf, layoutOf}
-use Rattle.layouts.specs.declared.rows.Row.{Row}
-use Rattle.layouts.specs.PrivateRows.{layoutAt, rowKind}
 
 abbrev holds : (Kind → Bool) → List Line → Bool
 holds f [] = true
@@ -27,19 +25,6 @@ each-line f (l ∷ ls) h code k x = go (each-line f ls) (f (l .kind)) refl h (eq
 pub each : (f : Kind → Bool) → T (holds f table) → (code : ℕ) (k : Kind) → layoutOf code ≡ gives k → T (f k)
 unfolding layoutOf
 each f h code k x = each-line f table h code k x
-
--- a value is a list, or a head and a list
-abbrev pub hasList : Layout → Bool
-hasList (bytes n) = false
-hasList (entry n w e) = true
-
-above-leaf : (row : Row) (k : ℕ) → T (hasList (layoutAt row k)) → 0 < k
-unfolding layoutAt
-above-leaf row zero h = absurd h
-above-leaf row (suc k) h = omega arith
-
-pub row-levels : (code : ℕ) (row : Row) → layoutOf code ≡ gives (rowKind row) → 0 < row .levels
-row-levels code row x = above-leaf row (row .levels) (each (λ k. hasList (k .layout)) tt code (rowKind row) x)
 
 -- no list of the layout goes to the end
 abbrev pub hasCount : Counting → Bool

@@ -1,7 +1,7 @@
 -- For private functions alone; no contract of a public call cites this file. What a row of the code's table says: the layout whose heads and counts it holds;
 -- and what the steps of reading and finding answer.
 use mathlib.Core.Bool.{Bool, true, false, cond}
-use Prim.Native.Nat.{ℕ, zero, suc, _*_, _<_}
+use Prim.Native.Nat.{ℕ, zero, suc, _-_, _*_, _<_}
 use lib.Dec.{eqb}
 use Rattle.numbers.specs.Numbers.{Answer, gives, told}
 use Rattle.layouts.specs.declared.rows.Row.{Row}
@@ -17,20 +17,21 @@ use Rattle.layouts.specs.Layouts.{Counting, c1, c2, to-end, Layout, byte
 use Rattle.layouts.specs.Reading.{Listed}
 use Rattle.layouts.specs.Access.{Spot}
 
-abbrev pub headAt : Row → ℕ → ℕ
-headAt row k = cond (eqb k 0) (row .h0) (cond (eqb k 1) (row .h1) (cond (eqb k 2) (row .h2) (row .h3)))
-
--- the bytes of the count of a list of entries of level k: none where the list goes to the end
-abbrev pub widthAt : Row → ℕ → ℕ
-widthAt row k = cond (eqb k 0) (row .w0) (cond (eqb k 1) (row .w1) (row .w2))
-
+-- the count of a list in so many bytes; in none where the list goes to the end
 abbrev pub counting : ℕ → Counting
 counting w = cond (eqb w 0) to-end (cond (eqb w 1) c1 c2)
 
--- an entry of level k of this row
-unfoldable pub layoutAt : Row → ℕ → Layout
-layoutAt row zero = bytes (headAt row zero)
-layoutAt row (suc k) = entry (headAt row (suc k)) (counting (widthAt row k)) (layoutAt row k)
+-- the row of the entries of its list
+abbrev pub rowBelow : Row → Row
+rowBelow row = record { levels = row .levels - 1; h0 = row .h1; w0 = row .w1; h1 = row .h2; w1 = row .w2; h2 = row .h3; w2 = 0; h3 = 0; strict = row .strict }
+
+-- the layout of an entry of this row
+unfoldable pub layoutIn : ℕ → Row → Layout
+layoutIn zero row = bytes (row .h0)
+layoutIn (suc k) row = entry (row .h0) (counting (row .w0)) (layoutIn k (rowBelow row))
+
+abbrev pub rowLayout : Row → Layout
+rowLayout row = layoutIn (row .levels) row
 
 abbrev pub restWith : Bool → Rest
 restWith true = refused
@@ -40,7 +41,7 @@ abbrev pub kindWith : Layout → Bool → Kind
 kindWith l b = record { layout = l; rest = restWith b }
 
 abbrev pub rowKind : Row → Kind
-rowKind row = kindWith (layoutAt row (row .levels)) (row .strict)
+rowKind row = kindWith (rowLayout row) (row .strict)
 
 abbrev pub rowTold : KindRow → Answer Kind
 rowTold (List row) = gives (rowKind row)
@@ -54,9 +55,9 @@ abbrev pub listTold : Listing → Answer Listed
 listTold (Of n p) = gives (record { many = n; first = p })
 listTold (NoList r) = told r
 
-abbrev pub levelTold : Row → Level → Answer Spot
-levelTold row (Reached k p) = gives (record { layout = layoutAt row k; start = p })
-levelTold row (NotReached r) = told r
+abbrev pub levelTold : Level → Answer Spot
+levelTold (Reached row p) = gives (record { layout = rowLayout row; start = p })
+levelTold (NotReached r) = told r
 
 -- the entries of a list that is there, of h bytes each, are so few that their bytes can be counted in 63 bits
 abbrev pub Few : ℕ → Listing → Type 0

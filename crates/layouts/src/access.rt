@@ -10,28 +10,29 @@ use crate::lists::read_entry;
 use crate::lists::read_list;
 use crate::lists::read_row;
 use crate::rows::Row;
+use crate::rows::row_below;
 use numbers::Refusal;
 ghost use mathlib.Core.Path.{_≡_};
-ghost use Prim.Native.Nat.{_<_, _≤_};
+ghost use Prim.Native.Nat.{_≤_};
 ghost use lib.ListN.{length};
 ghost use Rattle.layouts.specs.Access.{numbersOf, childAt, findEntry, spanOf, lengthAt, ofValue, locatedOf, countedOf};
-ghost use Rattle.layouts.specs.PrivateRows.{layoutAt, rowKind, endTold, levelTold};
+ghost use Rattle.layouts.specs.PrivateRows.{rowLayout, rowKind, endTold, levelTold};
 
-// An entry that was found: its level in the row, and where it starts.
+// An entry that was found: its row, and where it starts.
 pub enum Level {
-    Of { k: u8, at: usize },
+    Of { row: Row, at: usize },
     Refused(Refusal),
 }
 
-// Where entry i of the list of the entry of level k that starts at p starts.
-fn child(row: Row, k: u8, i: usize, s: &[u8], p: usize) -> End
+// Where entry i of the list of the entry of this row that starts at p starts.
+fn child(row: Row, i: usize, s: &[u8], p: usize) -> End
     requires { ⌜ p ≤ length (now s) ⌝ }
-    ensures { λ r. ⌜ endTold r ≡ childAt (layoutAt row k) i (now (s .entry)) p ⌝ }
+    ensures { λ r. ⌜ endTold r ≡ childAt (rowLayout row) i (now (s .entry)) p ⌝ }
 {
-    match list_at(row, k, s, p) {
+    match list_at(row, s, p) {
         Listing::Of { n, first } => {
             if i < n {
-                return read_list(row, k - 1, i, s, first);
+                return read_list(row_below(row), i, s, first);
             }
             End::Refused(Refusal::NoEntry)
         }
@@ -40,17 +41,17 @@ fn child(row: Row, k: u8, i: usize, s: &[u8], p: usize) -> End
 }
 
 // The entry with these numbers. Each turn takes one number and goes one level down.
-fn find_entry(row: Row, path: Path, s: &[u8]) -> Level
-    ensures { λ r. ⌜ levelTold row r ≡ findEntry (layoutAt row (row .levels)) (numbersOf path) (now (s .entry)) 0 ⌝ }
+fn find_entry(value: Row, path: Path, s: &[u8]) -> Level
+    ensures { λ r. ⌜ levelTold r ≡ findEntry (rowLayout value) (numbersOf path) (now (s .entry)) 0 ⌝ }
 {
-    let mut k = row.levels;
+    let mut row = value;
     let mut at = 0;
     let mut left = path.depth;
     let mut i0 = path.i0;
     let mut i1 = path.i1;
     let mut i2 = path.i2;
     while 0 < left {
-        match child(row, k, i0, s, at) {
+        match child(row, i0, s, at) {
             End::At(q) => {
                 at = q;
             }
@@ -58,24 +59,24 @@ fn find_entry(row: Row, path: Path, s: &[u8]) -> Level
                 return Level::Refused(r);
             }
         }
-        k -= 1;
+        row = row_below(row);
         left -= 1;
         i0 = i1;
         i1 = i2;
         i2 = 0;
     }
-    Level::Of { k, at }
+    Level::Of { row, at }
 }
 
 // Where the entry with these numbers lies.
 fn span_of(row: Row, path: Path, s: &[u8]) -> Located
-    ensures { λ r. ⌜ locatedOf r ≡ spanOf (layoutAt row (row .levels)) (numbersOf path) (now (s .entry)) ⌝ }
+    ensures { λ r. ⌜ locatedOf r ≡ spanOf (rowLayout row) (numbersOf path) (now (s .entry)) ⌝ }
 {
     if path.depth == 0 {
         return Located::Refused(Refusal::NoEntry);
     }
     match find_entry(row, path, s) {
-        Level::Of { k, at } => match read_entry(row, k, s, at) {
+        Level::Of { row: found, at } => match read_entry(found, s, at) {
             End::At(end) => Located::Entry { start: at, end },
             End::Refused(r) => Located::Refused(r),
         },
@@ -85,10 +86,10 @@ fn span_of(row: Row, path: Path, s: &[u8]) -> Located
 
 // How many entries the list of the entry with these numbers has.
 fn length_at(row: Row, path: Path, s: &[u8]) -> Counted
-    ensures { λ r. ⌜ countedOf r ≡ lengthAt (layoutAt row (row .levels)) (numbersOf path) (now (s .entry)) ⌝ }
+    ensures { λ r. ⌜ countedOf r ≡ lengthAt (rowLayout row) (numbersOf path) (now (s .entry)) ⌝ }
 {
     match find_entry(row, path, s) {
-        Level::Of { k, at } => match list_at(row, k, s, at) {
+        Level::Of { row: found, at } => match list_at(found, s, at) {
             Listing::Of { n, first: _ } => Counted::Entries(n),
             Listing::Refused(r) => Counted::Refused(r),
         },
@@ -98,7 +99,6 @@ fn length_at(row: Row, path: Path, s: &[u8]) -> Counted
 
 // The same two, of a value that has to read whole first.
 pub(crate) fn locate_in(row: Row, path: Path, s: &[u8]) -> Located
-    requires { ⌜ 0 < row .levels ⌝ }
     ensures { λ r. ⌜ locatedOf r ≡ ofValue (λ l t. spanOf l (numbersOf path) t) (rowKind row) (now (s .entry)) ⌝ }
 {
     match read_row(row, s) {
@@ -112,7 +112,6 @@ pub(crate) fn locate_in(row: Row, path: Path, s: &[u8]) -> Located
 }
 
 pub(crate) fn count_in(row: Row, path: Path, s: &[u8]) -> Counted
-    requires { ⌜ 0 < row .levels ⌝ }
     ensures { λ r. ⌜ countedOf r ≡ ofValue (λ l t. lengthAt l (numbersOf path) t) (rowKind row) (now (s .entry)) ⌝ }
 {
     match read_row(row, s) {

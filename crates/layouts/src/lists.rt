@@ -1,16 +1,15 @@
 // A list reader and an entry reader that call each other.
 use crate::Reading;
 use crate::rows::Row;
-use crate::rows::head_at;
+use crate::rows::row_below;
 use crate::rows::wide;
-use crate::rows::width_at;
 use numbers::Refusal;
 ghost use mathlib.Core.Path.{_≡_};
-ghost use Prim.Native.Nat.{_-_, _*_, _<_, _≤_};
+ghost use Prim.Native.Nat.{_*_, _<_, _≤_};
 ghost use lib.ListN.{length};
 ghost use Rattle.layouts.specs.Layouts.{bytes};
 ghost use Rattle.layouts.specs.Reading.{countAt, listOf, entriesEnd, endOf, readingOf, consumedTo, readAs};
-ghost use Rattle.layouts.specs.PrivateRows.{headAt, counting, layoutAt, rowKind, endTold, listTold, restWith, Few};
+ghost use Rattle.layouts.specs.PrivateRows.{counting, rowLayout, rowKind, endTold, listTold, restWith, Few};
 
 // Where a part ends.
 pub enum End {
@@ -56,19 +55,19 @@ fn count_at(w: u8, h: usize, s: &[u8], at: usize) -> Listing
     }
 }
 
-// The list of the entry of level k that starts at `at`: it stands behind the entry's head.
-pub(crate) fn list_at(row: Row, k: u8, s: &[u8], at: usize) -> Listing
+// The list of the entry of this row that starts at `at`: it stands behind the entry's head.
+pub(crate) fn list_at(row: Row, s: &[u8], at: usize) -> Listing
     requires { ⌜ at ≤ length (now s) ⌝ }
-    ensures { λ r. ⌜ (listTold r ≡ listOf (layoutAt row k) (now (s .entry)) at) × Few (headAt row (k - 1)) r ⌝ }
+    ensures { λ r. ⌜ (listTold r ≡ listOf (rowLayout row) (now (s .entry)) at) × Few (row .h1) r ⌝ }
 {
-    if k == 0 {
+    if row.levels == 0 {
         return Listing::Refused(Refusal::NoEntry);
     }
-    let head = head_at(row, k);
+    let head = wide(row.h0);
     if s.len() - at < head {
         return Listing::Refused(Refusal::CutShort);
     }
-    count_at(width_at(row, k - 1), head_at(row, k - 1), s, at + head)
+    count_at(row.w0, wide(row.h1), s, at + head)
 }
 
 // Where n entries of h bytes each end: no need to look at them.
@@ -83,18 +82,18 @@ fn skip(h: usize, n: usize, s: &[u8], at: usize) -> End
     End::At(at + size)
 }
 
-// Where n entries of level k end, the first of which starts at `at`. It goes over the entries in a loop, so that the stack grows with the levels alone.
-pub(crate) fn read_list(row: Row, k: u8, n: usize, s: &[u8], at: usize) -> End
-    requires { ⌜ (at ≤ length (now s)) × (n * headAt row k < 9223372036854775808) ⌝ }
-    ensures { λ r. ⌜ endTold r ≡ entriesEnd (endOf (layoutAt row k) (now (s .entry))) n at ⌝ }
+// Where n entries of this row end, the first of which starts at `at`. It goes over the entries in a loop, so that the stack grows with the levels alone.
+pub(crate) fn read_list(row: Row, n: usize, s: &[u8], at: usize) -> End
+    requires { ⌜ (at ≤ length (now s)) × (n * row .h0 < 9223372036854775808) ⌝ }
+    ensures { λ r. ⌜ endTold r ≡ entriesEnd (endOf (rowLayout row) (now (s .entry))) n at ⌝ }
 {
-    if k == 0 {
+    if row.levels == 0 {
         return skip(wide(row.h0), n, s, at);
     }
     let mut p = at;
     let mut i = 0;
     while i < n {
-        match read_entry(row, k, s, p) {
+        match read_entry(row, s, p) {
             End::At(q) => {
                 p = q;
             }
@@ -107,27 +106,31 @@ pub(crate) fn read_list(row: Row, k: u8, n: usize, s: &[u8], at: usize) -> End
     End::At(p)
 }
 
-// Where the entry of level k that starts at `at` ends: in the list of the level below, if it has one.
-pub(crate) fn read_entry(row: Row, k: u8, s: &[u8], at: usize) -> End
+// Where the entry of this row that starts at `at` ends: in its list, if it has one.
+pub(crate) fn read_entry(row: Row, s: &[u8], at: usize) -> End
     requires { ⌜ at ≤ length (now s) ⌝ }
-    ensures { λ r. ⌜ endTold r ≡ endOf (layoutAt row k) (now (s .entry)) at ⌝ }
+    ensures { λ r. ⌜ endTold r ≡ endOf (rowLayout row) (now (s .entry)) at ⌝ }
 {
-    if k == 0 {
+    if row.levels == 0 {
         return skip(wide(row.h0), 1, s, at);
     }
-    match list_at(row, k, s, at) {
-        Listing::Of { n, first } => read_list(row, k - 1, n, s, first),
+    match list_at(row, s, at) {
+        Listing::Of { n, first } => {
+            if row.levels == 1 {
+                return skip(wide(row.h1), n, s, first);
+            }
+            read_list(row_below(row), n, s, first)
+        }
         Listing::Refused(r) => End::Refused(r),
     }
 }
 
 // The value of this row at the start of s. Its count is read once, for the answer and for its entries.
 pub(crate) fn read_row(row: Row, s: &[u8]) -> Reading
-    requires { ⌜ 0 < row .levels ⌝ }
     ensures { λ r. ⌜ readingOf r ≡ readAs (rowKind row) (now (s .entry)) ⌝ }
 {
-    match list_at(row, row.levels, s, 0) {
-        Listing::Of { n, first } => match read_list(row, row.levels - 1, n, s, first) {
+    match list_at(row, s, 0) {
+        Listing::Of { n, first } => match read_list(row_below(row), n, s, first) {
             End::At(end) => consumed_to(row.strict, end, n, s),
             End::Refused(r) => Reading::Refused(r),
         },

@@ -3,19 +3,19 @@ use numbers::Refusal;
 ghost use mathlib.Core.Path.{_≡_};
 ghost use Prim.Native.Nat.{_<_};
 ghost use Rattle.layouts.specs.Layouts.{bytes, entry, layoutOf};
-ghost use Rattle.layouts.specs.PrivateRows.{headAt, widthAt, counting, kindWith, rowKind, rowTold};
+ghost use Rattle.layouts.specs.PrivateRows.{counting, rowBelow, kindWith, rowKind, rowTold};
 
-// A row of the table. An entry of level k is hk bytes and then, for k above 0, a list of entries of level k - 1 whose count has w(k-1) bytes: 1 or
-// 2, or 0 for a list that goes to the end. The value itself is an entry of level `levels`.
+// A row of the table: an entry of h0 bytes and then, where it has levels of lists, a list whose count has w0 bytes: 1 or 2, or 0 for a list that goes to the
+// end. An entry of that list is h1 bytes and then, where levels are left, a list whose count has w1 bytes, and so on. The value itself is an entry.
 pub struct Row {
     pub levels: u8,
-    pub h3: u8,
-    pub w2: u8,
-    pub h2: u8,
-    pub w1: u8,
-    pub h1: u8,
-    pub w0: u8,
     pub h0: u8,
+    pub w0: u8,
+    pub h1: u8,
+    pub w1: u8,
+    pub h2: u8,
+    pub w2: u8,
+    pub h3: u8,
     // bytes behind the layout are refused
     pub strict: bool,
 }
@@ -25,51 +25,69 @@ pub enum KindRow {
     Refused(Refusal),
 }
 
+// The row of the entries of its list.
+pub(crate) fn row_below(row: Row) -> Row
+    requires { ⌜ 0 < row .levels ⌝ }
+    ensures { λ r. ⌜ r ≡ rowBelow row ⌝ }
+{
+    Row {
+        levels: row.levels - 1,
+        h0: row.h1,
+        w0: row.w1,
+        h1: row.h2,
+        w1: row.w2,
+        h2: row.h3,
+        w2: 0,
+        h3: 0,
+        strict: row.strict,
+    }
+}
+
 // The rows of layouts with one, two and three levels of lists, written from the outside to the inside.
-fn one(h1: u8, w0: u8, h0: u8, strict: bool) -> Row
-    ensures { λ r. ⌜ rowKind r ≡ kindWith (entry h1 (counting w0) (bytes h0)) strict ⌝ }
+fn one(h0: u8, w0: u8, h1: u8, strict: bool) -> Row
+    ensures { λ r. ⌜ rowKind r ≡ kindWith (entry h0 (counting w0) (bytes h1)) strict ⌝ }
 {
     Row {
         levels: 1,
-        h3: 0,
-        w2: 0,
-        h2: 0,
-        w1: 0,
-        h1,
-        w0,
         h0,
+        w0,
+        h1,
+        w1: 0,
+        h2: 0,
+        w2: 0,
+        h3: 0,
         strict,
     }
 }
 
-fn two(h2: u8, w1: u8, h1: u8, w0: u8, h0: u8, strict: bool) -> Row
-    ensures { λ r. ⌜ rowKind r ≡ kindWith (entry h2 (counting w1) (entry h1 (counting w0) (bytes h0))) strict ⌝ }
+fn two(h0: u8, w0: u8, h1: u8, w1: u8, h2: u8, strict: bool) -> Row
+    ensures { λ r. ⌜ rowKind r ≡ kindWith (entry h0 (counting w0) (entry h1 (counting w1) (bytes h2))) strict ⌝ }
 {
     Row {
         levels: 2,
-        h3: 0,
-        w2: 0,
-        h2,
-        w1,
-        h1,
-        w0,
         h0,
+        w0,
+        h1,
+        w1,
+        h2,
+        w2: 0,
+        h3: 0,
         strict,
     }
 }
 
-fn three(h3: u8, w2: u8, h2: u8, w1: u8, h1: u8, w0: u8, h0: u8, strict: bool) -> Row
-    ensures { λ r. ⌜ rowKind r ≡ kindWith (entry h3 (counting w2) (entry h2 (counting w1) (entry h1 (counting w0) (bytes h0)))) strict ⌝ }
+fn three(h0: u8, w0: u8, h1: u8, w1: u8, h2: u8, w2: u8, h3: u8, strict: bool) -> Row
+    ensures { λ r. ⌜ rowKind r ≡ kindWith (entry h0 (counting w0) (entry h1 (counting w1) (entry h2 (counting w2) (bytes h3)))) strict ⌝ }
 {
     Row {
         levels: 3,
-        h3,
-        w2,
-        h2,
-        w1,
-        h1,
-        w0,
         h0,
+        w0,
+        h1,
+        w1,
+        h2,
+        w2,
+        h3,
         strict,
     }
 }
@@ -105,33 +123,4 @@ pub(crate) fn wide(x: u8) -> usize
     ensures { λ r. ⌜ (r ≡ x) × (r < 256) ⌝ }
 {
     x as usize
-}
-
-// The bytes at the head of an entry of level k.
-pub(crate) fn head_at(row: Row, k: u8) -> usize
-    ensures { λ r. ⌜ (r ≡ headAt row k) × (r < 256) ⌝ }
-{
-    if k == 0 {
-        return wide(row.h0);
-    }
-    if k == 1 {
-        return wide(row.h1);
-    }
-    if k == 2 {
-        return wide(row.h2);
-    }
-    wide(row.h3)
-}
-
-// The bytes of the count of a list of entries of level k.
-pub(crate) fn width_at(row: Row, k: u8) -> u8
-    ensures { λ r. ⌜ r ≡ widthAt row k ⌝ }
-{
-    if k == 0 {
-        return row.w0;
-    }
-    if k == 1 {
-        return row.w1;
-    }
-    row.w2
 }

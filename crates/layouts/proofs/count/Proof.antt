@@ -8,7 +8,6 @@ use Rattle.numbers.proofs.Answers.{follows, stops}
 use Rattle.layouts.specs.Layouts.{layoutOf}
 use Rattle.layouts.specs.Access.{countEntries}
 use Rattle.layouts.specs.PrivateRows.{rowKind}
-use Rattle.layouts.proofs.Table.{row-levels}
 
 row-of-requires : tie.Need-row-of-requires
 row-of-requires c κs = search needs
@@ -21,7 +20,7 @@ has : (c : tie.After-row) → layoutOf (c .before .before .before .before .args 
 has c = sym (rw (c .row .given .1) at (c .before .before .row-of .ensures))
 
 count-in-requires : tie.Need-count-in-requires
-count-in-requires c κs = let r = c .before in row-levels (r .before .before .before .before .args .code) (r .row .given .0 .0) (has r)
+count-in-requires c κs = search needs
 
 enum-known-r : tie.Need-enum-known-r
 enum-known-r c = search needs

@@ -3,11 +3,11 @@ use borrow.Author.Needs.{needs}
 use Rattle.layouts.proofs.access.child.Statement.{statement}
 use Rattle.layouts.proofs.access.child.Tie as tie
 use native.Mathlib.Omega.{arith}
-use mathlib.Core.Path.{_≡_, sym, _∙_}
-use Prim.Native.Nat.{_-_, _<_}
+use mathlib.Core.Path.{_≡_, sym, ap, _∙_}
+use Prim.Native.Nat.{_<_}
 use Rattle.numbers.specs.Numbers.{gives}
 use Rattle.layouts.specs.Reading.{listOf}
-use Rattle.layouts.specs.PrivateRows.{headAt, layoutAt}
+use Rattle.layouts.specs.PrivateRows.{rowLayout}
 use Rattle.layouts.proofs.Laws.{fewer, list-level}
 use Rattle.layouts.proofs.Within.{list-within}
 use Rattle.layouts.proofs.Finding.{child-there, child-past, child-none, below-row}
@@ -21,30 +21,32 @@ enum-known-n c = search needs
 -- the list that was found, which an entry of the lowest level has not
 has : (c : tie.After-n) →
     let a = c .before .before .before .before .args in
-    listOf (layoutAt (a .row) (a .k)) (a .s .now) (a .p) ≡ gives (record { many = c .n .given .0 .0; first = c .n .given .0 .1 .0 })
+    listOf (rowLayout (a .row)) (a .s .now) (a .p) ≡ gives (record { many = c .n .given .0 .0; first = c .n .given .0 .1 .0 })
 has c = sym (rw (c .n .given .1) at (c .before .before .list-at .ensures .0))
 
-above : (c : tie.After-n) → 0 < c .before .before .before .before .args .k
-above c = let a = c .before .before .before .before .args in list-level (a .row) (a .k) (a .s .now) (a .p) _ (has c)
+above : (c : tie.After-n) → 0 < c .before .before .before .before .args .row .levels
+above c = let a = c .before .before .before .before .args in list-level (a .row) (a .s .now) (a .p) _ (has c)
 
-sub-read-list : tie.Need-sub-read-list
-sub-read-list c = above (c .before .before)
+row-below-requires : tie.Need-row-below-requires
+row-below-requires c κs = above (c .before .before)
 
 read-list-requires : tie.Need-read-list-requires
 read-list-requires c κs =
-    let l = c .before .before in
+    let l = c .before .before .before in
     let a = l .before .before .before .before .args in
-    let g = l .n .given in (
-      list-within (layoutAt (a .row) (a .k)) (a .s .now) (a .p) _ (has l) .1,
-      fewer (a .i) (g .0 .0) (headAt (a .row) (a .k - 1)) (search needs) (rw (g .1) at (l .before .before .list-at .ensures .1)),
+    let g = l .n .given in
+    let h : c .row-below .result .h0 ≡ a .row .h1 = ap (λ r. r .h0) (c .row-below .ensures) in (
+      list-within (rowLayout (a .row)) (a .s .now) (a .p) _ (has l) .1,
+      rw h (fewer (a .i) (g .0 .0) (a .row .h1) (search needs) (rw (g .1) at (l .before .before .list-at .ensures .1))),
     )
 
 returns : tie.Need-returns
 returns c =
-    let l = c .before .before .before in
+    let l = c .before .before .before .before in
     let a = l .before .before .before .before .args in
-    let down = below-row (a .row) (a .k) (above l) in
-    c .read-list .ensures ∙ sym (rw down at (child-there (layoutAt (a .row) (a .k)) (a .i) (a .s .now) (a .p) _ (has l) (c .before .if1 .taken)))
+    let down = below-row (a .row) (above l) in
+    c .read-list .ensures ∙
+    rw (c .before .row-below .ensures) (sym (rw down at (child-there (rowLayout (a .row)) (a .i) (a .s .now) (a .p) _ (has l) (c .before .before .if1 .taken))))
 
 enum-known-r : tie.Need-enum-known-r
 enum-known-r c = search needs
@@ -53,13 +55,13 @@ returns-2 : tie.Need-returns-2
 returns-2 c =
     let l = c .before .before in
     let a = l .before .before .before .before .args in
-    sym (child-past (layoutAt (a .row) (a .k)) (a .i) (a .s .now) (a .p) _ (has l) (c .if1 .left))
+    sym (child-past (rowLayout (a .row)) (a .i) (a .s .now) (a .p) _ (has l) (c .if1 .left))
 
 returns-3 : tie.Need-returns-3
 returns-3 c =
     let d = c .before .before .before in
     let a = d .before .before .args in
-    sym (child-none (layoutAt (a .row) (a .k)) (a .i) (a .s .now) (a .p) _ _ (sym (rw (c .before .r .given .1) at (d .list-at .ensures .0))))
+    sym (child-none (rowLayout (a .row)) (a .i) (a .s .now) (a .p) _ _ (sym (rw (c .before .r .given .1) at (d .list-at .ensures .0))))
 
 pub child-spec : {M : Type 1} → statement M
 child-spec =
@@ -67,7 +69,7 @@ child-spec =
     (tie.spec
     list-at-requires
     enum-known-n
-    sub-read-list
+    row-below-requires
     read-list-requires
     returns
     enum-known-r

@@ -7,16 +7,16 @@ use lib.ListN.{length}
 use Prim.Native.Nat.{_-_, _≤_}
 use Rattle.numbers.specs.Numbers.{gives}
 use Rattle.layouts.specs.Access.{numbers, childAt, findEntry}
-use Rattle.layouts.specs.PrivateRows.{layoutAt}
+use Rattle.layouts.specs.PrivateRows.{rowLayout}
 use Rattle.layouts.proofs.Within.{child-within}
 use Rattle.layouts.proofs.Finding.{child-level, below-row, numbers-none, numbers-more, find-stop, find-on, find-here}
 
 abbrev Inv-loop : tie.InvT-loop
-Inv-loop row s k₀ at₀ left₀ i0₀ i1₀ i2₀ k at left i0 i1 i2 =
-    (at ≤ length s) × (findEntry (layoutAt row k₀) (numbers left₀ i0₀ i1₀ i2₀) s at₀ ≡ findEntry (layoutAt row k) (numbers left i0 i1 i2) s at)
+Inv-loop s row₀ at₀ left₀ i0₀ i1₀ i2₀ row at left i0 i1 i2 =
+    (at ≤ length s) × (findEntry (rowLayout row₀) (numbers left₀ i0₀ i1₀ i2₀) s at₀ ≡ findEntry (rowLayout row) (numbers left i0 i1 i2) s at)
 
 abbrev μ-loop : tie.MeasureT-loop
-μ-loop row s k₀ at₀ left₀ i0₀ i1₀ i2₀ k at left i0 i1 i2 = left
+μ-loop s row₀ at₀ left₀ i0₀ i1₀ i2₀ row at left i0 i1 i2 = left
 
 loop-holds : tie.Need-loop-holds Inv-loop μ-loop
 loop-holds c = (search needs, refl)
@@ -31,7 +31,7 @@ enum-known-q c = search needs
 has : (c : tie.After-q Inv-loop μ-loop) →
     let l = c .before .before .before .before in
     let a = l .before .before .args in
-    childAt (layoutAt (a .row) (l .loop .k)) (l .loop .i0) (a .s .now) (l .loop .at) ≡ gives (c .q .given .0 .0)
+    childAt (rowLayout (l .loop .row)) (l .loop .i0) (a .s .now) (l .loop .at) ≡ gives (c .q .given .0 .0)
 has c = sym (rw (c .q .given .1) at (c .before .before .child .ensures))
 
 enum-known-r : tie.Need-enum-known-r Inv-loop μ-loop
@@ -44,14 +44,14 @@ returns c =
     let a = l .before .before .args in
     let v = l .loop in
     let more = numbers-more (v .left) (v .i0) (v .i1) (v .i2) (d .before .loop-test .taken) in
-    let stop = find-stop (layoutAt (a .row) (v .k)) (v .i0) (a .s .now) (v .at) (numbers (v .left - 1) (v .i1) (v .i2) 0) _ _ (sym (rw (c .before .r .given .1) at (d .child .ensures))) in
+    let stop = find-stop (rowLayout (v .row)) (v .i0) (a .s .now) (v .at) (numbers (v .left - 1) (v .i1) (v .i2) 0) _ _ (sym (rw (c .before .r .given .1) at (d .child .ensures))) in
     sym (v .inv .1 ∙ rw more stop)
 
-sub-k : tie.Need-sub-k Inv-loop μ-loop
-sub-k c =
+row-below-requires : tie.Need-row-below-requires Inv-loop μ-loop
+row-below-requires c κs =
     let l = c .before .before .before .before .before in
     let a = l .before .before .args in
-    child-level (a .row) (l .loop .k) (l .loop .i0) (a .s .now) (l .loop .at) _ (has (c .before))
+    child-level (l .loop .row) (l .loop .i0) (a .s .now) (l .loop .at) _ (has (c .before))
 
 sub-left : tie.Need-sub-left Inv-loop μ-loop
 sub-left c = search needs
@@ -61,13 +61,14 @@ loop-less c = search needs
 
 loop-again : tie.Need-loop-again Inv-loop μ-loop
 loop-again c =
-    let l = c .before .before .before .before .before in
+    let q = c .before .before in
+    let l = q .before .before .before .before in
     let a = l .before .before .args in
     let v = l .loop in
-    let more = numbers-more (v .left) (v .i0) (v .i1) (v .i2) (c .before .before .before .before .loop-test .taken) in
-    let down = below-row (a .row) (v .k) (sub-k c) in
-    let on = find-on (layoutAt (a .row) (v .k)) (v .i0) (a .s .now) (v .at) (numbers (v .left - 1) (v .i1) (v .i2) 0) _ (has (c .before)) in
-    (child-within (layoutAt (a .row) (v .k)) (v .i0) (a .s .now) (v .at) _ (has (c .before)) .1, v .inv .1 ∙ rw more (rw down at on))
+    let more = numbers-more (v .left) (v .i0) (v .i1) (v .i2) (q .before .before .before .loop-test .taken) in
+    let down = below-row (v .row) (child-level (v .row) (v .i0) (a .s .now) (v .at) _ (has q)) in
+    let on = find-on (rowLayout (v .row)) (v .i0) (a .s .now) (v .at) (numbers (v .left - 1) (v .i1) (v .i2) 0) _ (has q) in
+    (child-within (rowLayout (v .row)) (v .i0) (a .s .now) (v .at) _ (has q) .1, v .inv .1 ∙ rw more (rw (c .row-below .ensures) (rw down at on)))
 
 returns-2 : tie.Need-returns-2 Inv-loop μ-loop
 returns-2 c =
@@ -75,7 +76,7 @@ returns-2 c =
     let a = l .before .before .args in
     let v = l .loop in
     let none = numbers-none (v .left) (v .i0) (v .i1) (v .i2) (c .loop-test .left) in
-    sym (v .inv .1 ∙ rw none (find-here (layoutAt (a .row) (v .k)) (a .s .now) (v .at)))
+    sym (v .inv .1 ∙ rw none (find-here (rowLayout (v .row)) (a .s .now) (v .at)))
 
 pub find-entry-spec : {M : Type 1} → statement M
 find-entry-spec =
@@ -88,7 +89,7 @@ find-entry-spec =
     enum-known-q
     enum-known-r
     returns
-    sub-k
+    row-below-requires
     sub-left
     loop-less
     loop-again

@@ -5,26 +5,26 @@ use Rattle.layouts.proofs.access.length_at.Tie as tie
 use mathlib.Core.Path.{_≡_, sym}
 use Rattle.numbers.specs.Numbers.{gives}
 use Rattle.layouts.specs.Access.{numbersOf, findEntry, lengthAt}
-use Rattle.layouts.specs.PrivateRows.{layoutAt}
+use Rattle.layouts.specs.PrivateRows.{rowLayout}
 use Rattle.layouts.proofs.Within.{find-within}
 
 find-entry-requires : tie.Need-find-entry-requires
 find-entry-requires c κs = search needs
 
-enum-known-k : tie.Need-enum-known-k
-enum-known-k c = search needs
+enum-known-found : tie.Need-enum-known-found
+enum-known-found c = search needs
 
 -- the entry that was found
-has : (c : tie.After-k) →
+has : (c : tie.After-found) →
     let a = c .before .before .before .before .args in
-    findEntry (layoutAt (a .row) (a .row .levels)) (numbersOf (a .path)) (a .s .now) 0 ≡ gives (record { layout = layoutAt (a .row) (c .k .given .0 .0); start = c .k .given .0 .1 .0 })
-has c = sym (rw (c .k .given .1) at (c .before .before .find-entry .ensures))
+    findEntry (rowLayout (a .row)) (numbersOf (a .path)) (a .s .now) 0 ≡ gives (record { layout = rowLayout (c .found .given .0 .0); start = c .found .given .0 .1 .0 })
+has c = sym (rw (c .found .given .1) at (c .before .before .find-entry .ensures))
 
 list-at-requires : tie.Need-list-at-requires
 list-at-requires c κs =
     let k = c .before in
     let a = k .before .before .before .before .args in
-    find-within (layoutAt (a .row) (a .row .levels)) (numbersOf (a .path)) (a .s .now) 0 _ (search needs) (has k) .1
+    find-within (rowLayout (a .row)) (numbersOf (a .path)) (a .s .now) 0 _ (search needs) (has k) .1
 
 enum-known-n : tie.Need-enum-known-n
 enum-known-n c = search needs
@@ -56,7 +56,7 @@ length-at-spec =
     tie.close
     (tie.spec
     find-entry-requires
-    enum-known-k
+    enum-known-found
     list-at-requires
     enum-known-n
     enum-known-r

@@ -6,7 +6,7 @@ use mathlib.Core.Path.{_≡_, sym, _∙_}
 use Rattle.numbers.specs.Numbers.{gives, andThen, mapped}
 use Rattle.layouts.specs.Reading.{endOf}
 use Rattle.layouts.specs.Access.{numbersOf, findEntry, spanOf}
-use Rattle.layouts.specs.PrivateRows.{layoutAt}
+use Rattle.layouts.specs.PrivateRows.{rowLayout}
 use Rattle.layouts.proofs.Within.{find-within}
 use Rattle.layouts.proofs.Finding.{span-none, span-some}
 
@@ -14,34 +14,34 @@ returns : tie.Need-returns
 returns c =
     let a = c .before .before .before .args in
     let p = a .path in
-    sym (span-none (layoutAt (a .row) (a .row .levels)) (p .depth) (p .i0) (p .i1) (p .i2) (a .s .now) (c .if1 .taken))
+    sym (span-none (rowLayout (a .row)) (p .depth) (p .i0) (p .i1) (p .i2) (a .s .now) (c .if1 .taken))
 
 find-entry-requires : tie.Need-find-entry-requires
 find-entry-requires c κs = search needs
 
-enum-known-k : tie.Need-enum-known-k
-enum-known-k c = search needs
+enum-known-found : tie.Need-enum-known-found
+enum-known-found c = search needs
 
 -- the two steps of a path that has a number, and the entry that was found
 some : (c : tie.After-find-entry) →
     let a = c .before .before .before .before .args in
-    spanOf (layoutAt (a .row) (a .row .levels)) (numbersOf (a .path)) (a .s .now) ≡
-    andThen (findEntry (layoutAt (a .row) (a .row .levels)) (numbersOf (a .path)) (a .s .now) 0) (λ f. mapped (λ q. record { start = f .start; end = q }) (endOf (f .layout) (a .s .now) (f .start)))
+    spanOf (rowLayout (a .row)) (numbersOf (a .path)) (a .s .now) ≡
+    andThen (findEntry (rowLayout (a .row)) (numbersOf (a .path)) (a .s .now) 0) (λ f. mapped (λ q. record { start = f .start; end = q }) (endOf (f .layout) (a .s .now) (f .start)))
 some c =
     let a = c .before .before .before .before .args in
     let p = a .path in
-    span-some (layoutAt (a .row) (a .row .levels)) (p .depth) (p .i0) (p .i1) (p .i2) (a .s .now) (c .before .if1 .left)
+    span-some (rowLayout (a .row)) (p .depth) (p .i0) (p .i1) (p .i2) (a .s .now) (c .before .if1 .left)
 
-has : (c : tie.After-k) →
+has : (c : tie.After-found) →
     let a = c .before .before .before .before .before .before .args in
-    findEntry (layoutAt (a .row) (a .row .levels)) (numbersOf (a .path)) (a .s .now) 0 ≡ gives (record { layout = layoutAt (a .row) (c .k .given .0 .0); start = c .k .given .0 .1 .0 })
-has c = sym (rw (c .k .given .1) at (c .before .before .find-entry .ensures))
+    findEntry (rowLayout (a .row)) (numbersOf (a .path)) (a .s .now) 0 ≡ gives (record { layout = rowLayout (c .found .given .0 .0); start = c .found .given .0 .1 .0 })
+has c = sym (rw (c .found .given .1) at (c .before .before .find-entry .ensures))
 
 read-entry-requires : tie.Need-read-entry-requires
 read-entry-requires c κs =
     let k = c .before in
     let a = k .before .before .before .before .before .before .args in
-    find-within (layoutAt (a .row) (a .row .levels)) (numbersOf (a .path)) (a .s .now) 0 _ (search needs) (has k) .1
+    find-within (rowLayout (a .row)) (numbersOf (a .path)) (a .s .now) 0 _ (search needs) (has k) .1
 
 enum-known-end : tie.Need-enum-known-end
 enum-known-end c = search needs
@@ -75,7 +75,7 @@ span-of-spec =
     (tie.spec
     returns
     find-entry-requires
-    enum-known-k
+    enum-known-found
     read-entry-requires
     enum-known-end
     enum-known-r

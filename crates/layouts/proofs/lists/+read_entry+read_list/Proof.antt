@@ -1,4 +1,4 @@
--- The entry reader goes one level down, the list reader over its entries: measures 2k and 2k + 1. The entries i to n behind p end where all n do.
+-- The entry reader goes one level down, the list reader over its entries: measures twice the levels, and one more. The entries i to n behind p end where all n do.
 use Prim.Native.Nat.{ℕ, _+_, _-_, _<_}
 use borrow.Fn.Kinds.{In}
 use borrow.Fn.PlainCycle.{Measures, is, falls, and}
@@ -10,12 +10,14 @@ use Rattle.layouts.proofs.lists.read_list.Kinds as read-list-kinds
 use Rattle.layouts.proofs.lists.+read_entry+read_list.Lts-read_list as read-list-lts
 use Rattle.layouts.proofs.lists.list_at.Reads as list-at-reads
 use Rattle.layouts.proofs.lists.skip.Reads as skip-reads
+use Rattle.layouts.proofs.rows.row_below.Reads as row-below-reads
 use Rattle.layouts.proofs.rows.wide.Reads as wide-reads
 use Rattle.layouts.proofs.lists.+read_entry+read_list.{statement}
 use Rattle.layouts.proofs.lists.+read_entry+read_list.Tie.{close}
 use borrow.Author.Needs.{needs}
-use mathlib.Core.Path.{_≡_, sym, _∙_}
-use Rattle.layouts.specs.PrivateRows.{layoutAt}
+use mathlib.Core.Path.{_≡_, sym, ap, _∙_}
+use native.Mathlib.Omega.{arith}
+use Rattle.layouts.specs.PrivateRows.{rowBelow, rowLayout}
 use Rattle.layouts.specs.Reading.{listOf}
 use Rattle.numbers.specs.Numbers.{gives}
 use Rattle.layouts.proofs.Laws.{layout-zero, end-there, end-cut, end-zero}
@@ -23,10 +25,10 @@ use Rattle.layouts.proofs.Within.{list-within}
 use Rattle.layouts.proofs.Loop.{Left, left-all, left-none, left-cut, left-more}
 
 abbrev μ-read-entry : Measures 1 read-entry-kinds.ps ℕ
-μ-read-entry κs a = a .1 .0 + a .1 .0
+μ-read-entry κs a = a .0 .levels + a .0 .levels
 
 abbrev μ-read-list : Measures 1 read-list-kinds.ps ℕ
-μ-read-list κs a = a .1 .0 + a .1 .0 + 1
+μ-read-list κs a = a .0 .levels + a .0 .levels + 1
 
 abbrev read-entry-at : ℕ → In 1 read-entry-kinds.ps
 read-entry-at t =
@@ -46,7 +48,7 @@ read-list-below t =
 -- what each reader may take from those that it calls
 abbrev entry-claims : ℕ → read-entry-lts.Claims
 entry-claims t =
-    (wide-reads.Asked, wide-reads.Learnt, skip-reads.Asked, skip-reads.Learnt, list-at-reads.Asked, list-at-reads.Learnt, read-list-below t, read-list.Post)
+    (wide-reads.Asked, wide-reads.Learnt, skip-reads.Asked, skip-reads.Learnt, list-at-reads.Asked, list-at-reads.Learnt, row-below-reads.Asked, row-below-reads.Learnt, read-list-below t, read-list.Post)
 
 abbrev list-claims : ℕ → read-list-lts.Claims
 list-claims t = (wide-reads.Asked, wide-reads.Learnt, skip-reads.Asked, skip-reads.Learnt, read-entry-below t, read-entry.Post)
@@ -59,8 +61,8 @@ read-entry-skip-requires t c κs = search needs
 
 read-entry-returns : (t : ℕ) → read-entry-lts.Need-returns (entry-claims t) (read-entry-at t) read-entry.Post
 read-entry-returns t c =
-    let a = c .before .before .before .before .args in
-    c .skip .ensures ∙ rw (c .before .wide .ensures .0) (sym (end-zero (a .row) (a .k) (a .s .now) (a .at) (c .before .before .if1 .taken)))
+    let a = c .before .before .before .before .before .args in
+    c .skip .ensures ∙ rw (c .before .wide .ensures .0) (sym (end-zero (a .row) (a .s .now) (a .at) (c .before .before .if1 .taken)))
 
 read-entry-list-at-requires : (t : ℕ) → read-entry-lts.Need-list-at-requires (entry-claims t) (read-entry-at t) read-entry.Post
 read-entry-list-at-requires t c κs = search needs
@@ -70,57 +72,73 @@ read-entry-enum-known-n t c = search needs
 
 -- the list that was found
 has : (t : ℕ) (c : read-entry-lts.After-n (entry-claims t) (read-entry-at t) read-entry.Post) →
-    let a = c .before .before .before .before .before .args in
-    listOf (layoutAt (a .row) (a .k)) (a .s .now) (a .at) ≡ gives (record { many = c .n .given .0 .0; first = c .n .given .0 .1 .0 })
+    let a = c .before .before .before .before .before .before .args in
+    listOf (rowLayout (a .row)) (a .s .now) (a .at) ≡ gives (record { many = c .n .given .0 .0; first = c .n .given .0 .1 .0 })
 has t c = sym (rw (c .n .given .1) at (c .before .before .list-at .ensures .0))
 
-read-entry-sub-read-list : (t : ℕ) → read-entry-lts.Need-sub-read-list (entry-claims t) (read-entry-at t) read-entry.Post
-read-entry-sub-read-list t c = search needs
+read-entry-wide-requires-2 : (t : ℕ) → read-entry-lts.Need-wide-requires-2 (entry-claims t) (read-entry-at t) read-entry.Post
+read-entry-wide-requires-2 t c κs = search needs
+
+read-entry-skip-requires-2 : (t : ℕ) → read-entry-lts.Need-skip-requires-2 (entry-claims t) (read-entry-at t) read-entry.Post
+read-entry-skip-requires-2 t c κs =
+    let l = c .before .before .before .before in
+    let a = l .before .before .before .before .before .before .args in
+    (list-within (rowLayout (a .row)) (a .s .now) (a .at) _ (has t l) .1, rw (c .wide2 .ensures .0) (rw (l .n .given .1) at (l .before .before .list-at .ensures .1)))
+
+read-entry-returns-2 : (t : ℕ) → read-entry-lts.Need-returns-2 (entry-claims t) (read-entry-at t) read-entry.Post
+read-entry-returns-2 t c =
+    let l = c .before .before .before .before .before in
+    let a = l .before .before .before .before .before .before .args in
+    let e : a .row .levels - 1 ≡ 0 = omega arith in
+    c .skip2 .ensures ∙ rw (c .before .wide2 .ensures .0, ← (layout-zero (rowBelow (a .row)) e)) (end-there (a .row) (a .s .now) (a .at) _ (has t l))
+
+read-entry-row-below-requires : (t : ℕ) → read-entry-lts.Need-row-below-requires (entry-claims t) (read-entry-at t) read-entry.Post
+read-entry-row-below-requires t c κs = search needs
 
 read-entry-read-list-requires : (t : ℕ) → read-entry-lts.Need-read-list-requires (entry-claims t) (read-entry-at t) read-entry.Post
 read-entry-read-list-requires t c κs =
-    let l = c .before in
-    let a = l .before .before .before .before .before .args in
-    let w = list-within (layoutAt (a .row) (a .k)) (a .s .now) (a .at) _ (has t l) in
-    (search needs, (w .1, rw (l .n .given .1) at (l .before .before .list-at .ensures .1)))
+    let l = c .before .before .before .before in
+    let a = l .before .before .before .before .before .before .args in
+    let e : c .row-below .result .levels ≡ a .row .levels - 1 = ap (λ r. r .levels) (c .row-below .ensures) in
+    let h : c .row-below .result .h0 ≡ a .row .h1 = ap (λ r. r .h0) (c .row-below .ensures) in
+    (omega arith, (list-within (rowLayout (a .row)) (a .s .now) (a .at) _ (has t l) .1, rw h (rw (l .n .given .1) at (l .before .before .list-at .ensures .1))))
 
 read-entry-enum-known-r : (t : ℕ) → read-entry-lts.Need-enum-known-r (entry-claims t) (read-entry-at t) read-entry.Post
 read-entry-enum-known-r t c = search needs
 
-read-entry-returns-2 : (t : ℕ) → read-entry-lts.Need-returns-2 (entry-claims t) (read-entry-at t) read-entry.Post
-read-entry-returns-2 t c =
-    let l = c .before .before in
-    let d = l .before .before in
-    let a = d .before .before .before .args in
-    c .read-list .ensures ∙ end-there (a .row) (a .k) (a .s .now) (a .at) _ (d .before .if1 .left) (has t l)
-
 read-entry-returns-3 : (t : ℕ) → read-entry-lts.Need-returns-3 (entry-claims t) (read-entry-at t) read-entry.Post
 read-entry-returns-3 t c =
+    let l = c .before .before .before .before .before in
+    let a = l .before .before .before .before .before .before .args in
+    c .read-list .ensures ∙ rw (c .before .row-below .ensures) (end-there (a .row) (a .s .now) (a .at) _ (has t l))
+
+read-entry-returns-4 : (t : ℕ) → read-entry-lts.Need-returns-4 (entry-claims t) (read-entry-at t) read-entry.Post
+read-entry-returns-4 t c =
     let d = c .before .before .before in
-    let a = d .before .before .before .args in
-    end-cut (a .row) (a .k) (a .s .now) (a .at) _ _ (d .before .if1 .left) (sym (rw (c .before .r .given .1) at (d .list-at .ensures .0)))
+    let a = d .before .before .before .before .args in
+    end-cut (a .row) (a .s .now) (a .at) _ _ (d .before .if1 .left) (sym (rw (c .before .r .given .1) at (d .list-at .ensures .0)))
 
 abbrev read-list-Inv-loop : read-list-lts.InvT-loop
-read-list-Inv-loop row k n s at p₀ i₀ p i = Left (layoutAt row k) s n at i p
+read-list-Inv-loop row n s at p₀ i₀ p i = Left (rowLayout row) s n at i p
 
 abbrev read-list-μ-loop : read-list-lts.MeasureT-loop
-read-list-μ-loop row k n s at p₀ i₀ p i = n - i
+read-list-μ-loop row n s at p₀ i₀ p i = n - i
 
 read-list-wide-requires : (t : ℕ) → read-list-lts.Need-wide-requires (list-claims t) (read-list-at t) read-list.Post read-list-Inv-loop read-list-μ-loop
 read-list-wide-requires t c κs = search needs
 
 read-list-skip-requires : (t : ℕ) → read-list-lts.Need-skip-requires (list-claims t) (read-list-at t) read-list.Post read-list-Inv-loop read-list-μ-loop
 read-list-skip-requires t c κs =
-    let p = c .before .before .before .pre .1 in
-    (p .0, rw (c .wide .ensures .0) (rw (c .before .if1 .taken) at (p .1)))
+    let p = c .before .before .before .before .pre .1 in
+    (p .0, rw (c .wide .ensures .0) (p .1))
 
 read-list-returns : (t : ℕ) → read-list-lts.Need-returns (list-claims t) (read-list-at t) read-list.Post read-list-Inv-loop read-list-μ-loop
 read-list-returns t c =
-    let a = c .before .before .before .before .args in
-    c .skip .ensures ∙ rw (c .before .wide .ensures .0, layout-zero (a .row) (a .k) (c .before .before .if1 .taken))
+    let a = c .before .before .before .before .before .args in
+    c .skip .ensures ∙ rw (c .before .wide .ensures .0, layout-zero (a .row) (c .before .before .if1 .taken))
 
 read-list-loop-holds : (t : ℕ) → read-list-lts.Need-loop-holds (list-claims t) (read-list-at t) read-list.Post read-list-Inv-loop read-list-μ-loop
-read-list-loop-holds t c = let a = c .before .before .args in left-all (layoutAt (a .row) (a .k)) (a .s .now) (a .n) (a .at) (search needs)
+read-list-loop-holds t c = let a = c .before .before .before .args in left-all (rowLayout (a .row)) (a .s .now) (a .n) (a .at) (search needs)
 
 read-list-read-entry-requires : (t : ℕ) → read-list-lts.Need-read-entry-requires (list-claims t) (read-list-at t) read-list.Post read-list-Inv-loop read-list-μ-loop
 read-list-read-entry-requires t c κs = search needs
@@ -134,9 +152,9 @@ read-list-enum-known-r t c = search needs
 read-list-returns-2 : (t : ℕ) → read-list-lts.Need-returns-2 (list-claims t) (read-list-at t) read-list.Post read-list-Inv-loop read-list-μ-loop
 read-list-returns-2 t c =
     let l = c .before .before .before .before .before in
-    let a = l .before .before .before .args in
+    let a = l .before .before .before .before .args in
     let v = l .loop in
-    left-cut (layoutAt (a .row) (a .k)) (a .s .now) (a .n) (a .at) (v .i) (v .p) (v .inv) _ _ (c .before .before .before .before .loop-test .taken) (sym (rw (c .before .r .given .1) at (c .before .before .before .read-entry .ensures)))
+    left-cut (rowLayout (a .row)) (a .s .now) (a .n) (a .at) (v .i) (v .p) (v .inv) _ _ (c .before .before .before .before .loop-test .taken) (sym (rw (c .before .r .given .1) at (c .before .before .before .read-entry .ensures)))
 
 read-list-add-i : (t : ℕ) → read-list-lts.Need-add-i (list-claims t) (read-list-at t) read-list.Post read-list-Inv-loop read-list-μ-loop
 read-list-add-i t c = search needs
@@ -147,17 +165,17 @@ read-list-loop-less t c = search needs
 read-list-loop-again : (t : ℕ) → read-list-lts.Need-loop-again (list-claims t) (read-list-at t) read-list.Post read-list-Inv-loop read-list-μ-loop
 read-list-loop-again t c =
     let l = c .before .before .before .before .before in
-    let a = l .before .before .before .args in
+    let a = l .before .before .before .before .args in
     let v = l .loop in
     let g = c .before .q .given in
-    left-more (layoutAt (a .row) (a .k)) (a .s .now) (a .n) (a .at) (v .i) (v .p) (v .inv) (g .0 .0) (c .before .before .before .before .loop-test .taken) (sym (rw (g .1) at (c .before .before .before .read-entry .ensures)))
+    left-more (rowLayout (a .row)) (a .s .now) (a .n) (a .at) (v .i) (v .p) (v .inv) (g .0 .0) (c .before .before .before .before .loop-test .taken) (sym (rw (g .1) at (c .before .before .before .read-entry .ensures)))
 
 read-list-returns-3 : (t : ℕ) → read-list-lts.Need-returns-3 (list-claims t) (read-list-at t) read-list.Post read-list-Inv-loop read-list-μ-loop
 read-list-returns-3 t c =
     let l = c .before in
-    let a = l .before .before .before .args in
+    let a = l .before .before .before .before .args in
     let v = l .loop in
-    left-none (layoutAt (a .row) (a .k)) (a .s .now) (a .n) (a .at) (v .i) (v .p) (v .inv) (c .loop-test .left)
+    left-none (rowLayout (a .row)) (a .s .now) (a .n) (a .at) (v .i) (v .p) (v .inv) (c .loop-test .left)
 
 pub +read-entry+read-list-spec : {M : Type 1} → statement M
 +read-entry+read-list-spec = close μ-read-entry μ-read-list (λ t. read-entry-lts.spec (entry-claims t)
@@ -168,11 +186,14 @@ pub +read-entry+read-list-spec : {M : Type 1} → statement M
     (read-entry-returns t)
     (read-entry-list-at-requires t)
     (read-entry-enum-known-n t)
-    (read-entry-sub-read-list t)
+    (read-entry-wide-requires-2 t)
+    (read-entry-skip-requires-2 t)
+    (read-entry-returns-2 t)
+    (read-entry-row-below-requires t)
     (read-entry-read-list-requires t)
     (read-entry-enum-known-r t)
-    (read-entry-returns-2 t)
-    (read-entry-returns-3 t))
+    (read-entry-returns-3 t)
+    (read-entry-returns-4 t))
     λ t. read-list-lts.spec (list-claims t)
     (read-list-at t)
     read-list.Post

@@ -5,37 +5,27 @@ use Rattle.layouts.proofs.lists.list_at.Tie as tie
 use native.Mathlib.Omega.{arith}
 use mathlib.Core.Path.{sym, _∙_}
 use lib.ListN.{length}
-use Prim.Native.Nat.{_+_, _-_, _≤_, _<_}
-use Rattle.layouts.specs.PrivateRows.{headAt}
+use Prim.Native.Nat.{_+_, _≤_, _<_}
 use Rattle.layouts.proofs.Laws.{list-none, list-cut, list-there}
 
 returns : tie.Need-returns
-returns c = let a = c .before .before .args in (sym (list-none (a .row) (a .k) (a .s .now) (a .at) (c .if1 .taken)), tt)
+returns c = let a = c .before .before .before .args in (sym (list-none (a .row) (a .s .now) (a .at) (c .if1 .taken)), tt)
 
-head-at-requires : tie.Need-head-at-requires
-head-at-requires c κs = search needs
+wide-requires : tie.Need-wide-requires
+wide-requires c κs = search needs
 
 sub-if2 : tie.Need-sub-if2
 sub-if2 c = search needs
 
 returns-2 : tie.Need-returns-2
 returns-2 c =
-    let a = c .before .before .before .before .args in
-    let h = c .before .head-at .ensures in
-    let l : length (a .s .now) < a .at + headAt (a .row) (a .k) = omega arith in
-    (sym (list-cut (a .row) (a .k) (a .s .now) (a .at) (c .before .before .if1 .left) l), tt)
+    let a = c .before .before .before .before .before .args in
+    let h = c .before .wide .ensures in
+    let l : length (a .s .now) < a .at + a .row .h0 = omega arith in
+    (sym (list-cut (a .row) (a .s .now) (a .at) (c .before .before .if1 .left) l), tt)
 
-sub-width-at : tie.Need-sub-width-at
-sub-width-at c = search needs
-
-width-at-requires : tie.Need-width-at-requires
-width-at-requires c κs = search needs
-
-sub-head-at : tie.Need-sub-head-at
-sub-head-at c = search needs
-
-head-at-requires-2 : tie.Need-head-at-requires-2
-head-at-requires-2 c κs = search needs
+wide-requires-2 : tie.Need-wide-requires-2
+wide-requires-2 c κs = search needs
 
 add-count-at : tie.Need-add-count-at
 add-count-at c = search needs
@@ -45,27 +35,23 @@ count-at-requires c κs = search needs
 
 returns-3 : tie.Need-returns-3
 returns-3 c =
-    let b = c .before .before .before in
-    let a = b .before .before .before .before .args in
-    let h = b .before .head-at .ensures in
-    let l : a .at + headAt (a .row) (a .k) ≤ length (a .s .now) = omega arith in
-    let there = list-there (a .row) (a .k) (a .s .now) (a .at) (b .before .before .if1 .left) l in (
-      c .count-at .ensures .0 ∙ rw (c .before .head-at2 .ensures .0, c .before .before .width-at .ensures, h .0) (sym there),
-      rw (← (c .before .head-at2 .ensures .0)) (c .count-at .ensures .1),
-    )
+    let b = c .before .before in
+    let a = b .before .before .before .before .before .args in
+    let h = b .before .wide .ensures in
+    let each = c .before .wide2 .ensures .0 in
+    let l : a .at + a .row .h0 ≤ length (a .s .now) = omega arith in
+    let there = list-there (a .row) (a .s .now) (a .at) (b .before .before .if1 .left) l in
+    (c .count-at .ensures .0 ∙ rw (each, h .0) (sym there), rw (← each) (c .count-at .ensures .1))
 
 pub list-at-spec : {M : Type 1} → statement M
 list-at-spec =
     tie.close
     (tie.spec
     returns
-    head-at-requires
+    wide-requires
     sub-if2
     returns-2
-    sub-width-at
-    width-at-requires
-    sub-head-at
-    head-at-requires-2
+    wide-requires-2
     add-count-at
     count-at-requires
     returns-3)

@@ -3,11 +3,11 @@ use borrow.Author.Needs.{needs}
 use Rattle.layouts.proofs.lists.read_row.Statement.{statement}
 use Rattle.layouts.proofs.lists.read_row.Tie as tie
 use native.Mathlib.Omega.{arith}
-use mathlib.Core.Path.{_≡_, sym, _∙_}
+use mathlib.Core.Path.{_≡_, sym, ap, _∙_}
 use Rattle.numbers.specs.Numbers.{gives}
 use Rattle.layouts.specs.Reading.{listOf, endOf, readAs}
-use Rattle.layouts.specs.PrivateRows.{layoutAt, rowKind, endTold}
-use Rattle.layouts.proofs.Laws.{end-there, read-to}
+use Rattle.layouts.specs.PrivateRows.{rowLayout, rowKind, endTold}
+use Rattle.layouts.proofs.Laws.{list-level, end-there, read-to}
 use Rattle.layouts.proofs.Within.{list-within, end-within}
 
 list-at-requires : tie.Need-list-at-requires
@@ -19,40 +19,41 @@ enum-known-n c = search needs
 -- the list that was found
 has : (c : tie.After-n) →
     let a = c .before .before .before .before .args in
-    listOf (layoutAt (a .row) (a .row .levels)) (a .s .now) 0 ≡ gives (record { many = c .n .given .0 .0; first = c .n .given .0 .1 .0 })
+    listOf (rowLayout (a .row)) (a .s .now) 0 ≡ gives (record { many = c .n .given .0 .0; first = c .n .given .0 .1 .0 })
 has c = sym (rw (c .n .given .1) at (c .before .before .list-at .ensures .0))
 
-sub-read-list : tie.Need-sub-read-list
-sub-read-list c = search needs
+row-below-requires : tie.Need-row-below-requires
+row-below-requires c κs = let l = c .before in let a = l .before .before .before .before .args in list-level (a .row) (a .s .now) 0 _ (has l)
 
 read-list-requires : tie.Need-read-list-requires
 read-list-requires c κs =
     let l = c .before .before in
     let a = l .before .before .before .before .args in
-    (list-within (layoutAt (a .row) (a .row .levels)) (a .s .now) 0 _ (has l) .1, rw (l .n .given .1) at (l .before .before .list-at .ensures .1))
+    let h : c .row-below .result .h0 ≡ a .row .h1 = ap (λ r. r .h0) (c .row-below .ensures) in
+    (list-within (rowLayout (a .row)) (a .s .now) 0 _ (has l) .1, rw h (rw (l .n .given .1) at (l .before .before .list-at .ensures .1)))
 
 -- the value ends where its list was read to
 ends : (c : tie.After-read-list) →
     let a = c .before .before .before .before .before .before .before .args in
-    endOf (layoutAt (a .row) (a .row .levels)) (a .s .now) 0 ≡ endTold (c .read-list .result)
+    endOf (rowLayout (a .row)) (a .s .now) 0 ≡ endTold (c .read-list .result)
 ends c =
     let l = c .before .before .before in
     let a = l .before .before .before .before .args in
-    sym (c .read-list .ensures ∙ end-there (a .row) (a .row .levels) (a .s .now) 0 _ (search needs) (has l))
+    sym (c .read-list .ensures ∙ rw (c .before .row-below .ensures) (end-there (a .row) (a .s .now) 0 _ (has l)))
 
 enum-known-end : tie.Need-enum-known-end
 enum-known-end c = search needs
 
 ends-at : (c : tie.After-end) →
     let a = c .before .before .before .before .before .before .before .before .before .args in
-    endOf (layoutAt (a .row) (a .row .levels)) (a .s .now) 0 ≡ gives (c .end .given .0 .0)
+    endOf (rowLayout (a .row)) (a .s .now) 0 ≡ gives (c .end .given .0 .0)
 ends-at c = rw (c .end .given .1) at (ends (c .before .before))
 
 consumed-to-requires : tie.Need-consumed-to-requires
 consumed-to-requires c κs =
     let e = c .before in
     let a = e .before .before .before .before .before .before .before .before .before .args in
-    end-within (layoutAt (a .row) (a .row .levels)) (a .s .now) 0 _ (ends-at e) .1
+    end-within (rowLayout (a .row)) (a .s .now) 0 _ (ends-at e) .1
 
 enum-known-r : tie.Need-enum-known-r
 enum-known-r c = search needs
@@ -85,7 +86,7 @@ read-row-spec =
     (tie.spec
     list-at-requires
     enum-known-n
-    sub-read-list
+    row-below-requires
     read-list-requires
     enum-known-end
     consumed-to-requires

@@ -2,10 +2,10 @@
 use Rattle.layouts.proofs.rows.three.Statement.{statement}
 use Rattle.layouts.proofs.rows.three.Tie as tie
 use mathlib.Core.Path.{refl}
-use Rattle.layouts.specs.PrivateRows.{layoutAt}
+use Rattle.layouts.specs.PrivateRows.{layoutIn}
 
 returns : tie.Need-returns
-unfolding layoutAt
+unfolding layoutIn
 returns c = refl
 
 pub three-spec : {M : Type 1} → statement M
