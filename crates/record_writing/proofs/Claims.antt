@@ -2,13 +2,14 @@
 use mathlib.Core.Path.{_≡_, refl, sym, ap, _∙_}
 use mathlib.Core.Bool.{true, false}
 use mathlib.Core.List.{List, [], _∷_, _++_, append-nil}
-use Prim.Native.Nat.{ℕ, _+_, _≤_}
+use Prim.Native.Nat.{ℕ, _≤_}
 use native.Mathlib.Omega.{arith}
 use lib.ListN.{length, take}
 use lib.Seq.{length-take-le}
 use Rattle.numbers.specs.Numbers.{gives}
 use Rattle.numbers.proofs.Firm.{by-equation, by-telling, both}
-use Rattle.framing.specs.Tlv.{readTlv, valueIn, tlvBytes, writtenOf}
+use Rattle.framing.specs.Claims.{Bytes, asRead}
+use Rattle.framing.specs.Tlv.{longestValue, readTlv, valueIn, tlvBytes, writtenOf}
 use Rattle.framing.proofs.Firm.{written-one}
 use Rattle.framing.proofs.RoundTrip.{read-written, value-written}
 use Rattle.records.specs.declared.Record.{Record}
@@ -19,8 +20,8 @@ use Rattle.records.specs.Reading.{Reading, readRecord}
 use Rattle.records.proofs.Ways.{by-kind}
 use Rattle.records.proofs.Given.{kind-read, consumed-within}
 use Rattle.record_writing.specs.Writing.{readable}
-use Rattle.record_writing.specs.Claims.{Firmness, Bytes, Rewritten, RoundTrips}
-use Rattle.record_writing.proofs.ReadBack.{itself, back}
+use Rattle.record_writing.specs.Claims.{Firmness, itself, Rewritten, RoundTrips}
+use Rattle.record_writing.proofs.ReadBack.{back}
 use Rattle.record_writing.proofs.WriteBack.{kept}
 
 pub firmness : Firmness
@@ -71,10 +72,10 @@ short-values (Record.MultiApProfile x) = omega arith
 short-values (Record.Profile2ApCapability c) = omega arith
 
 tlv-back : (r : Record) (rest : List ℕ) → readable r ≡ true → let t = tlvBytes (codeOf (kindOf r)) (bytesOf r) ++ rest in
-    (readTlv t ≡ gives (record { tlv-type = codeOf (kindOf r); value-length = length (bytesOf r); consumed = 3 + length (bytesOf r) })) × (readRecord (codeOf (kindOf r)) (valueIn (readTlv t) t) ≡ gives (itself r))
+    (readTlv t ≡ gives (asRead (codeOf (kindOf r)) (bytesOf r))) × (readRecord (codeOf (kindOf r)) (valueIn (readTlv t) t) ≡ gives (itself r))
 tlv-back r rest h =
     let c = codeOf (kindOf r) in
-    let short : length (bytesOf r) ≤ 65535 = omega (arith, short-values r) in
+    let short : length (bytesOf r) ≤ longestValue = omega (arith, short-values r) in
     (sym (read-written c (bytesOf r) rest short), rw (value-written c (bytesOf r) rest short) (alone r h))
 
 pub round-trips : RoundTrips

@@ -17,10 +17,11 @@ use Rattle.records.specs.declared.MultiApProfile.{MultiApProfile}
 use Rattle.records.specs.declared.Record.{Record}
 use Rattle.records.specs.Values.{bands, bandOf, bandByte, versions, versionOf, versionByte, results, resultOf, resultByte, profiles, profileOf, profileByte, stateOf, stateByte, bytesOf}
 use Rattle.records.specs.Kinds.{Kind, kindOf}
-use Rattle.records.specs.Reading.{Reading, fixed, ofKind}
+use Rattle.records.specs.Reading.{fixed, ofKind}
 use Rattle.records.proofs.Codes.{past}
 use Rattle.records.proofs.Ways.{bare, whole}
 use Rattle.record_writing.specs.Writing.{lowestBand, lowestVersion, lowestResult, lowestProfile, agrees, readable}
+use Rattle.record_writing.specs.Claims.{itself}
 use Rattle.record_writing.proofs.Flags.{flags-read}
 
 band-back : (x : SupportedFreqBand) → leb (lowestBand x) (bandByte x) ≡ true → bandOf (bandByte x) ≡ x
@@ -49,10 +50,6 @@ profile-back (MultiApProfile.Reserved b) h =
 state-back : (x : AssociationState) → (stateOf (stateByte x) ≡ x) × (eqb (stateByte x % 128) 0 ≡ true)
 state-back AssociationState.LeftBss = (refl, refl)
 state-back AssociationState.JoinedBss = (refl, refl)
-
--- what reading answers of a record's own bytes
-abbrev pub itself : Record → Reading
-itself r = record { value = r; consumed = length (bytesOf r) }
 
 -- a layout of as many bytes as the record has, that holds the record
 stands : (n : ℕ) (ok : Bool) (held r : Record) (t : List ℕ) → n ≡ length (bytesOf r) → ok ≡ true → held ≡ r → fixed n ok held (bytesOf r ++ t) ≡ gives (itself r)

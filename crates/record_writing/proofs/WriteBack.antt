@@ -9,6 +9,7 @@ use lib.ListN.{length, getD, take, drop}
 use lib.Seq.{drop-cons}
 use borrow.Author.Tests.{le-leb, ltb-true, lt-ltb, eqb-true, eqb-false}
 use Rattle.numbers.specs.Numbers.{gives}
+use Rattle.framing.specs.Claims.{Bytes}
 use Rattle.records.specs.declared.AssociationState.{AssociationState}
 use Rattle.records.specs.declared.Record.{Record}
 use Rattle.records.specs.Values.{bandOf, bandByte, versionOf, versionByte, resultOf, resultByte, profileOf, profileByte, stateOf, stateByte, hasAddress, queryIn, bytesOf}
@@ -16,7 +17,6 @@ use Rattle.records.specs.Kinds.{Kind, kindOf}
 use Rattle.records.specs.Reading.{Reading, fixed, ofKind}
 use Rattle.records.proofs.Given.{reads, reads-empty}
 use Rattle.record_writing.specs.Writing.{lowestBand, lowestVersion, lowestResult, lowestProfile, readable}
-use Rattle.record_writing.specs.Claims.{Bytes}
 use Rattle.record_writing.proofs.Flags.{flags-kept}
 
 -- n elements from p, one by one

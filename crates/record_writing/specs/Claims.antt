@@ -2,11 +2,12 @@
 use mathlib.Core.Path.{_≡_}
 use mathlib.Core.Bool.{true, false}
 use mathlib.Core.List.{List, [], _++_}
-use Prim.Native.Nat.{ℕ, _+_, _<_}
-use lib.ListN.{length, getD, take}
+use Prim.Native.Nat.{ℕ}
+use lib.ListN.{length, take}
 use Rattle.numbers.specs.Numbers.{gives}
 use Rattle.numbers.specs.Firmness.{Firm}
 use Rattle.framing.specs.declared.Written.{Written}
+use Rattle.framing.specs.Claims.{Bytes, asRead}
 use Rattle.framing.specs.Tlv.{readTlv, valueIn, tlvBytes, writtenOf, leaves}
 use Rattle.records.specs.declared.Record.{Record}
 use Rattle.records.specs.Values.{bytesOf}
@@ -24,9 +25,9 @@ pub record Firmness : Type 0 where
       (writtenOf (o .0) ≡ recordSize item (length out))
       × (o .1 ≡ leaves (recordSize item (length out)) (tlvBytes (codeOf (kindOf item)) (bytesOf item)) out))
 
--- each element is a byte
-abbrev pub Bytes : List ℕ → Type 0
-Bytes s = (i : ℕ) → getD s i 0 < 256
+-- what reading gives of a record's own bytes
+abbrev pub itself : Record → Reading
+itself item = record { value = item; consumed = length (bytesOf item) }
 
 -- what was read, written again: under the code that was read, as the bytes that were consumed, which alone read as the same
 pub record Rewritten (code : ℕ) (s : List ℕ) (x : Reading) : Type 0 where
@@ -39,11 +40,11 @@ pub record Rewritten (code : ℕ) (s : List ℕ) (x : Reading) : Type 0 where
 pub record RoundTrips : Type 0 where
   -- a record's bytes, with anything behind them but for the end marker, which allows nothing, read as the record
   pub read-back : (item : Record) (rest : List ℕ) → readable item ≡ true → (item ≡ Record.EndOfMessage → rest ≡ []) →
-      readRecord (codeOf (kindOf item)) (bytesOf item ++ rest) ≡ gives (record { value = item; consumed = length (bytesOf item) })
+      readRecord (codeOf (kindOf item)) (bytesOf item ++ rest) ≡ gives (itself item)
   -- the TLV of a record, with anything behind it, reads as a TLV, and its value as the record
   pub tlv-back : (item : Record) (rest : List ℕ) → readable item ≡ true → let t = tlvBytes (codeOf (kindOf item)) (bytesOf item) ++ rest in
-      (readTlv t ≡ gives (record { tlv-type = codeOf (kindOf item); value-length = length (bytesOf item); consumed = 3 + length (bytesOf item) }))
-      × (readRecord (codeOf (kindOf item)) (valueIn (readTlv t) t) ≡ gives (record { value = item; consumed = length (bytesOf item) }))
+      (readTlv t ≡ gives (asRead (codeOf (kindOf item)) (bytesOf item)))
+      × (readRecord (codeOf (kindOf item)) (valueIn (readTlv t) t) ≡ gives (itself item))
   pub write-back : (code : ℕ) (s : List ℕ) (x : Reading) → Bytes s → readRecord code s ≡ gives x → Rewritten code s x
   -- no bytes read as a record that is refused by 9
   pub never-read : (item : Record) (code : ℕ) (s : List ℕ) (x : Reading) → readable item ≡ false → Bytes s → readRecord code s ≡ gives x → x .value ≡ item → ⊥
