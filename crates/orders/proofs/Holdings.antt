@@ -5,40 +5,25 @@ use mathlib.Core.Bool.{Bool, true, false}
 use Prim.Native.Nat.{ℕ, _+_, _*_, _≤_, _<_}
 use native.Mathlib.Omega.{arith}
 use lib.Dec.{ltb}
-use lib.ListN.{length, take, drop, length-drop}
-use lib.Seq.{take-append-le, drop-append-le}
+use lib.ListN.{length}
 use borrow.Author.Tests.{ltb-true, ltb-false, lt-ltb}
 use Rattle.table.specs.declared.Table.{Table}
-use Rattle.table.specs.Rows.{Place, placeAt, rowOf, placeOf, bytesAt}
-use Rattle.pushing.specs.Joining.{Held, kept, keptAt, heldIn, since, firstTime}
+use Rattle.table.specs.Rows.{placeAt, rowOf, placeOf, bytesAt}
+use Rattle.pushing.specs.Joining.{keptAt, heldIn, since, firstTime}
 use Rattle.orders.specs.Runs.{State, holding, holdsNothing}
-use Rattle.pushing.proofs.Pieces.{kept-in, kept-out}
+use Rattle.pushing.proofs.Pieces.{kept-out, kept-same}
 use Rattle.pushing.proofs.Apart.{Untouched}
 use Rattle.pushing.proofs.Own as O
+use Rattle.table.proofs.Apart.{headed}
 use Rattle.table.proofs.Sound.{Sound, used-row}
 use Rattle.orders.proofs.Rows.{isUsed, codeAt, firstAt}
 use Rattle.orders.proofs.Lookups.{row-is}
-
--- a fragment as it lies in a place
-abbrev pub heldAs : Place → List ℕ → Held
-heldAs p payload = record { version = p .version; message-type = p .message-type; last = p .last; payload = payload }
-
--- the place as it was, and its bytes
-pub kept-same : (t t′ : Table) (store store′ : List ℕ) (i : ℕ) → placeAt t′ i ≡ placeAt t i → bytesAt store′ i (placeAt t i .size) ≡ bytesAt store i (placeAt t i .size) → i < 32 → keptAt t′ store′ i ≡ keptAt t store i
-kept-same t t′ store store′ i e b h =
-    kept-in t′ store′ i h
-    ∙ ap (λ (p : Place). kept (heldAs p (bytesAt store′ i (p .size)))) e
-    ∙ ap (λ (l : List ℕ). kept (heldAs (placeAt t i) l)) b
-    ∙ sym (kept-in t store i h)
 
 -- what the table promises of a key that a call does not touch
 pub holding-same : (z z′ : State) (c : ℕ) → Untouched c (z .table) (z′ .table) (z .store) (z′ .store) → holding c z′ ≡ holding c z
 holding-same z z′ c same = λ i. record { first = same .1 i; fragments = λ n. same .0 n i }
 
 -- bytes behind the places do not matter
-headed : (xs zs : List ℕ) (m k : ℕ) → m + k ≤ length xs → take k (drop m (xs ++ zs)) ≡ take k (drop m xs)
-headed xs zs m k h = ap (take k) (drop-append-le m xs zs (omega arith)) ∙ take-append-le k (drop m xs) zs (simp length-drop (omega arith))
-
 pub held-front : (t : Table) → Sound t → (front rest : List ℕ) → 47744 ≤ length front → (row n : ℕ) → heldIn t (front ++ rest) row n ≡ heldIn t front row n
 held-front t s front rest long row n = by-place (placeOf t row n) (ltb (placeOf t row n) 32) refl
   where

@@ -9,12 +9,11 @@ use borrow.Author.Tests.{eqb-true, eqb-false, eq-eqb, ne-eqb}
 use Rattle.table.specs.declared.Table.{Table}
 use Rattle.sweeping.specs.Sweep.{Tally, noFragments, andOne, tally}
 use Rattle.table.specs.Rows.{ownerOf, placeAt, bytesAt}
-use Rattle.pushing.specs.Joining.{Held, Kept, nothing, kept, Fragments, heldIn, andNew}
+use Rattle.pushing.specs.Joining.{Held, heldAs, Kept, nothing, kept, Fragments, heldIn, andNew}
 use Rattle.pushing.proofs.Pieces.{kept-in}
 use Rattle.table.proofs.Sound.{Sound}
 use Rattle.orders.specs.Shares.{andKept, tallyOf}
 use Rattle.orders.proofs.Lookups.{held-cases}
-use Rattle.orders.proofs.Holdings.{heldAs}
 
 -- the order of adding does not matter
 marks : (a b c : Bool) → (a || b || c) ≡ (a || c || b)

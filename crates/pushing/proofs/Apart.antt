@@ -10,14 +10,14 @@ use lib.Seq.{paste, getD-set-other}
 use borrow.Author.Tests.{eqb-true, ltb-true, ltb-false, not-true}
 use Rattle.table.specs.declared.Table.{Table}
 use Rattle.pushing.specs.declared.Arrival.{Arrival}
-use Rattle.table.specs.Rows.{Place, ownerOf, placeAt, rowOf, isSpare, placeOf, isFree, lowestFree, withKey, withPlace, without, bytesAt}
-use Rattle.pushing.specs.Joining.{kept, heldIn, heldBy, since, firstTime}
+use Rattle.table.specs.Rows.{Place, ownerOf, placeAt, rowOf, isSpare, placeOf, isFree, lowestFree, withKey, withPlace, without}
+use Rattle.pushing.specs.Joining.{keptAt, heldIn, heldBy, since, firstTime}
 pub use Rattle.pushing.specs.Claims.{Untouched}
 use Rattle.pushing.specs.Push.{Way, way, tableBy, storeBy, placeFor}
 use Rattle.table.proofs.Search.{lowest-holds}
 use Rattle.table.proofs.Apart.{Same, same-place, put-same, row-after-drop, time-after-drop, drop-same, row-after-open}
 use Rattle.table.proofs.Sound.{Sound, used-row, place-holds, row-holds}
-use Rattle.pushing.proofs.Pieces.{kept-in, kept-out, fragment}
+use Rattle.pushing.proofs.Pieces.{kept-out, kept-same}
 use Rattle.pushing.proofs.Ways.{Went, went, went-refuse, went-replace, went-keep, went-open, went-end}
 
 -- what a row that stays as it was holds
@@ -30,12 +30,7 @@ module _ (t t′ : Table) (store store′ : List ℕ) (row : ℕ) (same : Same t
           let i = placeOf t row number in
           let h = ltb-true i 32 e in
           let own = place-holds t row number h .0 in
-          let there : placeOf t′ row number < 32 = omega (arith, same-place t t′ store store′ row same number) in
-          kept-in t′ store′ (placeOf t′ row number) there
-          ∙ ap (λ (j : ℕ). kept (fragment t′ store′ j)) (same-place t t′ store store′ row same number)
-          ∙ ap (λ (p : Place). kept (record { version = p .version; message-type = p .message-type; last = p .last; payload = bytesAt store′ i (p .size) })) (same .stays i own)
-          ∙ ap (λ (l : List ℕ). kept (record { version = placeAt t i .version; message-type = placeAt t i .message-type; last = placeAt t i .last; payload = l })) (same .bytes i own)
-          ∙ sym (kept-in t store i h)
+          ap (keptAt t′ store′) (same-place t t′ store store′ row same number) ∙ kept-same t t′ store store′ i (same .stays i own) (same .bytes i own) h
       by-found false e =
           let out : 32 ≤ placeOf t′ row number = omega (arith, same-place t t′ store store′ row same number, ltb-false (placeOf t row number) 32 e) in
           kept-out t′ store′ (placeOf t′ row number) out ∙ sym (kept-out t store (placeOf t row number) (ltb-false _ _ e))

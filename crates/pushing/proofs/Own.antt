@@ -12,12 +12,12 @@ use Rattle.table.specs.declared.Table.{Table}
 use Rattle.pushing.specs.declared.Fragment.{Fragment}
 use Rattle.pushing.specs.declared.Arrival.{Arrival}
 use Rattle.table.specs.Rows.{Place, ownerOf, placeAt, isRowOf, rowOf, isSpare, isNumbered, placeOf, isFree, withKey, withPlace, without, bytesAt}
-use Rattle.pushing.specs.Joining.{Fragments, Held, Kept, nothing, kept, heldOf, keptAt, heldIn, heldBy, andNew, Since, never, since, firstTime}
+use Rattle.pushing.specs.Joining.{Fragments, Held, Kept, nothing, kept, heldOf, heldAs, keptAt, heldIn, heldBy, andNew, Since, never, since, firstTime}
 use Rattle.pushing.specs.Push.{Way, refuse, replace, keepAt, openAt, end, way, tableBy, storeBy, placeFor}
 use Rattle.table.proofs.Search.{lowest-is, lowest-holds, lowest-before, lowest-same}
 use Rattle.table.proofs.Places.{put-here, put-elsewhere}
 use Rattle.table.proofs.Sound.{Sound, place-holds, no-place, not-held, numbered-both, open-sound, drop-sound}
-use Rattle.pushing.proofs.Pieces.{kept-in, kept-out, fragment}
+use Rattle.pushing.proofs.Pieces.{kept-in, kept-out, kept-same}
 use Rattle.table.proofs.Apart.{bytes-apart, drop-gone}
 use Rattle.pushing.proofs.Ways.{Went, went, went-refuse, went-replace, went-keep, went-open, went-end}
 
@@ -30,7 +30,11 @@ bytes-here d s at h =
     ∙ ap (λ (l : List ℕ). take (length s) (l ++ drop (at + length s) d)) (take-length s)
     ∙ take-at s (drop (at + length s) d) (length s) refl
 
--- a key that the table does not hold
+-- a key that the table holds, and one that it does not
+pub present-since : (t : Table) (key : ℕ) → rowOf t key < 16 → firstTime t key ≡ since (getD (t .firsts) (rowOf t key) 0)
+unfolding firstTime
+present-since t key h = rw (lt-ltb _ _ h)
+
 module _ (t : Table) (s : Sound t) (key : ℕ) (out : 16 ≤ rowOf t key) where
   pub absent : (store : List ℕ) (number : ℕ) → heldBy t store key number ≡ nothing
   absent store number = kept-out t store (placeOf t (rowOf t key) number) (no-place t s (rowOf t key) number out)
@@ -84,8 +88,7 @@ module _ (t : Table) (s : Sound t) (store payload : List ℕ) (row i : ℕ) (f :
   new-held : (k : ℕ) → k ≡ f .number → heldIn t′ store′ row k ≡ kept (heldOf f payload)
   new-held k e =
       ap (heldIn t′ store′ row) e ∙ ap (keptAt t′ store′) (sym new-place) ∙ kept-in t′ store′ i h
-      ∙ ap (λ (q : Place). kept (record { version = q .version; message-type = q .message-type; last = q .last; payload = bytesAt store′ i (q .size) })) here
-      ∙ ap (λ (l : List ℕ). kept (record { version = f .version; message-type = f .«message_type»; last = f .last; payload = l })) (bytes-here store payload (i * 1492) (omega arith))
+      ∙ ap (λ (q : Place). kept (heldAs q (bytesAt store′ i (q .size)))) here ∙ ap (λ (l : List ℕ). kept (heldOf f l)) (bytes-here store payload (i * 1492) (omega arith))
 
   other-held : (k : ℕ) → (k ≡ f .number → ⊥) → heldIn t′ store′ row k ≡ heldIn t store row k
   other-held k ne = ap (keptAt t′ store′) (other-place k ne) ∙ by-found (ltb (placeOf t row k) 32) refl
@@ -97,10 +100,7 @@ module _ (t : Table) (s : Sound t) (store payload : List ℕ) (row i : ℕ) (f :
           let l = ltb-true j 32 e in
           let holds = place-holds t row k l in
           let j≢i : j ≡ i → ⊥ = λ same. ne (sym (holds .1) ∙ ap (λ (m : ℕ). placeAt t m .number) same ∙ old (ap (λ (m : ℕ). placeAt t m .owner) (sym same) ∙ holds .0)) in
-          kept-in t′ store′ j l
-          ∙ ap (λ (q : Place). kept (record { version = q .version; message-type = q .message-type; last = q .last; payload = bytesAt store′ j (q .size) })) (elsewhere j j≢i)
-          ∙ ap (λ (b : List ℕ). kept (record { version = placeAt t j .version; message-type = placeAt t j .message-type; last = placeAt t j .last; payload = b })) (bytes-apart store payload i j (placeAt t j .size) j≢i (s .small j) small h long)
-          ∙ sym (kept-in t store j l)
+          kept-same t t′ store store′ j (elsewhere j j≢i) (bytes-apart store payload i j (placeAt t j .size) j≢i (s .small j) small h long) l
 
   pub put-held : (k : ℕ) → heldIn t′ store′ row k ≡ andNew (heldIn t store row) (f .number) (heldOf f payload) k
   put-held k = by-number (eqb k (f .number)) refl

@@ -16,9 +16,9 @@ use Rattle.pushing.specs.declared.join.Verdict.{Verdict}
 use Rattle.pushing.specs.declared.join.Verdict.the-variants.{Inconsistent, Missing, MissingLast, Message}
 use Rattle.table.specs.Search.{lowest, some}
 use Rattle.table.specs.Rows.{Place, ownerOf, placeAt, placeOf, bytesAt}
-use Rattle.pushing.specs.Joining.{Held, Kept, nothing, kept, Fragments, isKept, heldOf, heldIn, andNew, keptAt, unlike, inconsistentWith, reach, gapped, isLast, payloadOf, inOrder, payloads}
+use Rattle.pushing.specs.Joining.{Held, Kept, nothing, kept, Fragments, isKept, heldOf, heldAs, heldIn, andNew, keptAt, unlike, inconsistentWith, reach, gapped, isLast, payloadOf, inOrder, payloads}
 use Rattle.pushing.specs.Push.{messageWay, joinWay, joinedWith, over}
-use Rattle.pushing.specs.PrivateSteps.{Places, placesIn, numberedIn, unlikeIn, beyondIn, pieceAt, sizeAt, markedAt, pieceBytes, sizeTo, piecesTo, isGap, countFor, verdictFor, joinWayIn}
+use Rattle.pushing.specs.PrivateSteps.{placesIn, numberedIn, unlikeIn, beyondIn, pieceAt, sizeAt, markedAt, pieceBytes, sizeTo, piecesTo, isGap, countFor, verdictFor, joinWayIn}
 use Rattle.table.proofs.Search.{lowest-le, lowest-holds, lowest-before, lowest-same}
 use Rattle.table.proofs.Sound.{Sound, owned-place, place-holds, not-held, held-at}
 
@@ -103,12 +103,12 @@ at-most sizes size small h piece = by-place (ltb piece 32)
     by-place false = h
 
 -- the tests of `verdictFor`, in the code's words
-module _ (p : Places) (row : ℕ) (f : Fragment) (size : ℕ) where
+module _ (p : Table) (row : ℕ) (f : Fragment) (size : ℕ) where
   abbrev n : ℕ
   n = countFor (p .owners) (p .numbers) row (f .number)
 
   abbrev unlikely : ℕ
-  unlikely = unlikeIn (p .owners) (p .versions) (p .message-types) (ownerOf row) (f .version) (f .«message_type»)
+  unlikely = unlikeIn (p .owners) (p .versions) (p .«message_types») (ownerOf row) (f .version) (f .«message_type»)
 
   abbrev beyond : ℕ
   beyond = beyondIn (p .owners) (p .numbers) (ownerOf row) n
@@ -230,7 +230,7 @@ module _ (sizes owners numbers store : List ℕ) (row number : ℕ) (payload : L
 -- what a place holds
 module _ (t : Table) (store : List ℕ) (i : ℕ) where
   abbrev pub fragment : Held
-  fragment = record { version = placeAt t i .version; message-type = placeAt t i .message-type; last = placeAt t i .last; payload = bytesAt store i (placeAt t i .size) }
+  fragment = heldAs (placeAt t i) (bytesAt store i (placeAt t i .size))
 
   pub kept-in : i < 32 → keptAt t store i ≡ kept fragment
   unfolding keptAt
@@ -240,11 +240,19 @@ module _ (t : Table) (store : List ℕ) (i : ℕ) where
   unfolding keptAt
   kept-out h = rw (le-ltb _ _ h)
 
+-- the place as it was, and its bytes
+pub kept-same : (t t′ : Table) (store store′ : List ℕ) (i : ℕ) → placeAt t′ i ≡ placeAt t i → bytesAt store′ i (placeAt t i .size) ≡ bytesAt store i (placeAt t i .size) → i < 32 → keptAt t′ store′ i ≡ keptAt t store i
+kept-same t t′ store store′ i e b h =
+    kept-in t′ store′ i h
+    ∙ ap (λ (p : Place). kept (heldAs p (bytesAt store′ i (p .size)))) e
+    ∙ ap (λ (l : List ℕ). kept (heldAs (placeAt t i) l)) b
+    ∙ sym (kept-in t store i h)
+
 -- the fragments that a last one is joined with, itself among them
 abbrev pub among : Table → List ℕ → ℕ → Fragment → List ℕ → Fragments
 among t store row f payload = andNew (heldIn t store row) (f .number) (heldOf f payload)
 
-abbrev pub placesOf : Table → Places
+abbrev pub placesOf : Table → Table
 placesOf t = placesIn (t .«message_types») (t .sizes) (t .owners) (t .numbers) (t .versions) (t .lasts)
 
 pub place-le : (t : Table) (row k : ℕ) → placeOf t row k ≤ 32
@@ -257,7 +265,7 @@ module _ (t : Table) (store : List ℕ) (row : ℕ) (f : Fragment) (payload : Li
   abbrev new : Held
   new = heldOf f payload
 
-  abbrev P : Places
+  abbrev P : Table
   P = placesOf t
 
   abbrev size : ℕ

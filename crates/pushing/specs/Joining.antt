@@ -8,7 +8,7 @@ use Rattle.pushing.specs.declared.Fragment.{Fragment}
 use Rattle.table.specs.declared.Table.{Table}
 use Rattle.table.specs.Search.{lowest, some}
 use Rattle.sweeping.specs.Sweep.{isOld}
-use Rattle.table.specs.Rows.{keys, places, placeAt, placeOf, rowOf, bytesAt}
+use Rattle.table.specs.Rows.{keys, places, Place, placeAt, placeOf, rowOf, bytesAt}
 
 -- "A fragment is its version, type, number, last mark and payload"; the number is where it stands among the key's fragments
 pub record Held : Type 0 where
@@ -32,12 +32,12 @@ isKept (kept h) = true
 abbrev pub heldOf : Fragment → List ℕ → Held
 heldOf f payload = record { version = f .version; message-type = f .«message_type»; last = f .last; payload = payload }
 
+abbrev pub heldAs : Place → List ℕ → Held
+heldAs p payload = record { version = p .version; message-type = p .message-type; last = p .last; payload = payload }
+
 -- what place i holds, its bytes from the store
 unfoldable pub keptAt : Table → List ℕ → ℕ → Kept
-keptAt t store i =
-    cond (ltb i places)
-    (kept (record { version = placeAt t i .version; message-type = placeAt t i .message-type; last = placeAt t i .last; payload = bytesAt store i (placeAt t i .size) }))
-    nothing
+keptAt t store i = cond (ltb i places) (kept (heldAs (placeAt t i) (bytesAt store i (placeAt t i .size)))) nothing
 
 -- what a row holds, and what a key holds
 abbrev pub heldIn : Table → List ℕ → ℕ → Fragments

@@ -38,17 +38,9 @@ unlikeIn owners versions types owner version type = lowest (λ i. eqb (getD owne
 abbrev pub beyondIn : (owners numbers : List ℕ) → (owner number : ℕ) → ℕ
 beyondIn owners numbers owner number = lowest (λ i. eqb (getD owners i 0) owner && ltb number (getD numbers i 0)) places
 
--- the six lists of a table's places
-pub record Places : Type 0 where
-  pub message-types : List ℕ
-  pub sizes : List ℕ
-  pub owners : List ℕ
-  pub numbers : List ℕ
-  pub versions : List ℕ
-  pub lasts : List Bool
-
-abbrev pub placesIn : (message-types sizes owners numbers versions : List ℕ) → List Bool → Places
-placesIn message-types sizes owners numbers versions lasts = record { message-types = message-types; sizes = sizes; owners = owners; numbers = numbers; versions = versions; lasts = lasts }
+-- a table of which only the six lists of its places are known
+abbrev pub placesIn : (types sizes owners numbers versions : List ℕ) → List Bool → Table
+placesIn types sizes owners numbers versions lasts = record { codes = []; firsts = []; «message_types» = types; sizes = sizes; owners = owners; numbers = numbers; versions = versions; lasts = lasts; used = [] }
 
 -- where the piece with number k lies: in a place, at the number of places where there is none, and one behind that where it is the new fragment
 abbrev pub newPiece : ℕ
@@ -83,9 +75,9 @@ countFor owners numbers row number = lowest (isGap owners numbers row number) 25
 abbrev pub reachFor : (sizes owners numbers : List ℕ) → (row number size : ℕ) → Reach
 reachFor sizes owners numbers row number size = record { count = countFor owners numbers row number; total = sizeTo sizes owners numbers row number size (countFor owners numbers row number) }
 
-unfoldable pub verdictFor : Places → ℕ → Fragment → ℕ → Verdict
+unfoldable pub verdictFor : Table → ℕ → Fragment → ℕ → Verdict
 verdictFor p row f size =
-    cond (ltb (unlikeIn (p .owners) (p .versions) (p .message-types) (ownerOf row) (f .version) (f .«message_type»)) places) Inconsistent
+    cond (ltb (unlikeIn (p .owners) (p .versions) (p .«message_types») (ownerOf row) (f .version) (f .«message_type»)) places) Inconsistent
     (cond (ltb (countFor (p .owners) (p .numbers) row (f .number)) (f .number)) Missing
     (cond (ltb (beyondIn (p .owners) (p .numbers) (ownerOf row) (countFor (p .owners) (p .numbers) row (f .number))) places) Missing
     (cond (markedAt (p .lasts) (f .last) (pieceAt (p .owners) (p .numbers) row (f .number) (countFor (p .owners) (p .numbers) row (f .number) - 1)))
@@ -99,7 +91,7 @@ verdictWay Missing bytes room = end missing []
 verdictWay MissingLast bytes room = end missingLast []
 verdictWay (Message n total) bytes room = messageWay n (bytes n) room
 
-abbrev pub joinWayIn : Places → List ℕ → ℕ → Fragment → List ℕ → (room : ℕ) → Way
+abbrev pub joinWayIn : Table → List ℕ → ℕ → Fragment → List ℕ → (room : ℕ) → Way
 joinWayIn p store row f payload room = verdictWay (verdictFor p row f (length payload)) (piecesTo (p .sizes) (p .owners) (p .numbers) store row (f .number) payload) room
 
 -- what each way does to the table, for a key with this row

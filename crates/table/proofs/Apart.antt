@@ -15,7 +15,7 @@ use Rattle.table.proofs.Places.{put-here, put-elsewhere, freed-at}
 use Rattle.table.proofs.Sound.{Sound, row-holds, dropped-unused, dropped-other, dropped-code}
 
 -- bytes of one place while another is written
-headed : (xs zs : List ℕ) (m k : ℕ) → m + k ≤ length xs → take k (drop m (xs ++ zs)) ≡ take k (drop m xs)
+pub headed : (xs zs : List ℕ) (m k : ℕ) → m + k ≤ length xs → take k (drop m (xs ++ zs)) ≡ take k (drop m xs)
 headed xs zs m k h =
     ap (take k) (drop-append-le m xs zs (omega arith)) ∙ take-append-le k (drop m xs) zs (simp length-drop (omega arith))
 

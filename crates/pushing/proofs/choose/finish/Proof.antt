@@ -4,10 +4,11 @@ use mathlib.Core.List.{List, []}
 use Prim.Native.Nat.{ℕ, _≤_}
 use lib.ListN.{length}
 use denote.Ref.{now}
+use Rattle.table.specs.declared.Table.{Table}
 use Rattle.pushing.specs.declared.join.Verdict.{Verdict}
 use Rattle.pushing.specs.declared.join.Verdict.the-variants.{Message}
 use Rattle.pushing.specs.Push.{inconsistent, missing, missingLast}
-use Rattle.pushing.specs.PrivateSteps.{Places, placesIn, piecesTo, verdictWay, joinWayIn}
+use Rattle.pushing.specs.PrivateSteps.{placesIn, piecesTo, verdictWay, joinWayIn}
 use Rattle.pushing.proofs.Pieces.{counted-as, pieces-size}
 use Rattle.pushing.proofs.Ends.{ends}
 use borrow.Author.Needs.{needs}
@@ -19,7 +20,7 @@ module _ (c : tie.After-judge) where
   abbrev start : tie.Start
   start = c .before .before .before .before
 
-  abbrev places : Places
+  abbrev places : Table
   places = placesIn (now (start .args .types)) (now (start .args .sizes)) (now (start .args .owners)) (now (start .args .numbers)) (now (start .args .versions)) (now (start .args .lasts))
 
   abbrev upto : ℕ → List ℕ
