@@ -53,5 +53,9 @@ module _ (s : List ℕ) where
   pub value-given : (t : TlvRead) → gives t ≡ readTlv s → (take (t .consumed - 3) (drop 3 s) ≡ valueIn (readTlv s) s) × (3 ≡ valueFrom (readTlv s))
   value-given t e = let l : t .consumed - 3 ≡ t .value-length = omega (arith, reads s t e .all) in rw (← e, l) (refl, refl)
 
-  pub value-refused : (n : ℕ) (vs : List ℕ) → refuses n vs ≡ readTlv s → ([] ≡ valueIn (readTlv s) s) × (0 ≡ valueFrom (readTlv s))
-  value-refused n vs e = rw (← e) (refl, refl)
+  pub value-refused : (n : ℕ) (vs part : List ℕ) → refuses n vs ≡ readTlv s → length part ≡ 0 → part ≡ valueIn (readTlv s) s
+  value-refused n vs [] e l = rw (← e)
+  value-refused n vs (b ∷ part) e l = absurd (omega arith)
+
+  pub from-start : (n : ℕ) (vs : List ℕ) → refuses n vs ≡ readTlv s → 0 ≡ valueFrom (readTlv s)
+  from-start n vs e = rw (← e)

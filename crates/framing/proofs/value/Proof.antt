@@ -2,10 +2,11 @@
 use mathlib.Core.Path.{sym, _∙_, ap}
 use Prim.Native.Nat.{ℕ}
 use native.Mathlib.Omega.{arith}
+use lib.ListN.{length-take}
 use borrow.Author.Needs.{needs}
 use Rattle.numbers.specs.Parts.{behind}
 use Rattle.framing.specs.Tlv.{readOf}
-use Rattle.framing.proofs.Reading.{reads, value-given, value-refused}
+use Rattle.framing.proofs.Reading.{reads, value-given, value-refused, from-start}
 use Rattle.framing.proofs.value.Statement.{statement}
 use Rattle.framing.proofs.value.Tie as tie
 
@@ -43,8 +44,8 @@ returns c =
 
 returns-2 : tie.Need-returns-2
 returns-2 c =
-    let v = value-refused _ _ _ (ap readOf (sym (c .before .enum-told .given .1)) ∙ c .before .before .before .read-tlv .ensures) in
-    (v .0, ap (λ (n : ℕ). behind n (c .before .before .before .before .before .args .s)) (v .1))
+    let e = ap readOf (sym (c .before .enum-told .given .1)) ∙ c .before .before .before .read-tlv .ensures in
+    (value-refused _ _ _ _ e (search (needs, length-take)), ap (λ (n : ℕ). behind n (c .before .before .before .before .before .args .s)) (from-start _ _ _ e))
 
 pub value-spec : {M : Type 1} → statement M
 value-spec =
