@@ -8,7 +8,7 @@ use borrow.Author.Tests.{lt-ltb, le-ltb}
 use Rattle.numbers.specs.Numbers.{gives, refuses}
 use Rattle.records.specs.declared.Record.{Record}
 use Rattle.records.specs.Kinds.{Kind, codeOf}
-use Rattle.records.specs.Reading.{Reading, empty, fixed, ofKind, readRecord}
+use Rattle.records.specs.Reading.{empty, fixed, ofKind, readRecord}
 
 module _ (r : Record) (s : List ℕ) where
   pub filled : 0 < length s → refuses 4 [] ≡ empty r s

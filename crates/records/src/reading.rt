@@ -16,7 +16,7 @@ use numbers::Refusal;
 ghost use mathlib.Core.Path.{_≡_};
 ghost use Prim.Native.Nat.{_≤_};
 ghost use lib.ListN.{getD};
-ghost use Rattle.records.specs.Values.{addressAt, queryIn, associationIn, capabilityIn};
+ghost use Rattle.records.specs.Values.{addressAt};
 ghost use Rattle.records.specs.Kinds.{Kind};
 ghost use Rattle.records.specs.Reading.{readOf, fixed, ofKind};
 
