@@ -143,25 +143,25 @@ module _ (p : Table) (row : ℕ) (f : Fragment) (size : ℕ) where
         verdict-unmarked h = rw (le-ltb _ _ h₁, le-ltb _ _ h₂, le-ltb _ _ h₃, h)
 
   -- a message has at most 256 pieces, and their bytes
-  abbrev Counted : Verdict → Type 0
-  Counted Inconsistent = Unit {0}
-  Counted Missing = Unit {0}
-  Counted MissingLast = Unit {0}
-  Counted (Message k bytes) = (k ≤ 256) × (bytes ≡ sizeTo (p .sizes) (p .owners) (p .numbers) row (f .number) size k)
+  abbrev Sized : Verdict → Type 0
+  Sized Inconsistent = Unit {0}
+  Sized Missing = Unit {0}
+  Sized MissingLast = Unit {0}
+  Sized (Message k bytes) = (k ≤ 256) × (bytes ≡ sizeTo (p .sizes) (p .owners) (p .numbers) row (f .number) size k)
 
-  counted : Counted (verdictFor p row f size)
+  sized-so : Sized (verdictFor p row f size)
   unfolding verdictFor
-  counted = by-tests (ltb unlikely 32) (ltb n (f .number)) (ltb beyond 32) marked
+  sized-so = by-tests (ltb unlikely 32) (ltb n (f .number)) (ltb beyond 32) marked
     where
-      by-tests : (a b c d : Bool) → Counted (cond a Inconsistent (cond b Missing (cond c Missing (cond d (Message n total) MissingLast))))
+      by-tests : (a b c d : Bool) → Sized (cond a Inconsistent (cond b Missing (cond c Missing (cond d (Message n total) MissingLast))))
       by-tests true b c d = tt
       by-tests false true c d = tt
       by-tests false false true d = tt
       by-tests false false false true = (lowest-le (isGap (p .owners) (p .numbers) row (f .number)) 256, refl)
       by-tests false false false false = tt
 
-  pub counted-as : (k bytes : ℕ) → verdictFor p row f size ≡ Message k bytes → (k ≤ 256) × (bytes ≡ sizeTo (p .sizes) (p .owners) (p .numbers) row (f .number) size k)
-  counted-as k bytes e = subst Counted e counted
+  pub sized-as : (k bytes : ℕ) → verdictFor p row f size ≡ Message k bytes → (k ≤ 256) × (bytes ≡ sizeTo (p .sizes) (p .owners) (p .numbers) row (f .number) size k)
+  sized-as k bytes e = subst Sized e sized-so
 
 -- the bytes of a piece, with a store that has room for the places
 module _ (sizes store payload : List ℕ) where

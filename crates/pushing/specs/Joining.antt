@@ -29,6 +29,7 @@ abbrev pub isKept : Kept → Bool
 isKept nothing = false
 isKept (kept h) = true
 
+-- as it arrives, and as a place keeps it
 abbrev pub heldOf : Fragment → List ℕ → Held
 heldOf f payload = record { version = f .version; message-type = f .«message_type»; last = f .last; payload = payload }
 
@@ -51,13 +52,13 @@ pub data Since : Type 0 where
   never : Since
   since : ℕ → Since
 
--- "drops a key exactly when elapsed is at least 3,000"
+unfoldable pub firstTime : Table → ℕ → Since
+firstTime t key = cond (ltb (rowOf t key) keys) (since (getD (t .firsts) (rowOf t key) 0)) never
+
+-- a sweep drops it
 abbrev pub due : ℕ → Since → Bool
 due now-ms never = false
 due now-ms (since first) = isOld now-ms first
-
-unfoldable pub firstTime : Table → ℕ → Since
-firstTime t key = cond (ltb (rowOf t key) keys) (since (getD (t .firsts) (rowOf t key) 0)) never
 
 -- "Join it with those kept."
 abbrev pub andNew : Fragments → ℕ → Held → Fragments
@@ -83,7 +84,6 @@ abbrev pub isLast : Kept → Bool
 isLast nothing = false
 isLast (kept h) = h .last
 
--- "the payloads in number order", those of numbers below n
 abbrev pub payloadOf : Kept → List ℕ
 payloadOf nothing = []
 payloadOf (kept h) = h .payload
@@ -93,5 +93,6 @@ unfoldable pub inOrder : (ℕ → List ℕ) → ℕ → List ℕ
 inOrder piece zero = []
 inOrder piece (suc n) = inOrder piece n ++ piece n
 
+-- "the payloads in number order", those of numbers below n
 abbrev pub payloads : Fragments → ℕ → List ℕ
 payloads fs = inOrder (λ k. payloadOf (fs k))

@@ -4,7 +4,7 @@ use mathlib.Core.Bool.{Bool}
 use Prim.Native.Nat.{ℕ, _≤_}
 use Rattle.table.specs.declared.Table.{Table}
 use Rattle.sweeping.specs.declared.Counts.{Counts}
-use Rattle.sweeping.specs.declared.ages.Found.{Found}
+use Rattle.sweeping.specs.declared.ages.Contents.{Contents}
 use Rattle.table.specs.Rows.{Place}
 use Rattle.sweeping.specs.Sweep.{Tally}
 
@@ -15,9 +15,9 @@ placeWith owner number last = record { message-type = 0; size = 0; owner = owner
 abbrev pub tableWith : (owners numbers : List ℕ) → List Bool → Table
 tableWith owners numbers lasts = record { codes = []; firsts = []; «message_types» = []; sizes = []; owners = owners; numbers = numbers; versions = []; lasts = lasts; used = [] }
 
--- the tally of what was found
-abbrev pub tallyOf : Found → Tally
-tallyOf s = record { many = s .many; beyond = s .beyond; marked = s .marked }
+-- what a row holds, as the code has it
+abbrev pub asTally : Contents → Tally
+asTally s = record { many = s .many; beyond = s .beyond; marked = s .marked }
 
 -- no count is above n
 pub record Within (n : ℕ) (c : Counts) : Type 0 where

@@ -1,4 +1,4 @@
--- Sweep (document 01, "The table"): "drops a key exactly when elapsed is at least 3,000".
+-- Sweep (document 01, "The table"): which keys it drops, and the four counts.
 use mathlib.Core.Bool.{Bool, false, cond, not, _&&_, _||_}
 use Prim.Native.Nat.{ℕ, zero, suc, max, _+_, _-_}
 use lib.Dec.{eqb, leb, ltb}
@@ -8,7 +8,7 @@ use Rattle.sweeping.specs.declared.Counts.{Counts}
 use Rattle.sweeping.specs.declared.Swept.{Swept}
 use Rattle.table.specs.Rows.{keys, places, Place, ownerOf, placeAt, without}
 
--- "at least 3,000": a key's lifetime in milliseconds
+-- so many milliseconds
 abbrev pub lifetime : ℕ
 lifetime = 3000
 
@@ -16,7 +16,7 @@ lifetime = 3000
 abbrev pub elapsed : ℕ → ℕ → ℕ
 elapsed now-ms first = now-ms - first
 
--- from a key's first time on
+-- "exactly when elapsed is at least 3,000"
 abbrev pub isOld : (now-ms first : ℕ) → Bool
 isOld now-ms first = leb lifetime (elapsed now-ms first)
 

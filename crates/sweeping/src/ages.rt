@@ -6,13 +6,13 @@ ghost use mathlib.Core.Bool.{_&&_, _||_};
 ghost use Prim.Native.Nat.{max, _<_};
 ghost use Rattle.table.specs.Rows.{keys, places};
 ghost use Rattle.sweeping.specs.Sweep.{isOld, tallied, tally, lackOf, plusOne};
-ghost use Rattle.sweeping.specs.PrivateSteps.{Within, placeWith, tableWith, tallyOf};
+ghost use Rattle.sweeping.specs.PrivateSteps.{Within, placeWith, tableWith, asTally};
 
 // How many milliseconds a key stays.
 const LIFETIME: u64 = 3000;
 
 // What a row holds: how many fragments, 1 more than their highest number (0 where there are none), and if one is marked last.
-pub(crate) struct Found {
+pub(crate) struct Contents {
     pub many: usize,
     pub beyond: usize,
     pub marked: bool,
@@ -31,14 +31,14 @@ pub(crate) fn either(a: bool, b: bool) -> bool
 }
 
 // One place more: its owner, number and mark.
-pub(crate) fn with_place(s: Found, of: u8, number: u8, last: bool, row: usize) -> Found
+pub(crate) fn with_place(s: Contents, of: u8, number: u8, last: bool, row: usize) -> Contents
     requires { ⌜ (row < keys) × (s .many < places) ⌝ }
-    ensures { λ r. ⌜ tallyOf r ≡ tallied row (placeWith of number last) (tallyOf s) ⌝ }
+    ensures { λ r. ⌜ asTally r ≡ tallied row (placeWith of number last) (asTally s) ⌝ }
 {
     let owner = row as u8 + 1;
     if of == owner {
         let own = number as usize;
-        return Found {
+        return Contents {
             many: s.many + 1,
             beyond: larger(s.beyond, own + 1),
             marked: either(s.marked, last),
@@ -52,11 +52,11 @@ pub(crate) fn tally_of<'a>(
     numbers: &'a [u8; PLACES],
     lasts: &'a [bool; PLACES],
     row: usize,
-) -> Found
+) -> Contents
     requires { ⌜ row < keys ⌝ }
-    ensures { λ r. ⌜ tallyOf r ≡ tally (tableWith (now (owners .entry)) (now (numbers .entry)) (now (lasts .entry))) row places ⌝ }
+    ensures { λ r. ⌜ asTally r ≡ tally (tableWith (now (owners .entry)) (now (numbers .entry)) (now (lasts .entry))) row places ⌝ }
 {
-    let mut s = Found {
+    let mut s = Contents {
         many: 0,
         beyond: 0,
         marked: false,
@@ -70,9 +70,9 @@ pub(crate) fn tally_of<'a>(
 }
 
 // One dropped key more.
-pub(crate) fn with_key_dropped(c: Counts, s: Found) -> Counts
+pub(crate) fn with_key_dropped(c: Counts, s: Contents) -> Counts
     requires { ⌜ Within keys c ⌝ }
-    ensures { λ r. ⌜ r ≡ plusOne (lackOf (tallyOf s)) c ⌝ }
+    ensures { λ r. ⌜ r ≡ plusOne (lackOf (asTally s)) c ⌝ }
 {
     let mut more = c;
     if s.many == 0 {

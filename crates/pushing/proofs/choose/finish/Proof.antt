@@ -9,7 +9,7 @@ use Rattle.pushing.specs.declared.join.Verdict.{Verdict}
 use Rattle.pushing.specs.declared.join.Verdict.the-variants.{Message}
 use Rattle.pushing.specs.Push.{inconsistent, missing, missingLast}
 use Rattle.pushing.specs.PrivateSteps.{placesIn, piecesTo, verdictWay, joinWayIn}
-use Rattle.pushing.proofs.Pieces.{counted-as, pieces-size}
+use Rattle.pushing.proofs.Pieces.{sized-as, pieces-size}
 use Rattle.pushing.proofs.Ends.{ends}
 use borrow.Author.Needs.{needs}
 use Rattle.pushing.proofs.choose.finish.Statement.{statement}
@@ -33,8 +33,8 @@ module _ (c : tie.After-judge) where
   -- a message's pieces, and their bytes
   all-of : (n total : ℕ) → c .judge .result ≡ Message n total → (n ≤ 256) × (total ≡ length (upto n))
   all-of n total told =
-      let counted = counted-as places (start .args .row) (start .args .f) (length (now (start .args .payload))) n total (sym (c .judge .ensures) ∙ told) in
-      (counted .0, counted .1 ∙ sym (pieces-size (now (start .args .sizes)) (now (start .args .owners)) (now (start .args .numbers)) (now (start .args .store)) (start .args .row) (start .args .f .number) (now (start .args .payload)) (start .pre .1) (start .pre .2) n))
+      let sized-so = sized-as places (start .args .row) (start .args .f) (length (now (start .args .payload))) n total (sym (c .judge .ensures) ∙ told) in
+      (sized-so .0, sized-so .1 ∙ sym (pieces-size (now (start .args .sizes)) (now (start .args .owners)) (now (start .args .numbers)) (now (start .args .store)) (start .args .row) (start .args .f .number) (now (start .args .payload)) (start .pre .1) (start .pre .2) n))
 
 judge-requires : tie.Need-judge-requires
 judge-requires c κs = (c .before .before .before .pre .0, c .before .before .before .pre .3, c .before .before .before .pre .1)

@@ -6,13 +6,13 @@ use denote.Ref.{now}
 use borrow.Author.Needs.{needs}
 use Rattle.table.specs.Rows.{placeAt}
 use Rattle.sweeping.specs.Sweep.{Tally, tallied, tally}
-use Rattle.sweeping.specs.PrivateSteps.{tableWith, tallyOf}
+use Rattle.sweeping.specs.PrivateSteps.{tableWith, asTally}
 use Rattle.sweeping.proofs.Sweeping.{tally-none, tally-next, tallied-many}
 use Rattle.sweeping.proofs.ages.tally_of.Statement.{statement}
 use Rattle.sweeping.proofs.ages.tally_of.Tie as tie
 
 abbrev Inv-loop : tie.InvT-loop
-Inv-loop owners numbers lasts row s₀ i₀ s i = (i ≤ 32) × (tallyOf s ≡ tally (tableWith owners numbers lasts) row i) × (s .many ≤ i)
+Inv-loop owners numbers lasts row s₀ i₀ s i = (i ≤ 32) × (asTally s ≡ tally (tableWith owners numbers lasts) row i) × (s .many ≤ i)
 
 abbrev μ-loop : tie.MeasureT-loop
 μ-loop owners numbers lasts row s₀ i₀ s i = 32 - i
@@ -47,7 +47,7 @@ loop-again c =
     let i = b .loop .i in (
       search needs,
       c .with-place .ensures ∙ ap (tallied row (placeAt t i)) (b .loop .inv .1) ∙ tally-next t row i,
-      omega (arith, ap (λ (s : Tally). s .many) (c .with-place .ensures), tallied-many row (placeAt t i) (tallyOf (b .loop .s))),
+      omega (arith, ap (λ (s : Tally). s .many) (c .with-place .ensures), tallied-many row (placeAt t i) (asTally (b .loop .s))),
     )
 
 returns : tie.Need-returns Inv-loop μ-loop
