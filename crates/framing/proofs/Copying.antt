@@ -1,11 +1,11 @@
 -- A copy to the start of a list, one element a turn.
-use mathlib.Core.Path.{_≡_, refl, sym, ap, _∙_}
-use mathlib.Core.List.{List, [], _∷_, _++_, append-assoc}
-use Prim.Native.Nat.{ℕ, suc, _+_, _<_, _≤_}
+use mathlib.Core.Path.{_≡_, sym, ap, _∙_}
+use mathlib.Core.List.{List, _++_}
+use Prim.Native.Nat.{ℕ, suc, _+_, _<_}
 use native.Mathlib.Omega.{arith}
 use native.Mathlib.Numerals.{add-one}
-use lib.ListN.{length, take, drop, getD, set, length-set}
-use lib.Seq.{drop-cons, set-at, take-suc, length-take-le, take-length, append-snoc}
+use lib.ListN.{length, take, drop, getD, set}
+use lib.Seq.{drop-cons, set-at, take-suc, length-take-le, append-snoc}
 
 pub one-more : (b o : List ℕ) (i : ℕ) → i < length b → i < length o → set (take i b ++ drop i o) i (getD b i 0) ≡ take (i + 1) b ++ drop (i + 1) o
 one-more b o i h k =

@@ -1,13 +1,13 @@
 -- Laws of `readTlv`: its three cases, and what a TLV that reads says of the bytes.
 use mathlib.Core.Path.{_≡_, refl, sym, ap, _∙_}
 use mathlib.Core.Bool.{Bool, true, false, cond}
-use mathlib.Core.List.{List, [], _∷_, _++_}
+use mathlib.Core.List.{List, [], _∷_}
 use Prim.Native.Nat.{ℕ, _+_, _-_, _<_, _≤_}
 use native.Mathlib.Omega.{arith}
 use lib.Dec.{ltb}
 use lib.ListN.{length, getD, take, drop}
-use borrow.Author.Tests.{ltb-false, ltb-true, lt-ltb, le-ltb}
-use Rattle.numbers.specs.Numbers.{Answer, gives, refuses, told}
+use borrow.Author.Tests.{ltb-false, lt-ltb, le-ltb}
+use Rattle.numbers.specs.Numbers.{gives, refuses}
 use Rattle.framing.specs.Tlv.{TlvRead, readTlv, declared, valueIn, valueFrom}
 
 pub short : (s : List ℕ) → length s < 3 → refuses 1 [] ≡ readTlv s

@@ -1,10 +1,10 @@
 -- Reading what was written gives the same type and value, and writing what was read gives the consumed bytes.
-use mathlib.Core.Path.{_≡_, refl, sym, ap, _∙_}
+use mathlib.Core.Path.{_≡_, sym, ap, _∙_}
 use mathlib.Core.List.{List, [], _∷_, _++_}
-use Prim.Native.Nat.{ℕ, _+_, _*_, _-_, _/_, _%_, _<_, _≤_}
+use Prim.Native.Nat.{ℕ, _+_, _-_, _/_, _%_, _≤_}
 use native.Mathlib.Omega.{arith}
 use native.Mathlib.Nat.{div-add-mod'}
-use lib.ListN.{length, take, drop, getD, length-append}
+use lib.ListN.{length, take, drop, length-append}
 use lib.Seq.{take-append-seam, take-add, length-take-le}
 use Rattle.numbers.specs.Numbers.{gives}
 use Rattle.framing.specs.Tlv.{TlvRead, readTlv, declared, valueIn, longestValue, tlvBytes}

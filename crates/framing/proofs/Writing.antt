@@ -8,8 +8,8 @@ use lib.Dec.{ltb}
 use lib.ListN.{length, take, drop, set, length-take, length-drop}
 use lib.Seq.{take-all, drop-drop, drop-length}
 use borrow.Author.Tests.{ltb-false, lt-ltb, le-ltb}
-use borrow.Rule.Slice.PartMut.{midOf, postOf, putMid}
-use Rattle.numbers.specs.Numbers.{Answer, gives, refuses, told}
+use borrow.Rule.Slice.PartMut.{midOf, putMid}
+use Rattle.numbers.specs.Numbers.{Answer, gives, refuses}
 use Rattle.framing.specs.Tlv.{longestValue, writeSize, header, tlvBytes, leaves}
 
 pub too-long : (n room : ℕ) → longestValue < n → refuses 8 [] ≡ writeSize n room

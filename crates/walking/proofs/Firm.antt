@@ -1,9 +1,9 @@
 -- How firm each answer is: no two are told alike.
 use mathlib.Core.Path.{_≡_, refl, sym, ap}
-use mathlib.Core.List.{List, _∷_}
+use mathlib.Core.List.{_∷_}
 use Prim.Native.Nat.{ℕ}
 use native.Mathlib.Omega.{arith}
-use Rattle.numbers.specs.Numbers.{Answer, gives, refuses, number, values}
+use Rattle.numbers.specs.Numbers.{Answer, refuses, number, values}
 use Rattle.numbers.specs.declared.Refusal.{Refusal}
 use Rattle.numbers.proofs.Firm.{firm-numbered, never}
 use Rattle.walking.specs.Walk.{steppedOf, walkedOf}

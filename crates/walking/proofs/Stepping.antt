@@ -1,5 +1,5 @@
 -- Laws of a step: where it finds the end, what it passes, and that a walk goes on by it.
-use mathlib.Core.Path.{_≡_, refl, sym, ap, _∙_}
+use mathlib.Core.Path.{_≡_, refl, ap}
 use mathlib.Core.Bool.{Bool, true, false, cond}
 use mathlib.Core.List.{List}
 use Prim.Native.Nat.{ℕ, zero, suc, _+_, _-_, _≤_, _<_}
@@ -13,7 +13,7 @@ use Rattle.numbers.proofs.Firm.{never}
 use Rattle.framing.specs.Tlv.{TlvRead, readTlv}
 use Rattle.framing.proofs.Reading.{reads}
 use Rattle.walking.specs.declared.Tlv.{Tlv}
-use Rattle.walking.specs.Walk.{Ahead, ended, passed, stepBy, stepAt, walkBy, walkFrom}
+use Rattle.walking.specs.Walk.{ended, passed, stepBy, stepAt, walkBy, walkFrom}
 
 module _ (p : List ℕ) (at : ℕ) where
   -- the part from `at` on is all that lies there

@@ -7,7 +7,7 @@ use lib.ListN.{length}
 use Rattle.numbers.specs.Numbers.{Answer, gives, refuses, andThen}
 use Rattle.walking.specs.declared.Tlv.{Tlv}
 use Rattle.walking.specs.Walk.{Ahead, ended, passed, stepAt, Walk, walkBy, walkFrom, walkOf, counted}
-use Rattle.walking.proofs.Stepping.{Passes, passes, turn}
+use Rattle.walking.proofs.Stepping.{passes, turn}
 
 -- the answer of a walk w that had passed k TLVs before it
 abbrev countedFrom : ℕ → Walk → Answer ℕ

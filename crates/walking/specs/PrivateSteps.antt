@@ -5,7 +5,7 @@ use Prim.Native.Nat.{ℕ, _+_, _<_, _≤_}
 use lib.ListN.{length, getD}
 use Rattle.numbers.specs.Numbers.{Answer, gives, refuses}
 use Rattle.walking.specs.declared.Tlv.{Tlv}
-use Rattle.walking.specs.Walk.{Ahead, ended, passed, stepAt, walkOf, listed, noTlv}
+use Rattle.walking.specs.Walk.{Ahead, ended, passed, walkOf, listed, noTlv}
 
 -- the TLV of a step, if it passes one, and where the next one stands
 abbrev pub tlvBy : Answer Ahead → Tlv

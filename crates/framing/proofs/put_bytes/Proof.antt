@@ -1,5 +1,5 @@
 -- `put_bytes` meets its contract: after i turns the first i bytes stand at the start, and what was lent behind them.
-use Prim.Native.Nat.{ℕ, _+_, _≤_, _<_, _-_}
+use Prim.Native.Nat.{ℕ, _+_, _≤_, _-_}
 use mathlib.Core.Path.{_≡_, refl, _∙_, ap}
 use mathlib.Core.List.{List, _++_}
 use lib.ListN.{length, getD, set, take, drop, length-set}

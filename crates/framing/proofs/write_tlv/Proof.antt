@@ -1,6 +1,5 @@
 -- `write_tlv` meets its contract: the header, and the value in the part from byte 3 onward.
 use mathlib.Core.Path.{sym, _∙_, ap}
-use mathlib.Core.List.{[]}
 use native.Mathlib.Omega.{arith}
 use Rattle.framing.specs.Tlv.{writtenOf}
 use Rattle.framing.proofs.Writing.{written, kept, put, lent, tlv-put}
