@@ -10,8 +10,8 @@ use lib.Seq.{paste, getD-set-other}
 use borrow.Author.Tests.{eqb-true, ltb-true, ltb-false, not-true}
 use Rattle.table.specs.declared.Table.{Table}
 use Rattle.pushing.specs.declared.Arrival.{Arrival}
-use Rattle.table.specs.Rows.{Place, ownerOf, placeAt, rowOf, isSpare, placeOf, isFree, lowestFree, withKey, withPlace, without}
-use Rattle.pushing.specs.Joining.{keptAt, heldIn, heldBy, since, firstTime}
+use Rattle.table.specs.Rows.{ownerOf, placeAt, rowOf, isSpare, placeOf, isFree, lowestFree, withKey, withPlace, without}
+use Rattle.pushing.specs.Joining.{keptAt, heldIn, since, firstTime}
 pub use Rattle.pushing.specs.Claims.{Untouched}
 use Rattle.pushing.specs.Push.{Way, way, tableBy, storeBy, placeFor}
 use Rattle.table.proofs.Search.{lowest-holds}
