@@ -3,16 +3,14 @@ use mathlib.Core.Path.{_≡_, refl, sym, ap, _∙_}
 use mathlib.Core.List.{List, [], _∷_, _++_}
 use Prim.Native.Nat.{ℕ, _+_, _-_, _<_, _≤_}
 use native.Mathlib.Omega.{arith}
-use denote.Ref.{RefT, now}
+use denote.Ref.{now}
 use lib.ListN.{length, take, drop, length-drop, take-append-drop}
 use lib.Seq.{take-all, length-take-le, take-append-le, drop-append-le}
 use lib.Dec.{leb, T, leb→le}
-use Rattle.numbers.specs.Numbers.{Answer, gives, refuses, told, andThen}
+use Rattle.numbers.specs.Numbers.{Answer, gives, refuses}
 use Rattle.numbers.specs.Parts.{behind}
-use Rattle.numbers.specs.declared.Refusal.{Refusal}
 use Rattle.numbers.proofs.Firm.{by-equation, by-telling, both, firm, never}
 use Rattle.numbers.proofs.Answers.{given, gave, follows, mapped-given}
-use Rattle.layouts.specs.declared.Path.{Path}
 use Rattle.layouts.specs.declared.Reading.{Reading}
 use Rattle.layouts.specs.declared.Reading.the-variants.{Value, Refused}
 use Rattle.layouts.specs.declared.Located.{Located}
@@ -20,8 +18,8 @@ use Rattle.layouts.specs.declared.Located.the-variants.{Entry, Refused a
 use Rattle.layouts.specs.declared.Counted.{Counted}
 use Rattle.layouts.specs.declared.Counted.the-variants.{Entries, Refused as NotCounted}
 use Rattle.layouts.specs.Layouts.{Layout, Rest, handed-back, refused, Kind, layoutOf, isList}
-use Rattle.layouts.specs.Reading.{listOf, endOf, Consumed, consumedTo, readingOf, readAs, readValue}
-use Rattle.layouts.specs.Access.{numbersOf, Span, spanOf, lengthAt, ofValue, locatedOf, locateEntry, partOf, startOf, countedOf, countEntries}
+use Rattle.layouts.specs.Reading.{Consumed, consumedTo, readingOf, readAs, readValue}
+use Rattle.layouts.specs.Access.{numbersOf, Span, spanOf, lengthAt, locatedOf, locateEntry, partOf, startOf, countedOf, countEntries}
 use Rattle.layouts.specs.Claims.{Firmness, levelsOf, Shown, Below, Values, Alone, ConsumedAlone}
 use Rattle.layouts.proofs.Within.{end-within}
 use Rattle.layouts.proofs.Laws.{read-to}

@@ -8,10 +8,10 @@ use lib.ListN.{length, getD, take}
 use lib.Seq.{getD-take, length-take-le}
 use lib.Dec.{ltb, T}
 use borrow.Author.Tests.{ltb-true}
-use Rattle.numbers.specs.Numbers.{Answer, gives, refuses, andThen, mapped}
+use Rattle.numbers.specs.Numbers.{Answer, gives, refuses, andThen}
 use Rattle.numbers.proofs.Answers.{given, gave}
 use Rattle.layouts.specs.Layouts.{Counting, c1, c2, to-end, Layout, bytes, entry}
-use Rattle.layouts.specs.Reading.{reaching, Listed, headOf, countAt, listOf, entriesEnd, endOf}
+use Rattle.layouts.specs.Reading.{Listed, headOf, countAt, listOf, entriesEnd, endOf}
 use Rattle.layouts.specs.Access.{childAt, below, Spot, findEntry, spanOf, lengthAt}
 use Rattle.layouts.proofs.Within.{Within, reaches, reached, count-within, behind-head, list-leaf, list-within, entries-within, ends-in, end-within}
 use Rattle.layouts.proofs.Reached.{child-reads, child-lies, find-lies}

@@ -5,7 +5,7 @@ use mathlib.Core.List.{List, [], _∷_, _++_}
 use Prim.Native.Nat.{ℕ, zero, suc, _+_, _<_, _≤_}
 use native.Mathlib.Nat.{le-of-suc-le-suc}
 use native.Mathlib.Omega.{arith}
-use Rattle.numbers.specs.Numbers.{Answer, gives, refuses, andThen, mapped}
+use Rattle.numbers.specs.Numbers.{Answer, gives, andThen, mapped}
 use Rattle.numbers.proofs.Firm.{never}
 use Rattle.numbers.proofs.Answers.{given, follows, gave, mapped-given, mapped-gave, alike, regrouped}
 use Rattle.layouts.specs.Layouts.{Layout, bytes, entry}

@@ -2,7 +2,7 @@
 use borrow.Author.Needs.{needs}
 use Rattle.layouts.proofs.is_list.Statement.{statement}
 use Rattle.layouts.proofs.is_list.Tie as tie
-use mathlib.Core.Path.{ap, _∙_}
+use mathlib.Core.Path.{ap}
 use Rattle.numbers.specs.Numbers.{isGiven}
 use Rattle.layouts.specs.Layouts.{isList}
 

@@ -2,7 +2,6 @@
 use borrow.Author.Needs.{needs}
 use Rattle.layouts.proofs.access.child.Statement.{statement}
 use Rattle.layouts.proofs.access.child.Tie as tie
-use native.Mathlib.Omega.{arith}
 use mathlib.Core.Path.{_≡_, sym, ap, _∙_}
 use Prim.Native.Nat.{_<_}
 use Rattle.numbers.specs.Numbers.{gives}

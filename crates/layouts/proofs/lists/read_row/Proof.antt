@@ -2,7 +2,6 @@
 use borrow.Author.Needs.{needs}
 use Rattle.layouts.proofs.lists.read_row.Statement.{statement}
 use Rattle.layouts.proofs.lists.read_row.Tie as tie
-use native.Mathlib.Omega.{arith}
 use mathlib.Core.Path.{_≡_, sym, ap, _∙_}
 use Rattle.numbers.specs.Numbers.{gives}
 use Rattle.layouts.specs.Reading.{listOf, endOf, readAs}
