@@ -67,14 +67,14 @@ and-more value = value ++ (0x78 ∷ [])
 abbrev pub entry-of : ℕ → List ℕ → List ℕ → List ℕ
 entry-of code numbers value = partOf (locateKind code numbers value) value
 
--- The values of the kinds, field by field. The address 02:00:5E:10:20:n, as bytes and as it is kept
+-- The values of the kinds, field by field, as the standards have them and tshark reads them. The address 02:00:5E:10:20:n, in bytes and as it is kept:
 abbrev pub mac : ℕ → List ℕ
 mac n = 0x02 ∷ 0x00 ∷ 0x5E ∷ 0x10 ∷ 0x20 ∷ n ∷ []
 
 abbrev pub kept-mac : ℕ → MacAddr
 kept-mac n = record { b0 = 0x02; b1 = 0x00; b2 = 0x5E; b3 = 0x10; b4 = 0x20; b5 = n }
 
--- "home" and "guest", as names of networks have it: a length and so many bytes
+-- the names of networks "home" and "guest": a length, and so many bytes
 abbrev pub home : List ℕ
 home = 0x04 ∷ 0x68 ∷ 0x6F ∷ 0x6D ∷ 0x65 ∷ []
 
@@ -93,7 +93,7 @@ plain-neighbours = mac 1 ++ (mac 2 ++ mac 3)
 abbrev pub neighbours : List ℕ
 neighbours = mac 1 ++ (mac 2 ++ (0x00 ∷ (mac 3 ++ (0x80 ∷ []))))
 
--- IEEE 1905.1a: an address, how it was had (1 by DHCP, 2 static), the address and the server that gave it
+-- IEEE 1905.1a: how an address was had (1 by DHCP, 2 static), the address, and the server that gave it
 abbrev pub by-dhcp : List ℕ
 by-dhcp = 0x01 ∷ (192 ∷ 168 ∷ 1 ∷ 23 ∷ (192 ∷ 168 ∷ 1 ∷ 1 ∷ []))
 
@@ -104,7 +104,7 @@ static = 0x02 ∷ (10 ∷ 0 ∷ 0 ∷ 7 ∷ (0 ∷ 0 ∷ 0 ∷ 0 ∷ []))
 abbrev pub ipv4 : List ℕ
 ipv4 = 0x01 ∷ (mac 1 ++ (0x02 ∷ (by-dhcp ++ static)))
 
--- IEEE 1905.1a: FE80::n, and an address, how it was had (3 by itself), the address 2001:DB8::5 and where it comes from
+-- IEEE 1905.1a: FE80::n; and how an address was had (3 by itself), the address 2001:DB8::5, and where it comes from
 abbrev pub link-local : ℕ → List ℕ
 link-local n = 0xFE ∷ 0x80 ∷ (replicate 13 0x00 ++ (n ∷ []))
 

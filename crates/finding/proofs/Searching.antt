@@ -13,7 +13,7 @@ use Rattle.records.specs.declared.Record.{Record}
 use Rattle.kinds.specs.Kinds.{isKind, Typed}
 use Rattle.walking.specs.declared.Tlv.{Tlv}
 use Rattle.walking.specs.Walk.{Ahead, ended, passed, stepAt, Walk, walkBy, walkFrom, walkOf, counted}
-use Rattle.walking.proofs.Stepping.{passes, turn}
+use Rattle.walking.proofs.Stepping.{passes, turn, begun}
 use Rattle.walking.proofs.Listed as Counted
 use Rattle.finding.specs.Finding.{Hit, readsAs, thereOr, firstOf, findFrom, findInPayload}
 use Rattle.finding.proofs.Passing.{first-nil, first-cons, or-behind}
@@ -65,7 +65,6 @@ pub record Searching (code : ℕ) (p : List ℕ) (from at place : ℕ) : Type 0 
   pub will : rest code p from place (walkFrom most p at .tlvs) ≡ firstOf code p from (drop from (walkOf p .tlvs))
 
 pub begins : (code : ℕ) (p : List ℕ) (from : ℕ) → Searching code p from 0 0
-unfolding walkOf
 begins code p from =
     let k : from - 0 ≡ from = omega arith in
     let i : 0 + (from - 0) ≡ from = omega arith in
@@ -74,7 +73,8 @@ begins code p from =
       few = omega arith;
       most = length p;
       enough = omega arith;
-      will = ap (λ (n : ℕ). firstOf code p n (drop (from - 0) (walkFrom (length p) p 0 .tlvs))) i ∙ ap (λ (n : ℕ). firstOf code p from (drop n (walkFrom (length p) p 0 .tlvs))) k;
+      will = ap (λ (n : ℕ). firstOf code p n (drop (from - 0) (walkFrom (length p) p 0 .tlvs))) i ∙ ap (λ (n : ℕ). firstOf code p from (drop n (walkFrom (length p) p 0 .tlvs))) k
+          ∙ ap (λ (w : Walk). firstOf code p from (drop from (w .tlvs))) (begun p);
     }
 
 module _ (code : ℕ) (p : List ℕ) (from at place : ℕ) (w : Searching code p from at place) where

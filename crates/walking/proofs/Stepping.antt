@@ -13,7 +13,7 @@ use Rattle.numbers.proofs.Firm.{never}
 use Rattle.framing.specs.Tlv.{TlvRead, readTlv}
 use Rattle.framing.proofs.Reading.{reads}
 use Rattle.walking.specs.declared.Tlv.{Tlv}
-use Rattle.walking.specs.Walk.{ended, passed, stepBy, stepAt, walkBy, walkFrom}
+use Rattle.walking.specs.Walk.{ended, passed, stepBy, stepAt, walkBy, walkFrom, walkOf}
 
 module _ (p : List ℕ) (at : ℕ) where
   -- the part from `at` on is all that lies there
@@ -75,3 +75,8 @@ pub turn : (most : ℕ) (p : List ℕ) (at : ℕ) → length p - at ≤ most →
 unfolding walkFrom
 turn zero p at h = rw (← at-end p at (omega arith))
 turn (suc most) p at h = let e : suc most - 1 ≡ most = omega arith in rw e
+
+-- a walk begins at the payload's start
+pub begun : (p : List ℕ) → walkFrom (length p) p 0 ≡ walkOf p
+unfolding walkOf
+begun p = refl
