@@ -2,64 +2,30 @@
 use mathlib.Core.Path.{_≡_, refl, sym, ap, _∙_, subst}
 use mathlib.Core.List.{List}
 use mathlib.Core.Bool.{Bool, true, false, cond, not, false≢true, or-false}
-use Prim.Native.Nat.{ℕ, zero, suc, _+_, _-_, _≤_, _<_}
+use Prim.Native.Nat.{ℕ, _-_, _≤_, _<_}
 use native.Mathlib.Omega.{arith}
 use lib.Dec.{eqb}
 use borrow.Author.Tests.{eqb-true, eqb-false, eq-eqb, ne-eqb, not-false}
 use Rattle.table.specs.declared.Table.{Table}
-use Rattle.sweeping.specs.Sweep.{Tally, tally}
-use Rattle.table.specs.Rows.{ownerOf, freshTable, placeAt, rowOf, isSpare, lowestFree, isFree}
-use Rattle.pushing.specs.Joining.{never, since, due}
+use Rattle.table.specs.Rows.{places, ownerOf, freshTable, placeAt, rowOf, isSpare, lowestFree, isFree}
+use Rattle.pushing.specs.Joining.{isKept, never, since, due}
 use Rattle.pushing.specs.Push.{Way, refuse, replace, keepAt, openAt, end}
 use Rattle.table.proofs.Search.{lowest-holds, lowest-before}
 use Rattle.pushing.proofs.Ways.{Went, went, went-refuse, went-replace, went-keep, went-open, went-end}
-use Rattle.sweeping.proofs.Sweeping.{tally-none}
 use Rattle.table.proofs.Sound.{Sound}
 use Rattle.pushing.proofs.Sound.{sound}
 use Rattle.orders.specs.Runs.{State, Push, Call, push, sweep, finishedBy, part, wayOf, after, tells, isAccepted, isOwn, isSweep, concerns, start, Holding, holding, holdsNothing}
-use Rattle.orders.specs.Shares.{tallyOf}
+use Rattle.orders.specs.Messages.{countIn}
 use Rattle.table.proofs.Places.{all-same}
 use Rattle.orders.proofs.Rows.{isUsed, codeAt, firstAt}
 use Rattle.orders.proofs.Lookups.{row-none, row-is}
 use Rattle.orders.proofs.Holdings.{absent, present}
 use Rattle.orders.proofs.Telling.{shape, refusedWay, refused-is, ownWay, tell, answer}
 use Rattle.orders.proofs.Pushing.{Good, Full, no-place, no-row, Outcome, as-told, full, outcome, way-shape}
-use Rattle.orders.proofs.Tallies.{tally-held}
+use Rattle.orders.proofs.Count.{count-all, count-less}
+use Rattle.orders.proofs.Found.{owns, count-held}
 use Rattle.orders.proofs.Locality.{has-room, accepted-room, untouched, own-sweep, local-accepted}
 use Rattle.machines.proofs.Story as Y
-
--- how many of the first places a row has: all, or not all
-module _ (t : Table) (row : ℕ) where
-  many-mine : (n : ℕ) → placeAt t n .owner ≡ ownerOf row → tally t row (suc n) .many ≡ tally t row n .many + 1
-  unfolding tally
-  many-mine n o = rw (eq-eqb (placeAt t n .owner) (ownerOf row) o)
-
-  many-other : (n : ℕ) → (placeAt t n .owner ≡ ownerOf row → ⊥) → tally t row (suc n) .many ≡ tally t row n .many
-  unfolding tally
-  many-other n o = rw (ne-eqb (placeAt t n .owner) (ownerOf row) o)
-
-  many-next : (n : ℕ) → tally t row (suc n) .many ≤ tally t row n .many + 1
-  many-next n = by-owner (eqb (placeAt t n .owner) (ownerOf row)) refl
-    where
-      by-owner : (b : Bool) → eqb (placeAt t n .owner) (ownerOf row) ≡ b → tally t row (suc n) .many ≤ tally t row n .many + 1
-      by-owner true e = omega (arith, many-mine n (eqb-true _ _ e))
-      by-owner false e = omega (arith, many-other n (eqb-false _ _ e))
-
-  many-le : (n : ℕ) → tally t row n .many ≤ n
-  many-le zero = omega (arith, ap (λ (y : Tally). y .many) (tally-none t row))
-  many-le (suc n) = omega (arith, many-next n, many-le n)
-
-  tally-all : (n : ℕ) → ((i : ℕ) → i < n → placeAt t i .owner ≡ ownerOf row) → tally t row n .many ≡ n
-  tally-all zero mine = omega (arith, many-le 0)
-  tally-all (suc n) mine = omega (arith, many-mine n (mine n (omega arith)), tally-all n (λ i l. mine i (omega arith)))
-
-  tally-less : (n i : ℕ) → i < n → (placeAt t i .owner ≡ ownerOf row → ⊥) → tally t row n .many < n
-  tally-less zero i l o = absurd (omega arith)
-  tally-less (suc n) i l o = by-last (eqb i n) refl (tally-less n i)
-    where
-      by-last : (b : Bool) → eqb i n ≡ b → (i < n → (placeAt t i .owner ≡ ownerOf row → ⊥) → tally t row n .many < n) → tally t row (suc n) .many < suc n
-      by-last true e ih = omega (arith, many-other n (subst (λ (k : ℕ). placeAt t k .owner ≡ ownerOf row → ⊥) (eqb-true i n e) o), many-le n)
-      by-last false e ih = omega (arith, ih (omega (arith, eqb-false i n e)) o, many-next n)
 
 -- a push that was kept found a free place
 kept-free : (t : Table) (store : List ℕ) (p : Push) {w : Way} → Went t store (p .arrival) (p .payload) (p .room) w → shape w ≡ keepAt 0 → lowestFree t < 32
@@ -96,13 +62,14 @@ module _ (long : ℕ) (c : ℕ) where
 
     never-full : Full (z′ .table) c → ⊥
     never-full (no-place h) =
-        let here = tally-held (z .table) s (z .store) (rowOf (z .table) c) in
-        let there = tally-held (z′ .table) s′ (z′ .store) (rowOf (z′ .table) c) in
-        let equal : tally (z .table) (rowOf (z .table) c) 32 ≡ tally (z′ .table) (rowOf (z′ .table) c) 32 = here ∙ ap (λ (v : Holding). tallyOf (v .fragments) 256) same ∙ sym there in
-        let all = tally-all (z′ .table) (rowOf (z′ .table) c) 32 (owned-all h) in
+        let here = count-held (z .table) s (z .store) (rowOf (z .table) c) in
+        let there = count-held (z′ .table) s′ (z′ .store) (rowOf (z′ .table) c) in
+        let equal : countIn (owns (z .table) (rowOf (z .table) c)) places ≡ countIn (owns (z′ .table) (rowOf (z′ .table) c)) places
+        = here ∙ ap (λ (v : Holding). countIn (λ k. isKept (v .fragments k)) 256) same ∙ sym there in
+        let all = count-all (owns (z′ .table) (rowOf (z′ .table) c)) places (λ i l. eq-eqb _ _ (owned-all h i l)) in
         let open-place : placeAt (z .table) (lowestFree (z .table)) .owner ≡ 0 = eqb-true _ _ (lowest-holds (λ k. isFree (placeAt (z .table) k)) 32 free) in
-        let less = tally-less (z .table) (rowOf (z .table) c) 32 (lowestFree (z .table)) free (λ o. omega (arith, open-place, o)) in
-        omega (arith, less, all, ap (λ (y : Tally). y .many) equal)
+        let less = count-less (owns (z .table) (rowOf (z .table) c)) places (lowestFree (z .table)) free (ne-eqb (placeAt (z .table) (lowestFree (z .table)) .owner) (ownerOf (rowOf (z .table) c)) (λ o. omega arith)) in
+        omega (arith, less, all, equal)
     never-full (no-row h k) =
         let used : isUsed (z′ .table) 0 ≡ true = not-false _ (lowest-before (isSpare (z′ .table)) 16 0 (omega arith)) in
         let at : rowOf (z′ .table) c ≡ 0 = row-is (z′ .table) c s′ 0 used (lone-code z′ s′ lone 0 used) in

@@ -2,17 +2,16 @@
 use mathlib.Core.Path.{_≡_, refl, sym, ap, _∙_, subst}
 use mathlib.Core.List.{List, [], _∷_}
 use mathlib.Core.Bool.{Bool, true, false, cond, not, _||_, false≢true, true≢false, or-assoc, or-true, or-false}
-use Prim.Native.Nat.{ℕ, zero, suc, _+_, _≤_, _<_}
+use Prim.Native.Nat.{ℕ, _+_, _≤_, _<_}
 use native.Mathlib.Omega.{arith}
-use lib.Dec.{eqb, ltb}
+use lib.Dec.{eqb, ltb, leb}
 use lib.ListN.{length}
-use borrow.Author.Tests.{eqb-true, eqb-false, eq-eqb, ne-eqb, ltb-true, not-true}
+use borrow.Author.Tests.{leb-true, leb-false, eq-eqb, ne-eqb, ltb-true, not-true}
 use Rattle.numbers.specs.Numbers.{gives}
 use Rattle.table.specs.declared.Table.{Table}
-use Rattle.sweeping.specs.Sweep.{Tally}
 use Rattle.table.specs.Search.{lowest}
-use Rattle.table.specs.Rows.{freshTable, rowOf, spareRow, lowestFree, withKey, withPlace}
-use Rattle.pushing.specs.Joining.{Held, Kept, nothing, kept, Fragments, andNew, Since, never, since}
+use Rattle.table.specs.Rows.{places, freshTable, placeAt, isFree, rowOf, spareRow, lowestFree, withKey, withPlace}
+use Rattle.pushing.specs.Joining.{Held, nothing, kept, Since, never, since}
 use Rattle.pushing.specs.Push.{Way, keepAt, waiting, placeFor, tableBy, answerBy}
 use Rattle.pushing.specs.Made.{Made, byFresh}
 use Rattle.pushing.proofs.Ways.{Went, went, went-refuse, went-replace, went-keep, went-open, went-end}
@@ -20,70 +19,43 @@ use Rattle.table.proofs.Sound.{Sound, fresh-sound}
 use Rattle.pushing.proofs.Sound.{sound}
 use Rattle.machines.specs.Machine.{those, remaining, every}
 use Rattle.orders.specs.Runs.{State, Push, Call, push, Reply, pushed, finishedBy, part, wayOf, after, tells, hasRoom, isOwn, isSweep, concerns, start, Holding, holding, holdsNothing, mine, crossed, repliesTo, repliesToAccepted}
-use Rattle.orders.specs.Shares.{andKept, tallyOf, isIn, distinct}
-use Rattle.orders.specs.Messages.{Message, heldAt, whole, Brings, Sent, calls, freeIn, Room, completing}
+use Rattle.orders.specs.Shares.{isIn, distinct}
+use Rattle.orders.specs.Messages.{Message, heldAt, whole, Brings, Sent, calls, countIn, freeIn, Room, completing}
 use Rattle.orders.specs.Claims.{Completes}
+use Rattle.table.proofs.Search.{lowest-before}
 use Rattle.table.proofs.Places.{put-elsewhere}
 use Rattle.machines.proofs.Lists.{left-true, right-true, every-remains, every-gathered}
 use Rattle.orders.proofs.Holdings.{absent}
 use Rattle.orders.proofs.Telling.{shape, ownWay, sinceOr, byOwn, withNew, tell, answer}
 use Rattle.orders.proofs.Pushing.{Good, Full, no-place, no-row, way-shape, room-unless}
 use Rattle.orders.proofs.Locality.{has-room, good-after, own-push, local-room}
-use Rattle.orders.proofs.Tallies.{tally-same, tally-nothing, tally-new}
 use Rattle.orders.proofs.Alone.{fresh-holds}
-use Rattle.orders.proofs.Free.{one-fewer, some-free}
+use Rattle.orders.proofs.Count.{count-none, one-fewer, at-most}
 use Rattle.orders.proofs.Completion.{Has, waits, added, completes-as}
 use Rattle.orders.proofs.Orders.{told-alone}
 use Rattle.machines.proofs.Story as Y
 
--- distinct numbers below n are at most n
-module _ (some : Held) where
-  abbrev marks : List ℕ → Fragments
-  marks ks k = cond (isIn k ks) (kept some) nothing
-
-  marks-more : (x : ℕ) (ks : List ℕ) (k : ℕ) → marks (x ∷ ks) k ≡ andNew (marks ks) x some k
-  unfolding isIn
-  marks-more x ks k = by-key (eqb k x) refl
-    where
-      by-key : (b : Bool) → eqb k x ≡ b → cond (eqb x k || isIn k ks) (kept some) nothing ≡ cond (eqb k x) (kept some) (marks ks k)
-      by-key true e = rw (e, eq-eqb x k (sym (eqb-true k x e)))
-      by-key false e = rw (e, ne-eqb x k (λ q. eqb-false k x e (sym q)))
-
-  counted : (n : ℕ) (ks : List ℕ) → distinct ks ≡ true → ((k : ℕ) → isIn k ks ≡ true → k < n) → length ks ≡ tallyOf (marks ks) n .many
-  unfolding isIn distinct
-  counted n [] d below = sym (ap (λ (y : Tally). y .many) (tally-nothing (marks []) n (λ k. refl)))
-  counted n (x ∷ ks) d below =
-      let out : isIn x ks ≡ false = not-true (isIn x ks) (left-true (not (isIn x ks)) _ d) in
-      let rest = counted n ks (right-true (not (isIn x ks)) _ d) (λ k h. below k (in-more k h (eqb x k))) in
-      let more = tally-same (marks (x ∷ ks)) (andNew (marks ks) x some) n (λ k l. marks-more x ks k) ∙ tally-new (marks ks) x some (ap (λ (b : Bool). cond b (kept some) nothing) out) n (below x (rw (eq-eqb x x refl))) in
-      omega (arith, rest, ap (λ (y : Tally). y .many) more)
-    where
-      in-more : (k : ℕ) → isIn k ks ≡ true → (b : Bool) → (b || isIn k ks) ≡ true
-      in-more k h true = refl
-      in-more k h false = h
-
-  many-le : (fs : Fragments) (n : ℕ) → tallyOf fs n .many ≤ n
-  unfolding tallyOf
-  many-le fs zero = omega arith
-  many-le fs (suc n) = by-kept (fs n) (many-le fs n)
-    where
-      by-kept : (h : Kept) → tallyOf fs n .many ≤ n → andKept n h (tallyOf fs n) .many ≤ suc n
-      by-kept nothing l = omega arith
-      by-kept (kept h) l = omega arith
-
-  at-most : (n : ℕ) (ks : List ℕ) → distinct ks ≡ true → ((k : ℕ) → isIn k ks ≡ true → k < n) → length ks ≤ n
-  at-most n ks d below = omega (arith, counted n ks d below, many-le (marks ks) n)
+-- none is free before the lowest
+some-free : (t : Table) → 1 ≤ freeIn t → lowestFree t < places
+some-free t h = by-order (leb places (lowestFree t)) refl
+  where
+    by-order : (b : Bool) → leb places (lowestFree t) ≡ b → lowestFree t < places
+    by-order true e = let low = leb-true places (lowestFree t) e in absurd (omega (arith, count-none (λ i. isFree (placeAt t i)) places (λ k l. lowest-before (λ i. isFree (placeAt t i)) places k (omega arith))))
+    by-order false e = leb-false places (lowestFree t) e
 
 -- a push that is kept takes one place
-kept-fewer : (t : Table) → Sound t → (store : List ℕ) (p : Push) {w : Way} → Went t store (p .arrival) (p .payload) (p .room) w → shape w ≡ keepAt 0 → freeIn t 32 ≤ freeIn (tableBy w t (p .arrival) (length (p .payload))) 32 + 1
+taken : (t t′ : Table) (i : ℕ) → ((j : ℕ) → (j ≡ i → ⊥) → placeAt t′ j ≡ placeAt t j) → i < places → freeIn t ≤ freeIn t′ + 1
+taken t t′ i same h = one-fewer (λ j. isFree (placeAt t j)) (λ j. isFree (placeAt t′ j)) i (λ j ne. ap isFree (sym (same j ne))) places h
+
+kept-fewer : (t : Table) → Sound t → (store : List ℕ) (p : Push) {w : Way} → Went t store (p .arrival) (p .payload) (p .room) w → shape w ≡ keepAt 0 → freeIn t ≤ freeIn (tableBy w t (p .arrival) (length (p .payload))) + 1
 kept-fewer t s store p (went-refuse n values) e = let no : _≡_ {A = ℕ} 0 1 = cc in absurd (omega arith)
 kept-fewer t s store p (went-replace i h₁ h₂ q h) e = let no : _≡_ {A = ℕ} 0 1 = cc in absurd (omega arith)
 kept-fewer t s store p (went-keep i h₁ h₂ h₃ l q h k) e =
     let new = placeFor (rowOf t (p .arrival .key)) (p .arrival .fragment) (length (p .payload)) in
-    one-fewer t (withPlace t i new) i (put-elsewhere t i new) 32
+    taken t (withPlace t i new) i (put-elsewhere t i new) h
 kept-fewer t s store p (went-open i r h₁ h₂ h₃ l q h k q₂ h₄) e =
     let new = placeFor r (p .arrival .fragment) (length (p .payload)) in
-    one-fewer t (withPlace (withKey t r (p .arrival .key) (p .arrival .time)) i new) i (put-elsewhere (withKey t r (p .arrival .key) (p .arrival .time)) i new) 32
+    taken t (withPlace (withKey t r (p .arrival .key) (p .arrival .time)) i new) i (put-elsewhere (withKey t r (p .arrival .key) (p .arrival .time)) i new) h
 kept-fewer t s store p (went-end h bytes h₁ h₂ h₃ l q) e = let no : _≡_ {A = ℕ} 0 1 = cc in absurd (omega arith)
 
 module _ (m : Message) (long : ℕ) (store : 47744 ≤ long) (bring : ℕ → Push) (brings : (k : ℕ) → k ≤ m .final → Brings m k (bring k)) where
@@ -174,7 +146,7 @@ module _ (m : Message) (long : ℕ) (store : 47744 ≤ long) (bring : ℕ → Pu
       never-since never q = let no : _≡_ {A = ℕ} 0 1 = cc in omega arith
       never-since (since first) q = let no : _≡_ {A = ℕ} 0 1 = cc in omega arith
 
-  finds-room : (ks : List ℕ) (done : ℕ → Bool) (z : State) → Good long z → Due done ks → Has m done (holding (m .key) z) → length ks ≤ freeIn (z .table) 32
+  finds-room : (ks : List ℕ) (done : ℕ → Bool) (z : State) → Good long z → Due done ks → Has m done (holding (m .key) z) → length ks ≤ freeIn (z .table)
       → (1 ≤ length ks → 16 ≤ rowOf (z .table) (m .key) → 16 ≤ spareRow (z .table) → ⊥) → every after hasRoom z (come ks) ≡ true
   unfolding every
   finds-room [] done z g d has places seat =
@@ -220,8 +192,8 @@ completes m bring order z made store absent-key has-place sent =
     let none : ℕ → Bool = λ k. false in
     let d : Due m long store bring brings none order = record { once = sent .once; new = λ k h. refl; all = sent .all } in
     let has : Has m none (holding (m .key) z) = λ k. ap (λ (v : Holding). v .fragments k) absent-key in
-    let few : length order ≤ m .final = at-most (heldAt m 0) (m .final) order (sent .once) (λ k h. ltb-true k (m .final) (sym (sent .all k) ∙ h)) in
-    let roomy = finds-room m long store bring brings order none z g d has (omega (arith, has-place .places)) (λ l out spare. omega (arith, has-place .row (omega arith))) in
+    let few : length order ≤ m .final = at-most (m .final) order (sent .once) (λ k h. ltb-true k (m .final) (sym (sent .all k) ∙ h)) in
+    let roomy = finds-room m long store bring brings order none z g d has (omega (arith, has-place .free)) (λ l out spare. omega (arith, has-place .row (omega arith))) in
     let story : those (concerns (m .key)) (remaining after hasRoom z (calls m bring order)) ≡ calls m bring order
     = ap (those (concerns (m .key))) (every-remains after hasRoom (calls m bring order) z roomy) ∙ all-concern m long store bring brings order none d in
     let told = as-story m long store bring brings (sent .room) order none (holding (m .key) z) d has in
@@ -239,8 +211,8 @@ completes m bring order z made store absent-key has-place sent =
 
 -- a fresh table has room for every message
 fresh-room : (m : Message) → Room m freshTable
-unfolding freeIn lowest
-fresh-room m = record { places = m .few; row = λ l. omega arith }
+unfolding countIn lowest
+fresh-room m = record { free = m .few; row = λ l. omega arith }
 
 pub fresh-completes : (m : Message) (bring : ℕ → Push) (order : List ℕ) (store : List ℕ) → 47744 ≤ length store → Sent m bring order → Completes m bring order (start store)
 fresh-completes m bring order store long = completes m bring order (start store) byFresh long (fresh-holds store fresh-sound (m .key)) (fresh-room m)

@@ -5,6 +5,8 @@ pub mod Telling
 pub mod Pushing
 pub mod Effects
 pub mod Sweeps
+pub mod Count
+pub mod Found
 pub mod Tallies
 pub mod Totals
 pub mod Counting
@@ -12,7 +14,6 @@ pub mod Locality
 pub mod Alone
 pub mod Orders
 pub mod Joined
-pub mod Free
 pub mod Completion
 pub mod Completes
 pub mod Happened

@@ -5,6 +5,7 @@ use mathlib.Core.Bool.{true, false, not}
 use Prim.Native.Nat.{ℕ, _≤_}
 use lib.ListN.{length}
 use Rattle.sweeping.specs.Sweep.{swept}
+use Rattle.table.specs.Rows.{storeSize}
 use Rattle.pushing.specs.Push.{answerBy, outputBy}
 use Rattle.pushing.specs.Show.{shown}
 use Rattle.pushing.specs.Made.{Made}
@@ -109,8 +110,8 @@ pub record Claims : Type 0 where
   pub sender-alone : (store : List ℕ) (events : List Event) (z : State) → Happened (start store) events z → (store′ : List ℕ) (events′ : List Event) (z′ : State) → Happened (start store′) events′ z′
       → length store′ ≡ length store → (o : Origin) → AskedAlone o events events′ → GotAlone o events events′ z z′
   -- a message completes: at any table that the calls made, at a fresh one, and among pushes under other keys, where these are all that is left of the key's calls and the run's sweeps
-  pub completes : (m : Message) (bring : ℕ → Push) (order : List ℕ) (z : State) → Made (z .table) → 47744 ≤ length (z .store) → holding (m .key) z ≡ holdsNothing → Room m (z .table)
+  pub completes : (m : Message) (bring : ℕ → Push) (order : List ℕ) (z : State) → Made (z .table) → storeSize ≤ length (z .store) → holding (m .key) z ≡ holdsNothing → Room m (z .table)
       → Sent m bring order → Completes m bring order z
-  pub fresh-completes : (m : Message) (bring : ℕ → Push) (order : List ℕ) (store : List ℕ) → 47744 ≤ length store → Sent m bring order → Completes m bring order (start store)
-  pub completes-among : (m : Message) (bring : ℕ → Push) (order : List ℕ) (store : List ℕ) (others : List Call) → 47744 ≤ length store → Sent m bring order
+  pub fresh-completes : (m : Message) (bring : ℕ → Push) (order : List ℕ) (store : List ℕ) → storeSize ≤ length store → Sent m bring order → Completes m bring order (start store)
+  pub completes-among : (m : Message) (bring : ℕ → Push) (order : List ℕ) (store : List ℕ) (others : List Call) → storeSize ≤ length store → Sent m bring order
       → mine (m .key) (crossed (start store) others) ≡ calls m bring order → repliesToAccepted (m .key) (start store) others ≡ completing m order

@@ -1,13 +1,13 @@
 -- A message cut into fragments, and the pushes that bring them (document 01, "The table").
 use mathlib.Core.Path.{_≡_}
 use mathlib.Core.List.{List, [], _∷_, _++_, map}
-use mathlib.Core.Bool.{true, cond}
+use mathlib.Core.Bool.{Bool, true, cond}
 use Prim.Native.Nat.{ℕ, zero, suc, _+_, _≤_, _<_}
 use lib.Dec.{eqb, ltb}
 use lib.ListN.{length}
 use Rattle.numbers.specs.Numbers.{gives}
 use Rattle.table.specs.declared.Table.{Table}
-use Rattle.table.specs.Rows.{placeAt, isFree, spareRow}
+use Rattle.table.specs.Rows.{keys, places, placeSize, storeSize, placeAt, isFree, spareRow}
 use Rattle.pushing.specs.Joining.{Held, heldOf, inOrder}
 use Rattle.pushing.specs.Push.{Heard, waiting, single, joined}
 use Rattle.orders.specs.Runs.{Push, Call, push, Reply, pushed}
@@ -20,8 +20,8 @@ pub record Message : Type 0 where
   pub message-type : ℕ
   pub final : ℕ
   pub piece : ℕ → List ℕ
-  pub few : final ≤ 32
-  pub small : (k : ℕ) → length (piece k) ≤ 1492
+  pub few : final ≤ places
+  pub small : (k : ℕ) → length (piece k) ≤ placeSize
 
 -- fragment k as a table holds it: "only the last marked last"
 abbrev pub heldAt : Message → ℕ → Held
@@ -36,7 +36,7 @@ pub record Brings (m : Message) (k : ℕ) (p : Push) : Type 0 where
   pub key : p .arrival .key ≡ m .key
   pub number : p .arrival .fragment .number ≡ k
   pub fragment : heldOf (p .arrival .fragment) (p .payload) ≡ heldAt m k
-  pub lent : 47744 ≤ p .lent
+  pub lent : storeSize ≤ p .lent
 
 -- "in any order that ends with the last one, with room": pushes that bring each number below the final one once and then the final one, whose output has room for the whole
 pub record Sent (m : Message) (bring : ℕ → Push) (order : List ℕ) : Type 0 where
@@ -48,15 +48,18 @@ pub record Sent (m : Message) (bring : ℕ → Push) (order : List ℕ) : Type 0
 abbrev pub calls : Message → (ℕ → Push) → List ℕ → List Call
 calls m bring order = map (λ k. push (bring k)) order ++ (push (bring (m .final)) ∷ [])
 
--- how many of the first n places are free
-unfoldable pub freeIn : Table → ℕ → ℕ
-freeIn t zero = 0
-freeIn t (suc n) = cond (isFree (placeAt t n)) (freeIn t n + 1) (freeIn t n)
+-- how many of the numbers below n pass a test, and how many places are free
+unfoldable pub countIn : (ℕ → Bool) → ℕ → ℕ
+countIn test zero = 0
+countIn test (suc n) = cond (test n) (countIn test n + 1) (countIn test n)
+
+abbrev pub freeIn : Table → ℕ
+freeIn t = countIn (λ i. isFree (placeAt t i)) places
 
 -- a place for each fragment but the last, which needs none, and a row for the key
 pub record Room (m : Message) (t : Table) : Type 0 where
-  pub places : m .final ≤ freeIn t 32
-  pub row : 1 ≤ m .final → spareRow t < 16
+  pub free : m .final ≤ freeIn t
+  pub row : 1 ≤ m .final → spareRow t < keys
 
 -- all wait, and the last completes: "A single fragment's message is shown as the caller's payload, any other as the first bytes of the output buffer"
 abbrev pub completed : Message → Heard

@@ -5,4 +5,4 @@
 // proofs/Completes, that a message completes; proofs/Examples has document 01's rows on the table.
 //
 // The way there: the crate machines (any machine whose calls act key by key); Telling to Sweeps (what a push and a sweep do to a key's holding, from the table's laws);
-// Tallies to Counting (what a sweep counts); Locality (the table is such a machine); Alone (a table that hears one key alone has the room that the key had among others).
+// Count and Found (how many places a row has); Tallies to Counting (what a sweep counts); Locality (the table is such a machine); Alone (a table that hears one key alone has the room that the key had among others).
