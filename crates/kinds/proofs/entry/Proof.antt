@@ -1,7 +1,11 @@
 -- `entry` meets its contract: the list kind's entry; no entry of a record kind is shown.
-use mathlib.Core.Path.{sym, _∙_, ap}
+use mathlib.Core.Path.{_≡_, sym, _∙_, ap}
+use mathlib.Core.List.{[]}
 use Prim.Native.Nat.{ℕ}
+use native.Mathlib.Nat.{sub-self}
 use Rattle.numbers.specs.Parts.{behind}
+use Rattle.layouts.specs.Access.{numbersOf, partOf}
+use Rattle.kinds.specs.Kinds.{locateKind}
 use Rattle.kinds.proofs.Laws.{list-part, list-start, nothing}
 use borrow.Author.Needs.{needs}
 use Rattle.kinds.proofs.entry.Statement.{statement}
@@ -29,8 +33,10 @@ part-result-end c = search needs
 
 returns-2 : tie.Need-returns-2
 returns-2 c =
-    let h = nothing _ _ (sym (c .before .before .is-list .ensures) ∙ c .before .if1 .left) _ in
-    (h .0, ap (λ (n : ℕ). behind n (c .before .before .before .before .args .s)) (h .1))
+    let x = c .before .before .before .before .args in
+    let h = nothing (x .code) (x .s .now) (sym (c .before .before .is-list .ensures) ∙ c .before .if1 .left) (numbersOf (x .path)) in
+    let e : partOf (locateKind (x .code) (numbersOf (x .path)) (x .s .now)) (x .s .now) ≡ [] = sym (h .0) in
+    (simp (e, sub-self), ap (λ (n : ℕ). behind n (x .s)) (h .1))
 
 pub entry-spec : {M : Type 1} → statement M
 entry-spec =
