@@ -31,7 +31,7 @@ pub record Firmness : Type 0 where
   pub ashlar-find : (list : List Tlv) (payload : List ℕ) (code from : ℕ) → Firm (λ r. r ≡ foundNumbers (findFrom code list payload from))
   pub ashlar-fresh : Firm (λ r. r ≡ freshTable)
   pub ashlar-push : (t : Table) (store out : List ℕ) (a : Arrival) (payload : List ℕ)
-      → Firm {A = (AshlarPushed × Table) × (List ℕ × List ℕ)} (λ o. Numbered (way t store a payload (length out)) t store out a payload (o .0 .0) (o .0 .1) (o .1 .0) (o .1 .1))
+      → Firm {A = AshlarPushed × Table × List ℕ × List ℕ} (λ o. Numbered (way t store a payload (length out)) t store out a payload (o .0) (o .1) (o .2) (o .3))
   pub ashlar-show : (pushed : AshlarPushed) (payload out : List ℕ) → Firm (λ r. r ≡ shownIn pushed (length payload) (length out))
   pub ashlar-sweep : (t : Table) (time : ℕ) → Firm {A = Counts × Table} (λ o. sweptAs (o .1) (o .0) ≡ swept t time)
 
