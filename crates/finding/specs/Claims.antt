@@ -7,7 +7,7 @@ use lib.Dec.{eqb}
 use lib.ListN.{length, getD, drop}
 use Rattle.numbers.specs.Numbers.{Answer, gives, refuses, andThen, isGiven}
 use Rattle.numbers.specs.Firmness.{Firm}
-use Rattle.framing.specs.Tlv.{TlvRead, readTlv, valueIn}
+use Rattle.framing.specs.Tlv.{readTlv, valueIn}
 use Rattle.records.specs.declared.Record.{Record}
 use Rattle.kinds.specs.Kinds.{isKind, Typed, readKind}
 use Rattle.walking.specs.declared.Tlv.{Tlv}

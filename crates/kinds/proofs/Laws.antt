@@ -1,6 +1,6 @@
 -- Laws of reading a kind by its code, from what the layers below answered.
 use mathlib.Core.Path.{_≡_, refl, sym, ap, _∙_}
-use mathlib.Core.Bool.{Bool, true, false, cond}
+use mathlib.Core.Bool.{Bool, true, false}
 use mathlib.Core.List.{List, []}
 use Prim.Native.Nat.{ℕ, _+_, _-_, _≤_}
 use native.Mathlib.Omega.{arith}
@@ -17,7 +17,7 @@ use Rattle.layouts.specs.Layouts.{isList}
 use Rattle.layouts.specs.Reading.{Consumed, readValue}
 use Rattle.layouts.specs.Access.{Span, locateEntry, countEntries, partOf, startOf}
 use Rattle.layouts.proofs.Claims.{values as list-values}
-use Rattle.kinds.specs.Kinds.{Typed, list, one, isKind, oneRecord, oneList, readKind, withoutRecord, noEntryIn, locateKind, countKind}
+use Rattle.kinds.specs.Kinds.{Typed, one, isKind, oneRecord, oneList, readKind, withoutRecord, noEntryIn, locateKind, countKind}
 use Rattle.kinds.specs.Writing.{writeKind, kindBytes}
 
 -- what is measured of a record is what reading it gives, without the record

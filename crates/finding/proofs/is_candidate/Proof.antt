@@ -1,5 +1,4 @@
 -- `is_candidate` meets its contract: a law for each exit.
-use native.Mathlib.Omega.{arith}
 use borrow.Author.Tests.{ne-eqb}
 use Rattle.finding.proofs.Looking.{too-long, left-of}
 use borrow.Author.Needs.{needs}
