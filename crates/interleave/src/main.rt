@@ -44,7 +44,7 @@ fn turns(order: u64, n: u64, sender: u64) -> u64 {
 }
 
 // An answer as a number, and the bytes of its message folded into it.
-fn told<'a>(answer: Pushed, payload: &'a [u8], out: &'a [u8]) -> u64 {
+fn folded_reply<'a>(answer: Pushed, payload: &'a [u8], out: &'a [u8]) -> u64 {
     let code = match answer {
         Pushed::WaitingForMoreFragments => 1,
         Pushed::DuplicatedFragment => 2,
@@ -77,7 +77,7 @@ struct Sums {
     third: u64,
 }
 
-fn heard(s: Sums, sender: u64, what: u64) -> Sums {
+fn with_reply(s: Sums, sender: u64, what: u64) -> Sums {
     if sender == 0 {
         return Sums {
             first: (s.first % 16777216) * 37 + what % 16777216,
@@ -133,7 +133,7 @@ fn play(order: u64, store: &mut [u8], out: &mut [u8]) -> Sums {
         let s = pushed_on(t, store, out, a, &bytes);
         t = s.table;
         let answer = s.answer;
-        sums = heard(sums, sender, told(answer, &bytes, out));
+        sums = with_reply(sums, sender, folded_reply(answer, &bytes, out));
         k += 1;
     }
     sums
@@ -162,7 +162,7 @@ struct Score {
     differed: u64,
 }
 
-fn counted(s: Score, differs: bool) -> Score {
+fn with_order(s: Score, differs: bool) -> Score {
     let played = std::num::wrapping_add_u64(s.played, 1);
     if differs {
         return Score {
@@ -180,7 +180,7 @@ fn counted(s: Score, differs: bool) -> Score {
 fn tried(score: Score, order: u64, expected: Sums, store: &mut [u8], out: &mut [u8]) -> Score {
     if is_fair(order) {
         let sums = play(order, store, out);
-        return counted(score, !same(sums, expected));
+        return with_order(score, !same(sums, expected));
     }
     score
 }

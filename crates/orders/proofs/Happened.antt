@@ -18,7 +18,7 @@ use Rattle.reassembler.specs.Keys.{Origin, keyFor}
 use Rattle.reassembler.proofs.Keys.{key-is-one's}
 use Rattle.machines.specs.Machine.{those, run, remaining, gathered, every}
 use Rattle.orders.specs.Runs.{State, Push, Call, push, sweep, pushed, dropped, finishedBy, part, wayOf, after, tells, isAccepted, hasRoom, isOwn, isSweep, mine, start, holding, ends, crossed, repliesTo}
-use Rattle.orders.specs.Happened.{Event, push-event, sweep-event, Happens, by-push, by-sweep, Happened, none, more, callOf, Got, from-push, from-sweep, gotBy, replyOf, isRefused, isFull, sameBytes, isFrom, sweeps, isAbout}
+use Rattle.orders.specs.Happened.{Event, push-event, sweep-event, Happens, by-push, by-sweep, Happened, none, more, callOf, Got, from-push, from-sweep, gotBy, replyOf, isRefused, isFull, sameBytes, isFrom, isSweepEvent, isAbout}
 use Rattle.orders.specs.Claims.{Reordered, IsRun, AskedReordered, NoneFull, SameGot, AskedAlone, GotAlone}
 use Rattle.machines.proofs.Lists.{left-true, right-true, those-both}
 use Rattle.orders.proofs.Orders.{run-made, told-alone, order-across-keys}
@@ -206,8 +206,8 @@ module _ (store : List ℕ) (es : List Event) (z : State) (h : Happened (start s
         let story = order-across-keys store store′ long (map callOf es) (map callOf fs) (reordered es fs same) (all-pass hasRoom isFull roomy h room) (all-pass hasRoom isFull roomy h′ room′) in
         record {
           pushes = λ o. all-got (those (isFrom o) es) (those (isFrom o) fs) (sym (own o h) ∙ story .pushes (keyFor o) ∙ own o h′);
-          swept = all-got (those sweeps es) (those sweeps fs)
-              (sym (gathers (λ s e. isSweep e) sweeps (λ s s′ e g. refl) h) ∙ story .sweeps ∙ gathers (λ s e. isSweep e) sweeps (λ s s′ e g. refl) h′);
+          sweeps = all-got (those isSweepEvent es) (those isSweepEvent fs)
+              (sym (gathers (λ s e. isSweep e) isSweepEvent (λ s s′ e g. refl) h) ∙ story .sweeps ∙ gathers (λ s e. isSweep e) isSweepEvent (λ s s′ e g. refl) h′);
           holds = λ o. ap (holding (keyFor o)) (sym (ends-at h)) ∙ story .holds (keyFor o) ∙ ap (holding (keyFor o)) (ends-at h′);
         }
 

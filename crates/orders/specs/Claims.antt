@@ -14,7 +14,7 @@ use Rattle.machines.specs.Machine.{those, every}
 use Rattle.orders.specs.Shares.{share, total, isIn, distinct}
 use Rattle.orders.specs.Messages.{Message, Room, Sent, calls, completing}
 use Rattle.orders.specs.Runs.{State, Push, Call, push, sweep, finishedBy, wayOf, isAccepted, isOwn, neverFull, hasRoom, after, tells, mine, start, holding, holdsNothing, ends, crossed, repliesTo, repliesToAccepted, repliesToSweeps}
-use Rattle.orders.specs.Happened.{Event, Happened, callOf, gotBy, isRefused, isFull, isFrom, sweeps, isAbout}
+use Rattle.orders.specs.Happened.{Event, Happened, callOf, gotBy, isRefused, isFull, isFrom, isSweepEvent, isAbout}
 
 -- What a key holds is untouched by every push under another key, refused or not; a refused call changes nothing.
 pub record Local (z : State) : Type 0 where
@@ -75,7 +75,7 @@ NoneFull events = those isFull events ≡ []
 -- and its callers got the same: the call's own answers, the bytes that show shows, the counts; and the tables hold the same
 pub record SameGot (events events′ : List Event) (z z′ : State) : Type 0 where
   pub pushes : (o : Origin) → map gotBy (those (isFrom o) events) ≡ map gotBy (those (isFrom o) events′)
-  pub swept : map gotBy (those sweeps events) ≡ map gotBy (those sweeps events′)
+  pub sweeps : map gotBy (those isSweepEvent events) ≡ map gotBy (those isSweepEvent events′)
   pub holds : (o : Origin) → holding (keyFor o) z ≡ holding (keyFor o) z′
 
 -- Request 2026-09 for them: the second calls ask for one sender's message what was not refused in the first, and the sweeps

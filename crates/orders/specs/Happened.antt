@@ -68,8 +68,8 @@ abbrev pub isFrom : Origin → Event → Bool
 isFrom o (push-event o′ p key out answer out′) = sameBytes (o′ .sender) (o .sender) && eqb (o′ .message-id) (o .message-id)
 isFrom o (sweep-event time counts) = false
 
-abbrev pub sweeps : Event → Bool
-sweeps e = isSweep (callOf e)
+abbrev pub isSweepEvent : Event → Bool
+isSweepEvent e = isSweep (callOf e)
 
 abbrev pub isAbout : Origin → Event → Bool
-isAbout o e = isFrom o e || sweeps e
+isAbout o e = isFrom o e || isSweepEvent e

@@ -42,14 +42,14 @@ slice-aggregate-pushed-on c = search needs
 pushed-on-requires : tie.Need-pushed-on-requires Inv-loop μ-loop
 pushed-on-requires c κs = search needs
 
-slice-aggregate-told : tie.Need-slice-aggregate-told Inv-loop μ-loop
-slice-aggregate-told c = search needs
+slice-aggregate-folded-reply : tie.Need-slice-aggregate-folded-reply Inv-loop μ-loop
+slice-aggregate-folded-reply c = search needs
 
-told-requires : tie.Need-told-requires Inv-loop μ-loop
-told-requires c κs = search needs
+folded-reply-requires : tie.Need-folded-reply-requires Inv-loop μ-loop
+folded-reply-requires c κs = search needs
 
-heard-requires : tie.Need-heard-requires Inv-loop μ-loop
-heard-requires c κs = search needs
+with-reply-requires : tie.Need-with-reply-requires Inv-loop μ-loop
+with-reply-requires c κs = search needs
 
 add-k : tie.Need-add-k Inv-loop μ-loop
 add-k c = search needs
@@ -84,9 +84,9 @@ play-spec =
     arrival-requires
     slice-aggregate-pushed-on
     pushed-on-requires
-    slice-aggregate-told
-    told-requires
-    heard-requires
+    slice-aggregate-folded-reply
+    folded-reply-requires
+    with-reply-requires
     add-k
     loop-less
     loop-again
