@@ -12,12 +12,13 @@ use Rattle.sweeping.specs.declared.Swept.{Swept}
 use Rattle.sweeping.specs.Sweep.{Tally, noneDropped, expired, tallied, tally, lackOf, plusOne, sweptRow, sweptRows, swept}
 use Rattle.table.specs.Rows.{Place, ownerOf, placeAt, rowOf, without}
 use Rattle.pushing.specs.Joining.{heldIn, never, since}
-use Rattle.table.proofs.Sound.{Sound, row-holds}
+use Rattle.table.proofs.Sound.{Sound, row-holds, dropped-other}
+use Rattle.table.proofs.Apart.{time-after-drop}
 use Rattle.sweeping.proofs.Sound.{sweep-sound}
 use Rattle.orders.specs.Runs.{State, Holding, holding, holdsNothing}
 use Rattle.orders.specs.Shares.{tallyOf, share, plus, total, isIn, distinct}
 use Rattle.table.proofs.Places.{after-drop}
-use Rattle.orders.proofs.Rows.{isUsed, codeAt, firstAt, dropped-used, dropped-first}
+use Rattle.orders.proofs.Rows.{isUsed, codeAt, firstAt}
 use Rattle.orders.proofs.Lookups.{row-is}
 use Rattle.orders.proofs.Holdings.{absent, present}
 use Rattle.orders.proofs.Sweeps.{due-is, due-never}
@@ -58,8 +59,8 @@ module _ (t : Table) (s : Sound t) (time : ℕ) where
   later-by n r h l true w s₁ k =
       let off : r ≡ n → ⊥ = λ e. omega arith in
       record {
-        as-used = dropped-used (w .table) s₁ n h (λ (b : Bool). b ≡ isUsed t r) r (λ e. absurd (off e)) (λ e. k .as-used);
-        as-first = dropped-first (w .table) s₁ n h (λ (m : ℕ). m ≡ firstAt t r) r (λ e. absurd (off e)) (λ e. k .as-first);
+        as-used = dropped-other (w .table) s₁ n h r off ∙ k .as-used;
+        as-first = time-after-drop (w .table) s₁ n h r off ∙ k .as-first;
         as-tally = tally-without (w .table) n r off 32 ∙ k .as-tally;
       }
 

@@ -1,14 +1,14 @@
 -- What a key holds, by its row and through the part of a store that is lent.
-use mathlib.Core.Path.{_≡_, refl, sym, ap, _∙_}
+use mathlib.Core.Path.{_≡_, refl, sym, _∙_}
 use mathlib.Core.List.{List, _++_}
 use mathlib.Core.Bool.{Bool, true, false}
-use Prim.Native.Nat.{ℕ, _+_, _*_, _≤_, _<_}
+use Prim.Native.Nat.{ℕ, _*_, _≤_, _<_}
 use native.Mathlib.Omega.{arith}
 use lib.Dec.{ltb}
 use lib.ListN.{length}
 use borrow.Author.Tests.{ltb-true, ltb-false, lt-ltb}
 use Rattle.table.specs.declared.Table.{Table}
-use Rattle.table.specs.Rows.{placeAt, rowOf, placeOf, bytesAt}
+use Rattle.table.specs.Rows.{placeAt, rowOf, placeOf}
 use Rattle.pushing.specs.Joining.{keptAt, heldIn, since, firstTime}
 use Rattle.orders.specs.Runs.{State, holding, holdsNothing}
 use Rattle.pushing.proofs.Pieces.{kept-out, kept-same}
