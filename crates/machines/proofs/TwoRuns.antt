@@ -6,68 +6,68 @@ use Prim.Native.Nat.{ℕ}
 use native.Mathlib.Omega.{arith}
 use Rattle.machines.specs.Machine.{those, run, remaining, gathered, every}
 use Rattle.machines.proofs.Lists.{those-twice, every-remains, every-gathered, gathered-map}
+use Rattle.machines.proofs.Story.{Machine}
 use Rattle.machines.proofs.Story as Y
 
-module _ {S E A Vw : Type 0} (step : S → E → S) (says : S → E → A) (view : ℕ → S → Vw) (own : ℕ → E → Bool) (common : E → Bool) (tell : Vw → E → Vw) (answer : Vw → E → A)
-    (passes : S → E → Bool) (Good : S → Type 0) (L : Y.Local step says view own common tell answer passes Good) where
+module _ {S E A Vw : Type 0} (m : Machine S E A Vw) (passes : S → E → Bool) (Good : S → Type 0) (L : Y.Local m passes Good) where
   abbrev pub story : ℕ → S → List E → List E
-  story c s es = those (λ e. own c e || common e) (remaining step passes s es)
+  story c s es = those (λ e. m .own c e || m .common e) (remaining (m .step) passes s es)
 
   abbrev pub hers : ℕ → S → E → Bool
-  hers c s e = own c e && passes s e
+  hers c s e = m .own c e && passes s e
 
   -- stories that are alike end alike
-  pub alike-view : (c : ℕ) (es fs : List E) (s s′ : S) → Good s → Good s′ → view c s ≡ view c s′ → story c s es ≡ story c s′ fs → view c (run step s es) ≡ view c (run step s′ fs)
+  pub alike-view : (c : ℕ) (es fs : List E) (s s′ : S) → Good s → Good s′ → m .view c s ≡ m .view c s′ → story c s es ≡ story c s′ fs → m .view c (run (m .step) s es) ≡ m .view c (run (m .step) s′ fs)
   alike-view c es fs s s′ g g′ v h =
-      let between : Y.viewAfter step says view own common tell answer (view c s) (story c s es) ≡ Y.viewAfter step says view own common tell answer (view c s′) (story c s′ fs) = cc in
-      Y.alone step says view own common tell answer passes Good L c es s g ∙ between ∙ sym (Y.alone step says view own common tell answer passes Good L c fs s′ g′)
+      let between : Y.viewAfter m (m .view c s) (story c s es) ≡ Y.viewAfter m (m .view c s′) (story c s′ fs) = cc in
+      Y.alone m passes Good L c es s g ∙ between ∙ sym (Y.alone m passes Good L c fs s′ g′)
 
-  pub alike-gathered : (c : ℕ) (es fs : List E) (s s′ : S) → Good s → Good s′ → view c s ≡ view c s′ → story c s es ≡ story c s′ fs → gathered step (hers c) says s es ≡ gathered step (hers c) says s′ fs
+  pub alike-gathered : (c : ℕ) (es fs : List E) (s s′ : S) → Good s → Good s′ → m .view c s ≡ m .view c s′ → story c s es ≡ story c s′ fs → gathered (m .step) (hers c) (m .says) s es ≡ gathered (m .step) (hers c) (m .says) s′ fs
   alike-gathered c es fs s s′ g g′ v h =
-      let between : Y.answers step says view own common tell answer c (view c s) (story c s es) ≡ Y.answers step says view own common tell answer c (view c s′) (story c s′ fs) = cc in
-      Y.gathered-alone step says view own common tell answer passes Good L c es s g ∙ between ∙ sym (Y.gathered-alone step says view own common tell answer passes Good L c fs s′ g′)
+      let between : Y.answers m c (m .view c s) (story c s es) ≡ Y.answers m c (m .view c s′) (story c s′ fs) = cc in
+      Y.gathered-alone m passes Good L c es s g ∙ between ∙ sym (Y.gathered-alone m passes Good L c fs s′ g′)
 
   -- one key's story, told alone
-  module _ (c : ℕ) (Lone : S → Type 0) (K : Y.Echo step says view own common tell answer passes Good L c Lone) (es : List E) (s s′ : S) (g : Good s) (g′ : Good s′) (l : Lone s′) (v : view c s ≡ view c s′) where
-    pub all-pass : every step passes s′ (story c s es) ≡ true
-    all-pass = Y.none-crossed step says view own common tell answer passes Good L c Lone K es s s′ g g′ l v
+  module _ (c : ℕ) (Lone : S → Type 0) (K : Y.Echo m passes Good L c Lone) (es : List E) (s s′ : S) (g : Good s) (g′ : Good s′) (l : Lone s′) (v : (m .view) c s ≡ m .view c s′) where
+    pub all-pass : every (m .step) passes s′ (story c s es) ≡ true
+    all-pass = Y.none-crossed m passes Good L c Lone K es s s′ g g′ l v
 
     same-story : story c s es ≡ story c s′ (story c s es)
-    same-story = sym (ap (those (λ e. own c e || common e)) (every-remains step passes (story c s es) s′ all-pass) ∙ those-twice (λ e. own c e || common e) (remaining step passes s es))
+    same-story = sym (ap (those (λ e. m .own c e || m .common e)) (every-remains (m .step) passes (story c s es) s′ all-pass) ∙ those-twice (λ e. m .own c e || m .common e) (remaining (m .step) passes s es))
 
-    pub projected-view : view c (run step s es) ≡ view c (run step s′ (story c s es))
+    pub projected-view : (m .view) c (run (m .step) s es) ≡ m .view c (run (m .step) s′ (story c s es))
     projected-view = alike-view c es (story c s es) s s′ g g′ v same-story
 
-    pub projected-gathered : gathered step (hers c) says s es ≡ gathered step (λ s e. own c e) says s′ (story c s es)
-    projected-gathered = alike-gathered c es (story c s es) s s′ g g′ v same-story ∙ every-gathered step passes (λ s e. own c e) says (story c s es) s′ all-pass
+    pub projected-gathered : gathered (m .step) (hers c) (m .says) s es ≡ gathered (m .step) (λ s e. m .own c e) (m .says) s′ (story c s es)
+    projected-gathered = alike-gathered c es (story c s es) s s′ g g′ v same-story ∙ every-gathered (m .step) passes (λ s e. m .own c e) (m .says) (story c s es) s′ all-pass
 
   -- at each common call the states, the call itself with them
   abbrev stage : S → E → S × E
   stage s e = (s, e)
 
   abbrev shared : S → E → Bool
-  shared s e = common e
+  shared s e = m .common e
 
   data Stages : List (S × E) → Type 0 where
     none : Stages []
-    more : {s : S} {e : E} {xs : List (S × E)} → Good s → common e ≡ true → Stages xs → Stages ((s, e) ∷ xs)
+    more : {s : S} {e : E} {xs : List (S × E)} → Good s → m .common e ≡ true → Stages xs → Stages ((s, e) ∷ xs)
 
-  stages : (es : List E) (s : S) → Good s → Stages (gathered step shared stage s es)
+  stages : (es : List E) (s : S) → Good s → Stages (gathered (m .step) shared stage s es)
   unfolding gathered
   stages [] s g = none
-  stages (e ∷ es) s g = by-test (common e) refl (stages es (step s e) (L .stays s e g))
+  stages (e ∷ es) s g = by-test (m .common e) refl (stages es (m .step s e) (L .stays s e g))
     where
-      by-test : (b : Bool) → common e ≡ b → Stages (gathered step shared stage (step s e) es) → Stages (cond b ((s, e) ∷ gathered step shared stage (step s e) es) (gathered step shared stage (step s e) es))
+      by-test : (b : Bool) → m .common e ≡ b → Stages (gathered (m .step) shared stage (m .step s e) es) → Stages (cond b ((s, e) ∷ gathered (m .step) shared stage (m .step s e) es) (gathered (m .step) shared stage (m .step s e) es))
       by-test true p r = more g p r
       by-test false p r = r
 
   -- what a common call says is a function of all the keys' views
-  module _ (counts : (s s′ : S) (e : E) → Good s → Good s′ → common e ≡ true → ((c : ℕ) → view c s ≡ view c s′) → says s e ≡ says s′ e) where
+  module _ (counts : (s s′ : S) (e : E) → Good s → Good s′ → m .common e ≡ true → ((c : ℕ) → m .view c s ≡ m .view c s′) → m .says s e ≡ m .says s′ e) where
     abbrev at : ℕ → S × E → Vw × E
-    at c x = (view c (x .0), x .1)
+    at c x = (m .view c (x .0), x .1)
 
     abbrev spoken : S × E → A
-    spoken x = says (x .0) (x .1)
+    spoken x = m .says (x .0) (x .1)
 
     heads : (c : ℕ) (x y : S × E) (xs ys : List (S × E)) → map (at c) (x ∷ xs) ≡ map (at c) (y ∷ ys) → at c x ≡ at c y
     heads c x y xs ys h = cc
@@ -78,21 +78,21 @@ module _ {S E A Vw : Type 0} (step : S → E → S) (says : S → E → A) (view
     agree (more g p r) none h = let e = h 0 in let z : _≡_ {A = ℕ} 0 1 = cc in absurd (omega arith)
     agree (more {s = s} {e = e} {xs = xs} g p r) (more {s = s′} {e = e′} {xs = ys} g′ p′ r′) h =
         let same : e ≡ e′ = ap (λ (x : Vw × E). x .1) (heads 0 (s, e) (s′, e′) xs ys (h 0)) in
-        let here : says s e ≡ says s′ e = counts s s′ e g g′ p (λ c. ap (λ (x : Vw × E). x .0) (heads c (s, e) (s′, e′) xs ys (h c))) in
+        let here : (m .says) s e ≡ m .says s′ e = counts s s′ e g g′ p (λ c. ap (λ (x : Vw × E). x .0) (heads c (s, e) (s′, e′) xs ys (h c))) in
         let rest : map spoken xs ≡ map spoken ys = agree r r′ (λ c. let k = h c in cc) in
         cc
 
-    pub alike-common : (es fs : List E) (s s′ : S) → Good s → Good s′ → ((c : ℕ) → view c s ≡ view c s′) → ((c : ℕ) → story c s es ≡ story c s′ fs) → gathered step shared says s es ≡ gathered step shared says s′ fs
+    pub alike-common : (es fs : List E) (s s′ : S) → Good s → Good s′ → ((c : ℕ) → m .view c s ≡ m .view c s′) → ((c : ℕ) → story c s es ≡ story c s′ fs) → gathered (m .step) shared (m .says) s es ≡ gathered (m .step) shared (m .says) s′ fs
     alike-common es fs s s′ g g′ v h =
-        let met = Y.met step says view own common tell answer in
-        sym (gathered-map step shared stage spoken es s)
+        let met = Y.met m in
+        sym (gathered-map (m .step) shared stage spoken es s)
         ∙ agree (stages es s g) (stages fs s′ g′) (λ c.
         let w = v c in
         let k = h c in
-        let between : met (view c s) (story c s es) ≡ met (view c s′) (story c s′ fs) = cc in
-        gathered-map step shared stage (at c) es s
-        ∙ Y.met-alone step says view own common tell answer passes Good L c es s g
+        let between : met (m .view c s) (story c s es) ≡ met (m .view c s′) (story c s′ fs) = cc in
+        gathered-map (m .step) shared stage (at c) es s
+        ∙ Y.met-alone m passes Good L c es s g
         ∙ between
-        ∙ sym (Y.met-alone step says view own common tell answer passes Good L c fs s′ g′)
-        ∙ sym (gathered-map step shared stage (at c) fs s′))
-        ∙ gathered-map step shared stage spoken fs s′
+        ∙ sym (Y.met-alone m passes Good L c fs s′ g′)
+        ∙ sym (gathered-map (m .step) shared stage (at c) fs s′))
+        ∙ gathered-map (m .step) shared stage spoken fs s′

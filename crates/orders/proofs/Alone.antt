@@ -14,13 +14,13 @@ use Rattle.table.proofs.Search.{lowest-holds, lowest-before}
 use Rattle.pushing.proofs.Ways.{Went, went, went-refuse, went-replace, went-keep, went-open, went-end}
 use Rattle.table.proofs.Sound.{Sound}
 use Rattle.pushing.proofs.Sound.{sound}
-use Rattle.orders.specs.Runs.{State, Push, Call, push, sweep, finishedBy, part, wayOf, after, tells, isAccepted, isOwn, isSweep, concerns, start, Holding, holding, holdsNothing}
+use Rattle.orders.specs.Runs.{State, Push, Call, push, sweep, finishedBy, part, wayOf, after, isAccepted, concerns, start, Holding, holding, holdsNothing}
 use Rattle.orders.specs.Messages.{countIn}
 use Rattle.table.proofs.Places.{all-same}
 use Rattle.orders.proofs.Rows.{isUsed, codeAt, firstAt}
 use Rattle.orders.proofs.Lookups.{row-none, row-is}
 use Rattle.orders.proofs.Holdings.{absent, present}
-use Rattle.orders.proofs.Telling.{shape, refusedWay, refused-is, ownWay, tell, answer}
+use Rattle.orders.proofs.Telling.{acts, shape, refusedWay, refused-is, ownWay}
 use Rattle.orders.proofs.Pushing.{Good, Full, no-place, no-row, Outcome, as-told, full, outcome, way-shape}
 use Rattle.orders.proofs.Count.{count-all, count-less}
 use Rattle.orders.proofs.Found.{owns, count-held}
@@ -109,7 +109,7 @@ module _ (long : ℕ) (c : ℕ) where
   stays-lone z (push p) g lone h k ne = untouched long z g k p (λ q. ne (q ∙ eqb-true _ _ (sym (or-false (eqb (p .arrival .key) c)) ∙ h))) ∙ lone k ne
   stays-lone z (sweep time) g lone h k ne = own-sweep long z g k time ∙ ap (λ (v : Holding). cond (due time (v .first)) holdsNothing v) (lone k ne)
 
-  pub echo : Y.Echo after tells holding isOwn isSweep (tell long) (answer long) isAccepted (Good long) (local-accepted long) c (Lone c)
+  pub echo : Y.Echo (acts long) isAccepted (Good long) (local-accepted long) c (Lone c)
   echo = record { stays = stays-lone; echoed = echoed }
 
 -- a fresh table holds nothing

@@ -18,7 +18,7 @@ use Rattle.pushing.proofs.Ways.{Went, went, went-refuse, went-replace, went-kee
 use Rattle.table.proofs.Sound.{Sound, fresh-sound}
 use Rattle.pushing.proofs.Sound.{sound}
 use Rattle.machines.specs.Machine.{those, remaining, every}
-use Rattle.orders.specs.Runs.{State, Push, Call, push, Reply, pushed, finishedBy, part, wayOf, after, tells, hasRoom, isOwn, isSweep, concerns, start, Holding, holding, holdsNothing, mine, crossed, repliesTo, repliesToAccepted}
+use Rattle.orders.specs.Runs.{State, Push, Call, push, Reply, pushed, finishedBy, part, wayOf, after, tells, hasRoom, isOwn, concerns, start, Holding, holding, holdsNothing, mine, crossed, repliesTo, repliesToAccepted}
 use Rattle.orders.specs.Shares.{isIn, distinct}
 use Rattle.orders.specs.Messages.{Message, heldAt, whole, Brings, Sent, calls, countIn, freeIn, Room, completing}
 use Rattle.orders.specs.Claims.{Completes}
@@ -26,7 +26,7 @@ use Rattle.table.proofs.Search.{lowest-before}
 use Rattle.table.proofs.Places.{put-elsewhere}
 use Rattle.machines.proofs.Lists.{left-true, right-true, every-remains, every-gathered}
 use Rattle.orders.proofs.Holdings.{absent}
-use Rattle.orders.proofs.Telling.{shape, ownWay, sinceOr, byOwn, withNew, tell, answer}
+use Rattle.orders.proofs.Telling.{acts, shape, ownWay, sinceOr, byOwn, withNew, tell, answer}
 use Rattle.orders.proofs.Pushing.{Good, Full, no-place, no-row, way-shape, room-unless}
 use Rattle.orders.proofs.Locality.{has-room, good-after, own-push, local-room}
 use Rattle.orders.proofs.Alone.{fresh-holds}
@@ -97,10 +97,10 @@ module _ (m : Message) (long : ℕ) (store : 47744 ≤ long) (bring : ℕ → Pu
 
   -- the story of the key alone
   abbrev answersOf : Holding → List Call → List Reply
-  answersOf = Y.answers after tells holding isOwn isSweep (tell long) (answer long) (m .key)
+  answersOf = Y.answers (acts long) (m .key)
 
   abbrev viewBehind : Holding → List Call → Holding
-  viewBehind = Y.viewAfter after tells holding isOwn isSweep (tell long) (answer long)
+  viewBehind = Y.viewAfter (acts long)
 
   module _ (room : 1 ≤ m .final → length (whole m) ≤ bring (m .final) .room) where
     gathered-one : (v : Holding) (p : Push) (es : List Call) → p .arrival .key ≡ m .key → answersOf v (push p ∷ es) ≡ answer long v (push p) ∷ answersOf (tell long v (push p)) es
@@ -200,11 +200,11 @@ completes m bring order z made store absent-key has-place sent =
     record {
       answers =
           sym (every-gathered after hasRoom (λ s e. isOwn (m .key) e) tells (calls m bring order) z roomy)
-          ∙ Y.gathered-alone after tells holding isOwn isSweep (tell long) (answer long) hasRoom (Good long) (local-room long) (m .key) (calls m bring order) z g
+          ∙ Y.gathered-alone (acts long) hasRoom (Good long) (local-room long) (m .key) (calls m bring order) z g
           ∙ ap (answersOf m long store bring brings (holding (m .key) z)) story
           ∙ told .0;
       holds =
-          Y.alone after tells holding isOwn isSweep (tell long) (answer long) hasRoom (Good long) (local-room long) (m .key) (calls m bring order) z g
+          Y.alone (acts long) hasRoom (Good long) (local-room long) (m .key) (calls m bring order) z g
           ∙ ap (viewBehind m long store bring brings (holding (m .key) z)) story
           ∙ told .1;
     }

@@ -17,7 +17,7 @@ use Rattle.orders.specs.Runs.{State, Push, Call, push, sweep, dropped, a
 use Rattle.orders.specs.Shares.{share, total, isIn, distinct}
 use Rattle.orders.specs.Claims.{Local, Alike, ToldAlone, SharesAddUp, AddsUp, Reordered, SameStory}
 use Rattle.machines.proofs.Lists.{those-append, every-remains, every-gathered}
-use Rattle.orders.proofs.Telling.{tell, answer}
+use Rattle.orders.proofs.Telling.{acts, tell, answer}
 use Rattle.orders.proofs.Pushing.{Good}
 use Rattle.orders.proofs.Locality.{refused-nothing, good-after, good-start, untouched, own-push, own-reply, own-sweep, local-room, local-accepted}
 use Rattle.orders.proofs.Totals.{none-plus, total-same}
@@ -44,9 +44,9 @@ module _ (store store′ : List ℕ) (long : length store′ ≡ length store) w
   told-alone key calls =
       let lone : Lone key (start store′) = λ k ne. fresh-holds store′ fresh-sound k in
       record {
-        answers = R.projected-gathered after tells holding isOwn isSweep (tell n) (answer n) isAccepted (Good n) (local-accepted n) key (Lone key) (echo n key) calls (start store) (start store′) good good′ lone (fresh-same store store′ key);
-        holds = R.projected-view after tells holding isOwn isSweep (tell n) (answer n) isAccepted (Good n) (local-accepted n) key (Lone key) (echo n key) calls (start store) (start store′) good good′ lone (fresh-same store store′ key);
-        none-refused = R.all-pass after tells holding isOwn isSweep (tell n) (answer n) isAccepted (Good n) (local-accepted n) key (Lone key) (echo n key) calls (start store) (start store′) good good′ lone (fresh-same store store′ key);
+        answers = R.projected-gathered (acts n) isAccepted (Good n) (local-accepted n) key (Lone key) (echo n key) calls (start store) (start store′) good good′ lone (fresh-same store store′ key);
+        holds = R.projected-view (acts n) isAccepted (Good n) (local-accepted n) key (Lone key) (echo n key) calls (start store) (start store′) good good′ lone (fresh-same store store′ key);
+        none-refused = R.all-pass (acts n) isAccepted (Good n) (local-accepted n) key (Lone key) (echo n key) calls (start store) (start store′) good good′ lone (fresh-same store store′ key);
       }
 
   -- the counts of a sweep go by what the keys hold
@@ -62,10 +62,10 @@ module _ (store store′ : List ℕ) (long : length store′ ≡ length store) w
       record {
         pushes = λ key.
             sym (every-gathered after hasRoom (λ s e. isOwn key e) tells calls (start store) room)
-            ∙ R.alike-gathered after tells holding isOwn isSweep (tell n) (answer n) hasRoom (Good n) (local-room n) key calls calls′ (start store) (start store′) good good′ (fresh-same store store′ key) (stories key)
+            ∙ R.alike-gathered (acts n) hasRoom (Good n) (local-room n) key calls calls′ (start store) (start store′) good good′ (fresh-same store store′ key) (stories key)
             ∙ every-gathered after hasRoom (λ s e. isOwn key e) tells calls′ (start store′) room′;
-        sweeps = R.alike-common after tells holding isOwn isSweep (tell n) (answer n) hasRoom (Good n) (local-room n) common-same calls calls′ (start store) (start store′) good good′ (fresh-same store store′) stories;
-        holds = λ key. R.alike-view after tells holding isOwn isSweep (tell n) (answer n) hasRoom (Good n) (local-room n) key calls calls′ (start store) (start store′) good good′ (fresh-same store store′ key) (stories key);
+        sweeps = R.alike-common (acts n) hasRoom (Good n) (local-room n) common-same calls calls′ (start store) (start store′) good good′ (fresh-same store store′) stories;
+        holds = λ key. R.alike-view (acts n) hasRoom (Good n) (local-room n) key calls calls′ (start store) (start store′) good good′ (fresh-same store store′ key) (stories key);
       }
 
 -- two pushes under different keys that change places are such an order, and so are all that such changes lead to
@@ -108,7 +108,7 @@ not-hers key k ne (sweep time ∷ calls) = not-hers key k ne calls
 
 module _ (store : List ℕ) where
   good-ends : (calls : List Call) → Good (length store) (ends (start store) calls)
-  good-ends calls = Y.good-run after tells holding isOwn isSweep (tell (length store)) (answer (length store)) hasRoom (Good (length store)) (local-room (length store)) calls (start store) (good-start store)
+  good-ends calls = Y.good-run (acts (length store)) hasRoom (Good (length store)) (local-room (length store)) calls (start store) (good-start store)
 
   -- the tables of a run are those that push asks for
   pub run-made : (calls : List Call) → Made (ends (start store) calls .table)

@@ -9,7 +9,8 @@ use borrow.Author.Tests.{lt-ltb, le-ltb}
 use Rattle.pushing.specs.Joining.{Since, never, since, isKept, heldOf, andNew, due}
 use Rattle.pushing.specs.Push.{Way, refuse, replace, keepAt, openAt, end, joinWay, answerBy}
 use Rattle.sweeping.specs.Sweep.{noneDropped}
-use Rattle.orders.specs.Runs.{Push, Call, push, sweep, Reply, pushed, dropped, finishedBy, refusedBy, Holding, holdsNothing}
+use Rattle.machines.proofs.Story.{Machine}
+use Rattle.orders.specs.Runs.{State, Push, Call, push, sweep, Reply, pushed, dropped, finishedBy, refusedBy, Holding, holdsNothing, after, tells, isOwn, isSweep, holding}
 
 -- a way, but for the places and rows that it names
 abbrev pub shape : Way → Way
@@ -95,3 +96,7 @@ tell long v (sweep time) = cond (due time (v .first)) holdsNothing v
 abbrev pub answer : ℕ → Holding → Call → Reply
 answer long v (push p) = pushed (answerBy (ownWay long v p)) (finishedBy (ownWay long v p) (p .payload))
 answer long v (sweep time) = dropped noneDropped
+
+-- the table as a machine that acts key by key
+abbrev pub acts : ℕ → Machine State Call Reply Holding
+acts long = record { step = after; says = tells; view = holding; own = isOwn; common = isSweep; tell = tell long; answer = answer long }
