@@ -195,9 +195,14 @@ accepted z z′ e h = rw (happens h .1)
 roomy : (z z′ : State) (e : Event) → Happens z e z′ → hasRoom z (callOf e) ≡ not (isFull e)
 roomy z z′ e h = rw (happens h .1)
 
+all-those : (es : List Event) → those (λ e. true) es ≡ es
+unfolding those
+all-those [] = refl
+all-those (e ∷ es) = rw (all-those es)
+
 module _ (store : List ℕ) (es : List Event) (z : State) (h : Happened (start store) es z) where
   pub is-run : IsRun store es z
-  is-run = record { end = ends-at h; made = subst (λ (s : State). Made (s .table)) (ends-at h) (run-made store (map callOf es)) }
+  is-run = record { replies = gathers (λ s e. true) (λ e. true) (λ s s′ e g. refl) h ∙ ap (map (λ e. replyOf (gotBy e))) (all-those es); end = ends-at h; made = subst (λ (s : State). Made (s .table)) (ends-at h) (run-made store (map callOf es)) }
 
   module _ (store′ : List ℕ) (fs : List Event) (z′ : State) (h′ : Happened (start store′) fs z′) (long : length store′ ≡ length store) where
     -- demand 3

@@ -10,11 +10,11 @@ use Rattle.pushing.specs.Push.{answerBy, outputBy}
 use Rattle.pushing.specs.Show.{shown}
 use Rattle.pushing.specs.Made.{Made}
 use Rattle.reassembler.specs.Keys.{Origin, keyFor}
-use Rattle.machines.specs.Machine.{those, every}
+use Rattle.machines.specs.Machine.{those, gathered, every}
 use Rattle.orders.specs.Shares.{share, total, isIn, distinct}
 use Rattle.orders.specs.Messages.{Message, Room, Sent, calls, completing}
 use Rattle.orders.specs.Runs.{State, Push, Call, push, sweep, finishedBy, wayOf, isAccepted, isOwn, neverFull, hasRoom, after, tells, mine, start, holding, holdsNothing, ends, crossed, repliesTo, repliesToAccepted, repliesToSweeps}
-use Rattle.orders.specs.Happened.{Event, Happened, callOf, gotBy, isRefused, isFull, isFrom, isSweepEvent, isAbout}
+use Rattle.orders.specs.Happened.{Event, Happened, callOf, gotBy, replyOf, isRefused, isFull, isFrom, isSweepEvent, isAbout}
 
 -- What a key holds is untouched by every push under another key, refused or not; a refused call changes nothing.
 pub record Local (z : State) : Type 0 where
@@ -60,8 +60,9 @@ pub record Completes (m : Message) (bring : ℕ → Push) (order : List ℕ) (z 
   pub answers : repliesTo (m .key) z (calls m bring order) ≡ completing m order
   pub holds : holding (m .key) (ends z (calls m bring order)) ≡ holdsNothing
 
--- Calls that happened are a run: the table at their end is the run's, and one that push asks for.
+-- Calls that happened are a run: what is told of each is what its caller got, and the table at their end is the run's, and one that push asks for.
 pub record IsRun (store : List ℕ) (events : List Event) (z : State) : Type 0 where
+  pub replies : gathered after (λ s e. true) tells (start store) (map callOf events) ≡ map (λ e. replyOf (gotBy e)) events
   pub end : ends (start store) (map callOf events) ≡ z
   pub made : Made (z .table)
 
