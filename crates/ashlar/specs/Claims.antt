@@ -36,8 +36,8 @@ pub record Firmness : Type 0 where
   pub ashlar-sweep : (t : Table) (time : ℕ) → Firm {A = Counts × Table} (λ o. sweptAs (o .1) (o .0) ≡ swept t time)
 
 -- The part that an answer of `ashlar_show` names is the one that the table's own showing call returns.
-abbrev pub partOf : AshlarShown → List ℕ → List ℕ → List ℕ
-partOf s payload out = take (s .length) (cond (s .«in_output») out payload)
+abbrev pub messageIn : AshlarShown → List ℕ → List ℕ → List ℕ
+messageIn s payload out = take (s .length) (cond (s .«in_output») out payload)
 
 abbrev pub ShowsTheMessage : Type 0
-ShowsTheMessage = (h : Answer Heard) (payload out : List ℕ) → partOf (shownIn (pushNumbers h) (length payload) (length out)) payload out ≡ shown h payload out
+ShowsTheMessage = (h : Answer Heard) (payload out : List ℕ) → messageIn (shownIn (pushNumbers h) (length payload) (length out)) payload out ≡ shown h payload out

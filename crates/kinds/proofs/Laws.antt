@@ -15,7 +15,7 @@ use Rattle.records.specs.Reading.{Reading, isRecord, readRecord}
 use Rattle.records.proofs.Given.{isKnown, known, consumed-within as record-within}
 use Rattle.layouts.specs.Layouts.{isList}
 use Rattle.layouts.specs.Reading.{Consumed, readValue}
-use Rattle.layouts.specs.Access.{Span, locateEntry, countEntries, partOf, startOf}
+use Rattle.layouts.specs.Access.{Span, locateEntry, countEntries, partOf, startIn}
 use Rattle.layouts.proofs.Claims.{values as list-values}
 use Rattle.kinds.specs.Kinds.{Typed, one, isKind, oneRecord, oneList, readKind, withoutRecord, noEntryIn, locateKind, countKind}
 use Rattle.kinds.specs.Writing.{writeKind, kindBytes}
@@ -58,8 +58,8 @@ module _ (code : ℕ) (s : List ℕ) where
     pub list-part : (is : List ℕ) → partOf (locateEntry code is s) s ≡ partOf (locateKind code is s) s
     list-part is = ap (λ (x : Answer Span). partOf x s) (list-located is)
 
-    pub list-start : (is : List ℕ) → startOf (locateEntry code is s) ≡ startOf (locateKind code is s)
-    list-start is = ap startOf (list-located is)
+    pub list-start : (is : List ℕ) → startIn (locateEntry code is s) ≡ startIn (locateKind code is s)
+    list-start is = ap startIn (list-located is)
 
     pub list-counted : (is : List ℕ) → countEntries code is s ≡ countKind code is s
     unfolding countKind
@@ -86,12 +86,12 @@ module _ (code : ℕ) (s : List ℕ) where
     uncounted is n vs f = f ∙ no-count is
 
     -- the empty start is shown
-    no-part : {A : Type 0} (y : Answer A) → ([] ≡ partOf (andThen y (λ a. refuses 6 [])) s) × (0 ≡ startOf (andThen y (λ a. refuses 6 [])))
+    no-part : {A : Type 0} (y : Answer A) → ([] ≡ partOf (andThen y (λ a. refuses 6 [])) s) × (0 ≡ startIn (andThen y (λ a. refuses 6 [])))
     no-part (gives a) = (refl, refl)
     no-part (refuses n vs) = (refl, refl)
 
-    pub nothing : (is : List ℕ) → ([] ≡ partOf (locateKind code is s) s) × (0 ≡ startOf (locateKind code is s))
-    nothing is = let n = no-part (readRecord code s) in (n .0 ∙ ap (λ (x : Answer Span). partOf x s) (no-entry is), n .1 ∙ ap startOf (no-entry is))
+    pub nothing : (is : List ℕ) → ([] ≡ partOf (locateKind code is s) s) × (0 ≡ startIn (locateKind code is s))
+    nothing is = let n = no-part (readRecord code s) in (n .0 ∙ ap (λ (x : Answer Span). partOf x s) (no-entry is), n .1 ∙ ap startIn (no-entry is))
 
   -- what reads as a record has a record's code
   pub is-record : (r : Reading) → gives r ≡ readRecord code s → true ≡ isRecord code

@@ -18,7 +18,7 @@ use Rattle.records.specs.Reading.{isRecord}
 use Rattle.record_writing.specs.Writing.{readable}
 use Rattle.layouts.specs.Layouts.{isList}
 use Rattle.layouts.specs.declared.Path.{Path}
-use Rattle.layouts.specs.Access.{numbersOf, locatedOf, countedOf, partOf, startOf}
+use Rattle.layouts.specs.Access.{numbersOf, locatedOf, countedOf, partOf, startIn}
 use Rattle.kinds.specs.Kinds.{Typed, one, isKind, kindReadOf, readKind, kindSizeOf, withoutRecord, locateKind, countKind}
 use Rattle.kinds.specs.Writing.{writeKind, kindBytes}
 
@@ -29,7 +29,7 @@ pub record Firmness : Type 0 where
   pub measure : (code : ℕ) (s : List ℕ) → Firm (λ r. kindSizeOf r ≡ mapped withoutRecord (readKind code s))
   pub locate : (code : ℕ) (path : Path) (s : List ℕ) → Firm (λ r. locatedOf r ≡ locateKind code (numbersOf path) s)
   pub entry : (code : ℕ) (path : Path) (s : RefT (List ℕ)) → Firm {A = List ℕ × (ℕ × ℕ)} (λ r.
-      (r .0 ≡ partOf (locateKind code (numbersOf path) (now s)) (now s)) × (r .1 ≡ behind (startOf (locateKind code (numbersOf path) (now s))) s))
+      (r .0 ≡ partOf (locateKind code (numbersOf path) (now s)) (now s)) × (r .1 ≡ behind (startIn (locateKind code (numbersOf path) (now s))) s))
   pub count : (code : ℕ) (path : Path) (s : List ℕ) → Firm (λ r. countedOf r ≡ countKind code (numbersOf path) s)
   pub write-kind : (code : ℕ) (s out : List ℕ)
       → Firm {A = Written × List ℕ} (λ o. (writtenOf (o .0) ≡ writeKind code s (length out)) × (o .1 ≡ leaves (writeKind code s (length out)) (kindBytes code s) out))

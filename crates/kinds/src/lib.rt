@@ -14,7 +14,7 @@ ghost use lib.ListN.{length};
 ghost use Rattle.numbers.specs.Numbers.{told, mapped};
 ghost use Rattle.framing.specs.Tlv.{writtenOf, leaves};
 ghost use Rattle.numbers.specs.Parts.{behind};
-ghost use Rattle.layouts.specs.Access.{numbersOf, locatedOf, countedOf, partOf, startOf};
+ghost use Rattle.layouts.specs.Access.{numbersOf, locatedOf, countedOf, partOf, startIn};
 ghost use Rattle.records.specs.Reading.{readRecord};
 ghost use Rattle.kinds.specs.Kinds.{isKind, kindReadOf, oneRecord, readKind, kindSizeOf, withoutRecord, noEntryIn, locateKind, countKind};
 ghost use Rattle.kinds.specs.Writing.{writeKind, kindBytes};
@@ -157,7 +157,7 @@ pub fn locate(code: u8, path: Path, s: &[u8]) -> Located
 // The entry with these numbers as its own part of s, the lists under it included; the empty start of s where `locate` refuses.
 pub fn entry(code: u8, path: Path, s: &[u8]) -> &[u8]
     ensures { λ r. ⌜ now r ≡ partOf (locateKind code (numbersOf path) (now (s .entry))) (now (s .entry)) ⌝ }
-    ensures place { λ r. ⌜ r .ptr ≡ behind (startOf (locateKind code (numbersOf path) (now (s .entry)))) (s .entry) ⌝ }
+    ensures place { λ r. ⌜ r .ptr ≡ behind (startIn (locateKind code (numbersOf path) (now (s .entry)))) (s .entry) ⌝ }
 {
     if layouts::is_list(code) {
         return layouts::entry(code, path, s);

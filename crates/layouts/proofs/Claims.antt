@@ -17,9 +17,9 @@ use Rattle.layouts.specs.declared.Located.{Located}
 use Rattle.layouts.specs.declared.Located.the-variants.{Entry, Refused as NotLocated}
 use Rattle.layouts.specs.declared.Counted.{Counted}
 use Rattle.layouts.specs.declared.Counted.the-variants.{Entries, Refused as NotCounted}
-use Rattle.layouts.specs.Layouts.{Layout, Rest, handed-back, refused, Kind, layoutOf, isList}
+use Rattle.layouts.specs.Layouts.{Layout, Rest, handed-back, refused, ListKind, layoutOf, isList}
 use Rattle.layouts.specs.Reading.{Consumed, consumedTo, readingOf, readAs, readValue}
-use Rattle.layouts.specs.Access.{numbersOf, Span, spanOf, lengthAt, locatedOf, locateEntry, partOf, startOf, countedOf, countEntries}
+use Rattle.layouts.specs.Access.{numbersOf, Span, spanOf, lengthAt, locatedOf, locateEntry, partOf, startIn, countedOf, countEntries}
 use Rattle.layouts.specs.Claims.{Firmness, levelsOf, Shown, Below, Values, Alone, ConsumedAlone}
 use Rattle.layouts.proofs.Within.{end-within}
 use Rattle.layouts.proofs.Laws.{read-to}
@@ -53,13 +53,13 @@ firmness = record {
   is-list = λ code. by-equation (isList code);
   read-value = λ code s. by-telling readingOf reading-told (readValue code s);
   locate = λ code path s. by-telling locatedOf located-told (locateEntry code (numbersOf path) s);
-  entry = λ code path s. let x = locateEntry code (numbersOf path) (now s) in both _ _ (by-equation (partOf x (now s))) (by-equation (behind (startOf x) s));
+  entry = λ code path s. let x = locateEntry code (numbersOf path) (now s) in both _ _ (by-equation (partOf x (now s))) (by-equation (behind (startIn x) s));
   count = λ code path s. by-telling countedOf counted-told (countEntries code (numbersOf path) s);
 }
 
 -- the kind of a code whose value reads
 record Read (code : ℕ) (s : List ℕ) (r : Consumed) : Type 0 where
-  kind : Kind
+  kind : ListKind
   is : layoutOf code ≡ gives kind
   reads : readAs kind s ≡ gives r
   done : Ended kind s r
@@ -70,7 +70,7 @@ read code s r x =
     let a = gave (layoutOf code) (λ k. readAs k s) r x in
     record { kind = a .first; is = a .is; reads = a .then; done = ended (a .first) s r (a .then) }
 
-levels-3 : (code : ℕ) (k : Kind) → layoutOf code ≡ gives k → levelsOf (k .layout) ≤ 3
+levels-3 : (code : ℕ) (k : ListKind) → layoutOf code ≡ gives k → levelsOf (k .layout) ≤ 3
 levels-3 code k x = leb→le (levelsOf (k .layout)) 3 (each (λ k. leb (levelsOf (k .layout)) 3) tt code k x)
 
 consumed-within : (code : ℕ) (s : List ℕ) (r : Consumed) → readValue code s ≡ gives r → (r .consumed ≤ length s) × (r .consumed + r .rest ≡ length s)

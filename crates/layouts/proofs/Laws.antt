@@ -13,7 +13,7 @@ use Rattle.numbers.specs.Numbers.{Answer, gives, refuses, andThen}
 use Rattle.numbers.proofs.Firm.{never}
 use Rattle.numbers.proofs.Answers.{follows, stops}
 use Rattle.layouts.specs.declared.rows.Row.{Row}
-use Rattle.layouts.specs.Layouts.{bytes, entry, Kind}
+use Rattle.layouts.specs.Layouts.{bytes, entry, ListKind}
 use Rattle.layouts.specs.Reading.{reaching, Listed, headOf, countAt, listOf, entriesEnd, endOf, consumedTo, readAs}
 use Rattle.layouts.specs.PrivateRows.{counting, rowBelow, layoutIn, rowLayout}
 use Rattle.layouts.proofs.Within.{reaches, cut, list-leaf}
@@ -100,7 +100,7 @@ fixed-cut h s (suc n) p b l = go (fixed-cut h s n (p + h)) (leb (p + h) (length 
   go rest false e = rw e
 
 -- a value whose list is there and that ends
-pub read-to : (k : Kind) (s : List ℕ) (m : Listed) (e : ℕ) → listOf (k .layout) s 0 ≡ gives m → endOf (k .layout) s 0 ≡ gives e →
+pub read-to : (k : ListKind) (s : List ℕ) (m : Listed) (e : ℕ) → listOf (k .layout) s 0 ≡ gives m → endOf (k .layout) s 0 ≡ gives e →
     readAs k s ≡ consumedTo (k .rest) e (m .many) s
 unfolding readAs
 read-to k s m e x y = rw (x, y)

@@ -6,23 +6,23 @@ use Prim.Native.Nat.{ℕ}
 use native.Mathlib.Omega.{arith}
 use lib.Dec.{eqb, T}
 use Rattle.numbers.specs.Numbers.{gives}
-use Rattle.layouts.specs.Layouts.{Counting, c1, c2, to-end, Layout, bytes, entry, Rest, handed-back, refused, Kind, Line, table, lineOf, layoutOf}
+use Rattle.layouts.specs.Layouts.{Counting, c1, c2, to-end, Layout, bytes, entry, Rest, handed-back, refused, ListKind, Line, table, lineOf, layoutOf}
 
-abbrev holds : (Kind → Bool) → List Line → Bool
+abbrev holds : (ListKind → Bool) → List Line → Bool
 holds f [] = true
 holds f (l ∷ ls) = cond (f (l .kind)) (holds f ls) false
 
-each-line : (f : Kind → Bool) (ls : List Line) → T (holds f ls) → (code : ℕ) (k : Kind) → lineOf code ls ≡ gives k → T (f k)
+each-line : (f : ListKind → Bool) (ls : List Line) → T (holds f ls) → (code : ℕ) (k : ListKind) → lineOf code ls ≡ gives k → T (f k)
 each-line f [] h code k x = let z : _≡_ {A = ℕ} 0 1 = cc in absurd (omega arith)
 each-line f (l ∷ ls) h code k x = go (each-line f ls) (f (l .kind)) refl h (eqb code (l .code)) x where
-  go : (T (holds f ls) → (code : ℕ) (k : Kind) → lineOf code ls ≡ gives k → T (f k)) → (b : Bool) → f (l .kind) ≡ b → T (cond b (holds f ls) false) →
+  go : (T (holds f ls) → (code : ℕ) (k : ListKind) → lineOf code ls ≡ gives k → T (f k)) → (b : Bool) → f (l .kind) ≡ b → T (cond b (holds f ls) false) →
       (t : Bool) → cond t (gives (l .kind)) (lineOf code ls) ≡ gives k → T (f k)
   go rest true e h true x = let same : l .kind ≡ k = cc in rw (← same, e) tt
   go rest true e h false x = rest h code k x
   go rest false e h t x = absurd h
 
 -- what a test says of each line, it says of the kind of any code
-pub each : (f : Kind → Bool) → T (holds f table) → (code : ℕ) (k : Kind) → layoutOf code ≡ gives k → T (f k)
+pub each : (f : ListKind → Bool) → T (holds f table) → (code : ℕ) (k : ListKind) → layoutOf code ≡ gives k → T (f k)
 unfolding layoutOf
 each f h code k x = each-line f table h code k x
 
@@ -41,5 +41,5 @@ abbrev countedIf : Rest → Layout → Bool
 countedIf handed-back l = allCounted l
 countedIf refused l = true
 
-pub rest-counted : (code : ℕ) (k : Kind) → layoutOf code ≡ gives k → k .rest ≡ handed-back → T (allCounted (k .layout))
+pub rest-counted : (code : ℕ) (k : ListKind) → layoutOf code ≡ gives k → k .rest ≡ handed-back → T (allCounted (k .layout))
 rest-counted code k x e = rw e at (each (λ k. countedIf (k .rest) (k .layout)) tt code k x)

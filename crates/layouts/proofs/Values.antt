@@ -10,7 +10,7 @@ use borrow.Author.Tests.{ltb-false}
 use Rattle.numbers.specs.Numbers.{Answer, gives, refuses, andThen}
 use Rattle.numbers.proofs.Firm.{never}
 use Rattle.numbers.proofs.Answers.{given, gave, follows}
-use Rattle.layouts.specs.Layouts.{Layout, Rest, handed-back, refused, Kind, layoutOf}
+use Rattle.layouts.specs.Layouts.{Layout, Rest, handed-back, refused, ListKind, layoutOf}
 use Rattle.layouts.specs.Reading.{Listed, listOf, endOf, Consumed, consumedTo, readAs}
 use Rattle.layouts.specs.Access.{Span, spanOf, ofValue, locateEntry}
 use Rattle.layouts.proofs.Within.{Within, end-within}
@@ -37,7 +37,7 @@ to refused e n s r x = go (ltb e (length s)) refl x where
       record { end = ap (λ r. r .consumed) y; many = ap (λ r. r .entries) y; left = omega arith; all = λ z. l }
 
 -- a value that reads: its list and its end, and what the answer says
-pub record Ended (k : Kind) (s : List ℕ) (r : Consumed) : Type 0 where
+pub record Ended (k : ListKind) (s : List ℕ) (r : Consumed) : Type 0 where
   pub list : Listed
   pub has : listOf (k .layout) s 0 ≡ gives list
   pub ends : endOf (k .layout) s 0 ≡ gives (r .consumed)
@@ -45,7 +45,7 @@ pub record Ended (k : Kind) (s : List ℕ) (r : Consumed) : Type 0 where
   pub left : r .rest ≡ length s - r .consumed
   pub all : k .rest ≡ refused → length s ≤ r .consumed
 
-pub ended : (k : Kind) (s : List ℕ) (r : Consumed) → readAs k s ≡ gives r → Ended k s r
+pub ended : (k : ListKind) (s : List ℕ) (r : Consumed) → readAs k s ≡ gives r → Ended k s r
 unfolding readAs
 ended k s r x =
     let m = gave (listOf (k .layout) s 0) (λ m. andThen (endOf (k .layout) s 0) (λ e. consumedTo (k .rest) e (m .many) s)) r x in
@@ -62,7 +62,7 @@ ended k s r x =
 
 -- what was asked of a value
 pub record Asked (A : Type 0) (f : Layout → List ℕ → Answer A) (code : ℕ) (s : List ℕ) (v : A) : Type 0 where
-  pub kind : Kind
+  pub kind : ListKind
   pub is : layoutOf code ≡ gives kind
   pub value : Consumed
   pub reads : readAs kind s ≡ gives value
@@ -75,7 +75,7 @@ asked f code s v x =
     let b = gave (readAs (a .first) s) (λ r. f (a .first .layout) s) v (a .then) in
     record { kind = a .first; is = a .is; value = b .first; reads = b .is; says = b .then }
 
-pub answers : {A : Type 0} (f : Layout → List ℕ → Answer A) (code : ℕ) (s : List ℕ) (k : Kind) (r : Consumed) → layoutOf code ≡ gives k → readAs k s ≡ gives r →
+pub answers : {A : Type 0} (f : Layout → List ℕ → Answer A) (code : ℕ) (s : List ℕ) (k : ListKind) (r : Consumed) → layoutOf code ≡ gives k → readAs k s ≡ gives r →
     andThen (layoutOf code) (λ k. ofValue f k s) ≡ f (k .layout) s
 unfolding ofValue
 answers f code s k r x y = follows (layoutOf code) k (λ k. ofValue f k s) x ∙ follows (readAs k s) r (λ r. f (k .layout) s) y

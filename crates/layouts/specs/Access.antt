@@ -11,7 +11,7 @@ use Rattle.layouts.specs.declared.Located.{Located}
 use Rattle.layouts.specs.declared.Located.the-variants.{Entry, Refused}
 use Rattle.layouts.specs.declared.Counted.{Counted}
 use Rattle.layouts.specs.declared.Counted.the-variants.{Entries, Refused as NotCounted}
-use Rattle.layouts.specs.Layouts.{Layout, bytes, entry, Kind, layoutOf}
+use Rattle.layouts.specs.Layouts.{Layout, bytes, entry, ListKind, layoutOf}
 use Rattle.layouts.specs.Reading.{listOf, entriesEnd, endOf, readAs}
 
 -- the numbers of a path: `depth` of them. Those past the third are 0: no list kind has more than three levels.
@@ -55,7 +55,7 @@ unfoldable pub lengthAt : Layout → List ℕ → List ℕ → Answer ℕ
 lengthAt l is s = andThen (findEntry l is s 0) (λ f. mapped (λ m. m .many) (listOf (f .layout) s (f .start)))
 
 -- "16, then 1, 2, 3, 4, 5, 6": the kind is one of these, then the whole value reads, and then the entry is looked for
-unfoldable pub ofValue : {A : Type 0} → (Layout → List ℕ → Answer A) → Kind → List ℕ → Answer A
+unfoldable pub ofValue : {A : Type 0} → (Layout → List ℕ → Answer A) → ListKind → List ℕ → Answer A
 ofValue f k s = andThen (readAs k s) (λ r. f (k .layout) s)
 
 unfoldable pub locateEntry : ℕ → List ℕ → List ℕ → Answer Span
@@ -69,9 +69,9 @@ abbrev pub partOf : Answer Span → List ℕ → List ℕ
 partOf (gives r) s = take (r .end - r .start) (drop (r .start) s)
 partOf (refuses n vs) s = []
 
-abbrev pub startOf : Answer Span → ℕ
-startOf (gives r) = r .start
-startOf (refuses n vs) = 0
+abbrev pub startIn : Answer Span → ℕ
+startIn (gives r) = r .start
+startIn (refuses n vs) = 0
 
 -- what each answer of the calls says
 abbrev pub locatedOf : Located → Answer Span

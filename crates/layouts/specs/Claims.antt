@@ -8,9 +8,9 @@ use Rattle.numbers.specs.Numbers.{Answer, gives}
 use Rattle.numbers.specs.Firmness.{Firm}
 use Rattle.numbers.specs.Parts.{behind}
 use Rattle.layouts.specs.declared.Path.{Path}
-use Rattle.layouts.specs.Layouts.{Layout, bytes, entry, Kind, layoutOf, isList}
+use Rattle.layouts.specs.Layouts.{Layout, bytes, entry, ListKind, layoutOf, isList}
 use Rattle.layouts.specs.Reading.{Consumed, readingOf, readValue}
-use Rattle.layouts.specs.Access.{numbersOf, Span, locatedOf, locateEntry, partOf, startOf, countedOf, countEntries}
+use Rattle.layouts.specs.Access.{numbersOf, Span, locatedOf, locateEntry, partOf, startIn, countedOf, countEntries}
 
 -- each public call by its name: any two answers that its contract allows are one. A part is its bytes and its place.
 pub record Firmness : Type 0 where
@@ -18,7 +18,7 @@ pub record Firmness : Type 0 where
   pub read-value : (code : ℕ) (s : List ℕ) → Firm (λ r. readingOf r ≡ readValue code s)
   pub locate : (code : ℕ) (path : Path) (s : List ℕ) → Firm (λ r. locatedOf r ≡ locateEntry code (numbersOf path) s)
   pub entry : (code : ℕ) (path : Path) (s : RefT (List ℕ)) → Firm {A = List ℕ × (ℕ × ℕ)} (λ r.
-      (r .0 ≡ partOf (locateEntry code (numbersOf path) (now s)) (now s)) × (r .1 ≡ behind (startOf (locateEntry code (numbersOf path) (now s))) s))
+      (r .0 ≡ partOf (locateEntry code (numbersOf path) (now s)) (now s)) × (r .1 ≡ behind (startIn (locateEntry code (numbersOf path) (now s))) s))
   pub count : (code : ℕ) (path : Path) (s : List ℕ) → Firm (λ r. countedOf r ≡ countEntries code (numbersOf path) s)
 
 -- "there are at most three levels of lists"
@@ -41,7 +41,7 @@ pub record Below (x : Answer ℕ) (i : ℕ) : Type 0 where
 
 -- what holds of every value of every list kind
 pub record Values : Type 0 where
-  pub levels-3 : (code : ℕ) (k : Kind) → layoutOf code ≡ gives k → levelsOf (k .layout) ≤ 3
+  pub levels-3 : (code : ℕ) (k : ListKind) → layoutOf code ≡ gives k → levelsOf (k .layout) ≤ 3
   -- consumed never exceeds the length, and with the rest it is the length
   pub consumed-within : (code : ℕ) (s : List ℕ) (r : Consumed) → readValue code s ≡ gives r → (r .consumed ≤ length s) × (r .consumed + r .rest ≡ length s)
   -- the value's own list has as many entries as reading says

@@ -36,13 +36,13 @@ pub data Rest : Type 0 where
   handed-back : Rest
   refused : Rest
 
-pub record Kind : Type 0 where
+pub record ListKind : Type 0 where
   pub layout : Layout
   pub rest : Rest
 
 pub record Line : Type 0 where
   pub code : ℕ
-  pub kind : Kind
+  pub kind : ListKind
 
 abbrev line : ℕ → Rest → Layout → Line
 line n r l = record { code = n; kind = record { layout = l; rest = r } }
@@ -70,11 +70,11 @@ table =
     []
 
 -- the first line with this code; 16 where there is none
-abbrev pub lineOf : ℕ → List Line → Answer Kind
+abbrev pub lineOf : ℕ → List Line → Answer ListKind
 lineOf n [] = refuses 16 []
 lineOf n (l ∷ ls) = cond (eqb n (l .code)) (gives (l .kind)) (lineOf n ls)
 
-unfoldable pub layoutOf : ℕ → Answer Kind
+unfoldable pub layoutOf : ℕ → Answer ListKind
 layoutOf n = lineOf n table
 
 unfoldable pub isList : ℕ → Bool

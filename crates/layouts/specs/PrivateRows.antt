@@ -13,7 +13,7 @@ use Rattle.layouts.specs.declared.lists.Listing.{Listing}
 use Rattle.layouts.specs.declared.lists.Listing.the-variants.{Of, Refused as NoList}
 use Rattle.layouts.specs.declared.access.Level.{Level}
 use Rattle.layouts.specs.declared.access.Level.the-variants.{Of as Reached, Refused as NotReached}
-use Rattle.layouts.specs.Layouts.{Counting, c1, c2, to-end, Layout, bytes, entry, Rest, handed-back, refused, Kind}
+use Rattle.layouts.specs.Layouts.{Counting, c1, c2, to-end, Layout, bytes, entry, Rest, handed-back, refused, ListKind}
 use Rattle.layouts.specs.Reading.{Listed}
 use Rattle.layouts.specs.Access.{Spot}
 
@@ -37,13 +37,13 @@ abbrev pub restWith : Bool → Rest
 restWith true = refused
 restWith false = handed-back
 
-abbrev pub kindWith : Layout → Bool → Kind
+abbrev pub kindWith : Layout → Bool → ListKind
 kindWith l b = record { layout = l; rest = restWith b }
 
-abbrev pub rowKind : Row → Kind
+abbrev pub rowKind : Row → ListKind
 rowKind row = kindWith (rowLayout row) (row .strict)
 
-abbrev pub rowTold : KindRow → Answer Kind
+abbrev pub rowTold : KindRow → Answer ListKind
 rowTold (List row) = gives (rowKind row)
 rowTold (NoRow r) = told r
 

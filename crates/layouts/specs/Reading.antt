@@ -7,7 +7,7 @@ use lib.ListN.{length, getD}
 use Rattle.numbers.specs.Numbers.{Answer, gives, refuses, told, andThen}
 use Rattle.layouts.specs.declared.Reading.{Reading}
 use Rattle.layouts.specs.declared.Reading.the-variants.{Value, Refused}
-use Rattle.layouts.specs.Layouts.{Counting, c1, c2, to-end, Layout, bytes, entry, Rest, handed-back, refused, Kind, layoutOf}
+use Rattle.layouts.specs.Layouts.{Counting, c1, c2, to-end, Layout, bytes, entry, Rest, handed-back, refused, ListKind, layoutOf}
 
 -- what stands before q: "a typed value ends inside its layout" gives 3
 abbrev pub reaching : {A : Type 0} → ℕ → List ℕ → A → Answer A
@@ -59,7 +59,7 @@ unfoldable pub consumedTo : Rest → ℕ → ℕ → List ℕ → Answer Consume
 consumedTo handed-back e n s = gives (record { consumed = e; rest = length s - e; entries = n })
 consumedTo refused e n s = cond (ltb e (length s)) (refuses 4 []) (gives (record { consumed = e; rest = 0; entries = n }))
 
-unfoldable pub readAs : Kind → List ℕ → Answer Consumed
+unfoldable pub readAs : ListKind → List ℕ → Answer Consumed
 readAs k s = andThen (listOf (k .layout) s 0) (λ m. andThen (endOf (k .layout) s 0) (λ e. consumedTo (k .rest) e (m .many) s))
 
 -- the value of the kind with this code

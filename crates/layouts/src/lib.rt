@@ -9,7 +9,7 @@ ghost use mathlib.Core.Path.{_≡_};
 ghost use Rattle.numbers.specs.Parts.{behind};
 ghost use Rattle.layouts.specs.Layouts.{isList};
 ghost use Rattle.layouts.specs.Reading.{readingOf, readValue};
-ghost use Rattle.layouts.specs.Access.{numbersOf, locatedOf, locateEntry, partOf, startOf, countedOf, countEntries};
+ghost use Rattle.layouts.specs.Access.{numbersOf, locatedOf, locateEntry, partOf, startIn, countedOf, countEntries};
 
 // What reading a value finds: the bytes consumed, how many are left behind them, and how many entries the value's own list has.
 pub enum Reading {
@@ -74,7 +74,7 @@ pub fn locate(code: u8, path: Path, s: &[u8]) -> Located
 // The entry with these numbers as its own part of s, the lists under it included; the empty start of s where `locate` refuses.
 pub fn entry(code: u8, path: Path, s: &[u8]) -> &[u8]
     ensures { λ r. ⌜ now r ≡ partOf (locateEntry code (numbersOf path) (now (s .entry))) (now (s .entry)) ⌝ }
-    ensures place { λ r. ⌜ r .ptr ≡ behind (startOf (locateEntry code (numbersOf path) (now (s .entry)))) (s .entry) ⌝ }
+    ensures place { λ r. ⌜ r .ptr ≡ behind (startIn (locateEntry code (numbersOf path) (now (s .entry)))) (s .entry) ⌝ }
 {
     match locate(code, path, s) {
         Located::Entry { start, end } => &s[start..end],

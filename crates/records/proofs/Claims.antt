@@ -5,12 +5,12 @@ use Rattle.numbers.proofs.Answers.{given}
 use Rattle.numbers.proofs.Firm.{firm, never, by-equation, by-telling}
 use Rattle.records.specs.declared.Read.{Read}
 use Rattle.records.specs.declared.Measured.{Measured}
-use Rattle.records.specs.Reading.{Reading, readOf, measuredOf}
+use Rattle.records.specs.Reading.{Reading, gotOf, measuredOf}
 use Rattle.records.specs.Claims.{Firmness, OwnCodes, Inside}
 use Rattle.records.proofs.Ways.{by-kind}
 use Rattle.records.proofs.Given.{consumed-within}
 
-read-one : (a b : Read) → readOf a ≡ readOf b → a ≡ b
+read-one : (a b : Read) → gotOf a ≡ gotOf b → a ≡ b
 read-one (Read.Got r n) (Read.Got r′ n′) e = ap (λ (x : Reading). Read.Got (x .value) (x .consumed)) (given _ _ e)
 read-one (Read.Got r n) (Read.Refused f) e = never _ _ _ e
 read-one (Read.Refused f) (Read.Got r n) e = never _ _ _ (sym e)
@@ -24,7 +24,7 @@ measured-one (Measured.Refused f) (Measured.Refused g) e = ap Measured.Refused (
 
 pub firmness : Firmness
 firmness = record {
-  read-record = λ code s. by-telling readOf read-one _;
+  read-record = λ code s. by-telling gotOf read-one _;
   code-of = λ item. by-equation _;
   is-record = λ code. by-equation _;
   measure = λ code s. by-telling measuredOf measured-one _;

@@ -7,11 +7,11 @@ use Rattle.numbers.specs.Numbers.{gives, mapped}
 use Rattle.numbers.specs.Firmness.{Firm}
 use Rattle.records.specs.declared.Record.{Record}
 use Rattle.records.specs.Kinds.{Kind, codeOf, kindOf}
-use Rattle.records.specs.Reading.{Reading, readOf, measuredOf, isRecord, ofKind, readRecord}
+use Rattle.records.specs.Reading.{Reading, gotOf, measuredOf, isRecord, ofKind, readRecord}
 
 -- each public call by its name: any two answers that its contract allows are one
 pub record Firmness : Type 0 where
-  pub read-record : (code : ℕ) (s : List ℕ) → Firm (λ r. readOf r ≡ readRecord code s)
+  pub read-record : (code : ℕ) (s : List ℕ) → Firm (λ r. gotOf r ≡ readRecord code s)
   pub code-of : (item : Record) → Firm (λ n. n ≡ codeOf (kindOf item))
   pub is-record : (code : ℕ) → Firm (λ b. b ≡ isRecord code)
   pub measure : (code : ℕ) (s : List ℕ) → Firm (λ m. measuredOf m ≡ mapped (λ x. x .consumed) (readRecord code s))

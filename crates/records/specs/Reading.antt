@@ -16,9 +16,9 @@ pub record Reading : Type 0 where
   pub consumed : ℕ
 
 -- what each answer of a reader says
-abbrev pub readOf : Read → Answer Reading
-readOf (Read.Got r n) = gives (record { value = r; consumed = n })
-readOf (Read.Refused r) = told r
+abbrev pub gotOf : Read → Answer Reading
+gotOf (Read.Got r n) = gives (record { value = r; consumed = n })
+gotOf (Read.Refused r) = told r
 
 abbrev pub measuredOf : Measured → Answer ℕ
 measuredOf (Measured.Bytes n) = gives n

@@ -7,7 +7,7 @@ ghost use mathlib.Core.Path.{_≡_};
 ghost use Rattle.records.specs.Values.{bandOf, versionOf, resultOf, profileOf, stateOf, unitsOf};
 ghost use Rattle.numbers.specs.Numbers.{mapped};
 ghost use Rattle.records.specs.Kinds.{codeOf, kindOf};
-ghost use Rattle.records.specs.Reading.{readOf, readRecord, measuredOf, isRecord};
+ghost use Rattle.records.specs.Reading.{gotOf, readRecord, measuredOf, isRecord};
 
 pub struct MacAddr {
     pub b0: u8,
@@ -183,7 +183,7 @@ pub enum Read {
 
 // The typed value s of the kind with this code.
 pub fn read_record(code: u8, s: &[u8]) -> Read
-    ensures { λ r. ⌜ readOf r ≡ readRecord code (now (s .entry)) ⌝ }
+    ensures { λ r. ⌜ gotOf r ≡ readRecord code (now (s .entry)) ⌝ }
 {
     match code {
         0 => reading::read_end_of_message(s),

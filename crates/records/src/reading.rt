@@ -18,10 +18,10 @@ ghost use Prim.Native.Nat.{_≤_};
 ghost use lib.ListN.{getD};
 ghost use Rattle.records.specs.Values.{addressAt};
 ghost use Rattle.records.specs.Kinds.{Kind};
-ghost use Rattle.records.specs.Reading.{readOf, fixed, ofKind};
+ghost use Rattle.records.specs.Reading.{gotOf, fixed, ofKind};
 
 pub(crate) fn read_end_of_message(s: &[u8]) -> Read
-    ensures { λ r. ⌜ readOf r ≡ ofKind Kind.EndOfMessage (now (s .entry)) ⌝ }
+    ensures { λ r. ⌜ gotOf r ≡ ofKind Kind.EndOfMessage (now (s .entry)) ⌝ }
 {
     if 0 < s.len() {
         return Read::Refused(Refusal::LeftOver);
@@ -33,47 +33,47 @@ pub(crate) fn read_end_of_message(s: &[u8]) -> Read
 }
 
 pub(crate) fn read_al_mac_address(s: &[u8]) -> Read
-    ensures { λ r. ⌜ readOf r ≡ ofKind Kind.AlMacAddress (now (s .entry)) ⌝ }
+    ensures { λ r. ⌜ gotOf r ≡ ofKind Kind.AlMacAddress (now (s .entry)) ⌝ }
 {
     fixed(6, true, Record::AlMacAddress(address_at(s, 0)), s)
 }
 
 pub(crate) fn read_mac_address(s: &[u8]) -> Read
-    ensures { λ r. ⌜ readOf r ≡ ofKind Kind.MacAddress (now (s .entry)) ⌝ }
+    ensures { λ r. ⌜ gotOf r ≡ ofKind Kind.MacAddress (now (s .entry)) ⌝ }
 {
     fixed(6, true, Record::MacAddress(address_at(s, 0)), s)
 }
 
 pub(crate) fn read_searched_role(s: &[u8]) -> Read
-    ensures { λ r. ⌜ readOf r ≡ ofKind Kind.SearchedRole (now (s .entry)) ⌝ }
+    ensures { λ r. ⌜ gotOf r ≡ ofKind Kind.SearchedRole (now (s .entry)) ⌝ }
 {
     let role = byte_at(s, 0);
     fixed(1, role == 0, Record::SearchedRole(role), s)
 }
 
 pub(crate) fn read_supported_role(s: &[u8]) -> Read
-    ensures { λ r. ⌜ readOf r ≡ ofKind Kind.SupportedRole (now (s .entry)) ⌝ }
+    ensures { λ r. ⌜ gotOf r ≡ ofKind Kind.SupportedRole (now (s .entry)) ⌝ }
 {
     let role = byte_at(s, 0);
     fixed(1, role == 0, Record::SupportedRole(role), s)
 }
 
 pub(crate) fn read_supported_freq_band(s: &[u8]) -> Read
-    ensures { λ r. ⌜ readOf r ≡ ofKind Kind.SupportedFreqBand (now (s .entry)) ⌝ }
+    ensures { λ r. ⌜ gotOf r ≡ ofKind Kind.SupportedFreqBand (now (s .entry)) ⌝ }
 {
     let band = SupportedFreqBand::from_u8(byte_at(s, 0));
     fixed(1, true, Record::SupportedFreqBand(band), s)
 }
 
 pub(crate) fn read_ieee1905_profile_version(s: &[u8]) -> Read
-    ensures { λ r. ⌜ readOf r ≡ ofKind Kind.Ieee1905ProfileVersion (now (s .entry)) ⌝ }
+    ensures { λ r. ⌜ gotOf r ≡ ofKind Kind.Ieee1905ProfileVersion (now (s .entry)) ⌝ }
 {
     let version = Ieee1905ProfileVersion::from_u8(byte_at(s, 0));
     fixed(1, true, Record::Ieee1905ProfileVersion(version), s)
 }
 
 pub(crate) fn read_link_metric_result_code(s: &[u8]) -> Read
-    ensures { λ r. ⌜ readOf r ≡ ofKind Kind.LinkMetricResultCode (now (s .entry)) ⌝ }
+    ensures { λ r. ⌜ gotOf r ≡ ofKind Kind.LinkMetricResultCode (now (s .entry)) ⌝ }
 {
     let result = LinkMetricResultCode::from_u8(byte_at(s, 0));
     fixed(1, true, Record::LinkMetricResultCode(result), s)
@@ -81,7 +81,7 @@ pub(crate) fn read_link_metric_result_code(s: &[u8]) -> Read
 
 // Only a query about one neighbour, whose first byte is 1, has an address.
 pub(crate) fn read_link_metric_query(s: &[u8]) -> Read
-    ensures { λ r. ⌜ readOf r ≡ ofKind Kind.LinkMetricQuery (now (s .entry)) ⌝ }
+    ensures { λ r. ⌜ gotOf r ≡ ofKind Kind.LinkMetricQuery (now (s .entry)) ⌝ }
 {
     let neighbor_type = byte_at(s, 0);
     if neighbor_type == 1 {
@@ -101,7 +101,7 @@ pub(crate) fn read_link_metric_query(s: &[u8]) -> Read
 }
 
 pub(crate) fn read_client_association(s: &[u8]) -> Read
-    ensures { λ r. ⌜ readOf r ≡ ofKind Kind.ClientAssociation (now (s .entry)) ⌝ }
+    ensures { λ r. ⌜ gotOf r ≡ ofKind Kind.ClientAssociation (now (s .entry)) ⌝ }
 {
     let last = byte_at(s, 12);
     let association = ClientAssociation {
@@ -118,7 +118,7 @@ pub(crate) fn read_client_association(s: &[u8]) -> Read
 }
 
 pub(crate) fn read_multi_ap_profile(s: &[u8]) -> Read
-    ensures { λ r. ⌜ readOf r ≡ ofKind Kind.MultiApProfile (now (s .entry)) ⌝ }
+    ensures { λ r. ⌜ gotOf r ≡ ofKind Kind.MultiApProfile (now (s .entry)) ⌝ }
 {
     let first = byte_at(s, 0);
     let profile = MultiApProfile::from_u8(first);
@@ -127,7 +127,7 @@ pub(crate) fn read_multi_ap_profile(s: &[u8]) -> Read
 
 // The third byte: units in bits 7-6, flags in bits 5, 4 and 3, and three reserved bits, which are kept.
 pub(crate) fn read_profile2_ap_capability(s: &[u8]) -> Read
-    ensures { λ r. ⌜ readOf r ≡ ofKind Kind.Profile2ApCapability (now (s .entry)) ⌝ }
+    ensures { λ r. ⌜ gotOf r ≡ ofKind Kind.Profile2ApCapability (now (s .entry)) ⌝ }
 {
     let flags = byte_at(s, 2);
     let capability = Profile2ApCapability {
@@ -145,7 +145,7 @@ pub(crate) fn read_profile2_ap_capability(s: &[u8]) -> Read
 
 // A layout of so many bytes, and the record in them: the value may end inside the layout, or hold what its kind refuses. Bytes behind it are the rest.
 fn fixed(size: usize, accepted: bool, item: Record, s: &[u8]) -> Read
-    ensures { λ r. ⌜ readOf r ≡ fixed size accepted item (now (s .entry)) ⌝ }
+    ensures { λ r. ⌜ gotOf r ≡ fixed size accepted item (now (s .entry)) ⌝ }
 {
     if s.len() < size {
         return Read::Refused(Refusal::CutShort);

@@ -107,11 +107,14 @@ fn list(payload: &[u8], text: &mut [u8]) -> usize
     }
 }
 
+// 12: program input above 47,744. One byte more is asked for, to see that there is more.
+const MOST_INPUT: usize = 47744;
+
 fn main() {
     let mut payload = [0u8; 47745];
     let mut text = [0u8; 4096];
     let n = io::read_full(STDIN_FILENO, &mut payload);
-    if 47744 < n {
+    if MOST_INPUT < n {
         let used = put_bad(&mut text, 0, 12, 0);
         flush(&text, used);
         return;

@@ -1,7 +1,7 @@
 -- `read_record` meets its contract: the record's answer, with the rest.
 use mathlib.Core.Path.{sym, _∙_, ap}
 use Rattle.numbers.specs.Numbers.{mapped}
-use Rattle.records.specs.Reading.{readOf}
+use Rattle.records.specs.Reading.{gotOf}
 use Rattle.records.proofs.Given.{consumed-within}
 use Rattle.kinds.specs.Kinds.{oneRecord}
 use borrow.Author.Needs.{needs}
@@ -15,16 +15,16 @@ enum-known-record : tie.Need-enum-known-record
 enum-known-record c = search needs
 
 sub-t9 : tie.Need-sub-t9
-sub-t9 c = consumed-within _ _ _ (sym (ap readOf (sym (c .before .«record» .given .1)) ∙ c .before .before .before .read-record .ensures))
+sub-t9 c = consumed-within _ _ _ (sym (ap gotOf (sym (c .before .«record» .given .1)) ∙ c .before .before .before .read-record .ensures))
 
 enum-known-refusal : tie.Need-enum-known-refusal
 enum-known-refusal c = search needs
 
 returns : tie.Need-returns
-returns c = ap (mapped (oneRecord _)) (ap readOf (sym (c .before .«record» .given .1)) ∙ c .before .before .before .read-record .ensures)
+returns c = ap (mapped (oneRecord _)) (ap gotOf (sym (c .before .«record» .given .1)) ∙ c .before .before .before .read-record .ensures)
 
 returns-2 : tie.Need-returns-2
-returns-2 c = ap (mapped (oneRecord _)) (ap readOf (sym (c .before .refusal .given .1)) ∙ c .before .before .before .read-record .ensures)
+returns-2 c = ap (mapped (oneRecord _)) (ap gotOf (sym (c .before .refusal .given .1)) ∙ c .before .before .before .read-record .ensures)
 
 pub read-record-spec : {M : Type 1} → statement M
 read-record-spec =

@@ -1,6 +1,6 @@
 -- A code is a record's where reading does not answer 16.
 use mathlib.Core.Path.{sym, ap, _∙_}
-use Rattle.records.specs.Reading.{readOf}
+use Rattle.records.specs.Reading.{gotOf}
 use Rattle.records.proofs.Given.{isKnown, known}
 use borrow.Author.Needs.{needs}
 use Rattle.records.proofs.is_record.Statement.{statement}
@@ -22,12 +22,12 @@ number-of-requires : tie.Need-number-of-requires
 number-of-requires c κs = search needs
 
 returns : tie.Need-returns
-returns c = ap isKnown (ap readOf (sym (c .enum-told .given .1)) ∙ c .before .before .read-record .ensures) ∙ known _ _
+returns c = ap isKnown (ap gotOf (sym (c .enum-told .given .1)) ∙ c .before .before .read-record .ensures) ∙ known _ _
 
 returns-2 : tie.Need-returns-2
 returns-2 c =
     let k = c .before .before in
-    rw (c .number-of .ensures) (ap isKnown (ap readOf (sym (k .refusal .given .1)) ∙ k .before .before .read-record .ensures) ∙ known _ _)
+    rw (c .number-of .ensures) (ap isKnown (ap gotOf (sym (k .refusal .given .1)) ∙ k .before .before .read-record .ensures) ∙ known _ _)
 
 pub is-record-spec : {M : Type 1} → statement M
 is-record-spec =
