@@ -1,13 +1,12 @@
 -- What `ashlar_show` gives for an answer in numbers is the part that the table's own showing call returns for that answer.
-use mathlib.Core.Path.{_≡_, refl, sym, ap}
+use mathlib.Core.Path.{_≡_, refl}
 use mathlib.Core.Bool.{Bool, true, false, cond}
 use mathlib.Core.List.{List, []}
 use Prim.Native.Nat.{ℕ}
 use lib.Dec.{leb}
 use lib.ListN.{length, take}
-use Rattle.numbers.specs.Numbers.{Answer, gives, refuses}
-use Rattle.pushing.specs.Push.{Heard, waiting, duplicated, inconsistent, missing, missingLast, single, joined}
-use Rattle.pushing.specs.Show.{startOf, shown}
+use Rattle.numbers.specs.Numbers.{gives, refuses}
+use Rattle.pushing.specs.Push.{waiting, duplicated, inconsistent, missing, missingLast, single, joined}
 use Rattle.ashlar.specs.Numbers.{shownIn}
 use Rattle.ashlar.specs.Claims.{ShowsTheMessage}
 
