@@ -6,21 +6,6 @@ use borrow.Author.Needs.{needs}
 use Rattle.ashlar.proofs.ashlar_read_kind.Statement.{statement}
 use Rattle.ashlar.proofs.ashlar_read_kind.Tie as tie
 
-measure-requires : tie.Need-measure-requires
-measure-requires c κs = search needs
-
-enum-known-consumed : tie.Need-enum-known-consumed
-enum-known-consumed c = search needs
-
-enum-known-entries : tie.Need-enum-known-entries
-enum-known-entries c = search needs
-
-enum-known-refusal : tie.Need-enum-known-refusal
-enum-known-refusal c = search needs
-
-number-of-requires : tie.Need-number-of-requires
-number-of-requires c κs = search needs
-
 returns : tie.Need-returns
 returns c = as-read _ _ _ (ap kindSizeOf (sym (c .before .consumed .given .1)) ∙ c .before .before .before .measure .ensures)
 
@@ -32,13 +17,4 @@ returns-3 c = rw (c .number-of .ensures) (as-read _ _ _ (ap kindSizeOf (sym (c .
 
 pub ashlar-read-kind-spec : {M : Type 1} → statement M
 ashlar-read-kind-spec =
-    tie.close
-    (tie.spec
-    measure-requires
-    enum-known-consumed
-    enum-known-entries
-    enum-known-refusal
-    number-of-requires
-    returns
-    returns-2
-    returns-3)
+    tie.close (tie.spec (λ c κs. search needs) (λ c. search needs) (λ c. search needs) (λ c. search needs) (λ c κs. search needs) returns returns-2 returns-3)

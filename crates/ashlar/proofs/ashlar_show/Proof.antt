@@ -5,15 +5,9 @@ use borrow.Author.Needs.{needs}
 use Rattle.ashlar.proofs.ashlar_show.Statement.{statement}
 use Rattle.ashlar.proofs.ashlar_show.Tie as tie
 
-within-requires : tie.Need-within-requires
-within-requires c κs = search needs
-
 returns : tie.Need-returns
 unfolding shownIn
 returns c = rw (c .before .if1 .taken, c .within .ensures)
-
-within-requires-2 : tie.Need-within-requires-2
-within-requires-2 c κs = search needs
 
 returns-2 : tie.Need-returns-2
 unfolding shownIn
@@ -25,4 +19,4 @@ returns-3 c = rw (ne-eqb _ _ (c .before .before .if1 .left), ne-eqb _ _ (c .if2 
 
 pub ashlar-show-spec : {M : Type 1} → statement M
 ashlar-show-spec =
-    tie.close (tie.spec within-requires returns within-requires-2 returns-2 returns-3)
+    tie.close (tie.spec (λ c κs. search needs) returns (λ c κs. search needs) returns-2 returns-3)

@@ -5,14 +5,8 @@ use borrow.Author.Needs.{needs}
 use Rattle.ashlar.proofs.ashlar_walk.Statement.{statement}
 use Rattle.ashlar.proofs.ashlar_walk.Tie as tie
 
-walk-requires : tie.Need-walk-requires
-walk-requires c κs = search needs
-
-walk-numbers-requires : tie.Need-walk-numbers-requires
-walk-numbers-requires c κs = search needs
-
 returns : tie.Need-returns
 returns c = c .walk-numbers .ensures ∙ ap walkNumbers (c .before .walk .ensures)
 
 pub ashlar-walk-spec : {M : Type 1} → statement M
-ashlar-walk-spec = tie.close (tie.spec walk-requires walk-numbers-requires returns)
+ashlar-walk-spec = tie.close (tie.spec (λ c κs. search needs) (λ c κs. search needs) returns)

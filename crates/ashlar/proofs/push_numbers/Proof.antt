@@ -3,57 +3,6 @@ use borrow.Author.Needs.{needs}
 use Rattle.ashlar.proofs.push_numbers.Statement.{statement}
 use Rattle.ashlar.proofs.push_numbers.Tie as tie
 
-enum-told : tie.Need-enum-told
-enum-told c = search needs
-
-named-requires : tie.Need-named-requires
-named-requires c κs = search needs
-
-enum-told-2 : tie.Need-enum-told-2
-enum-told-2 c = search needs
-
-named-requires-2 : tie.Need-named-requires-2
-named-requires-2 c κs = search needs
-
-enum-told-3 : tie.Need-enum-told-3
-enum-told-3 c = search needs
-
-named-requires-3 : tie.Need-named-requires-3
-named-requires-3 c κs = search needs
-
-enum-told-4 : tie.Need-enum-told-4
-enum-told-4 c = search needs
-
-named-requires-4 : tie.Need-named-requires-4
-named-requires-4 c κs = search needs
-
-enum-told-5 : tie.Need-enum-told-5
-enum-told-5 c = search needs
-
-named-requires-5 : tie.Need-named-requires-5
-named-requires-5 c κs = search needs
-
-enum-known-pushed : tie.Need-enum-known-pushed
-enum-known-pushed c = search needs
-
-named-requires-6 : tie.Need-named-requires-6
-named-requires-6 c κs = search needs
-
-enum-known-pushed-2 : tie.Need-enum-known-pushed-2
-enum-known-pushed-2 c = search needs
-
-named-requires-7 : tie.Need-named-requires-7
-named-requires-7 c κs = search needs
-
-enum-known-pushed-3 : tie.Need-enum-known-pushed-3
-enum-known-pushed-3 c = search needs
-
-carried-by-requires : tie.Need-carried-by-requires
-carried-by-requires c κs = search needs
-
-number-of-requires : tie.Need-number-of-requires
-number-of-requires c κs = search needs
-
 returns : tie.Need-returns
 returns c = rw (c .named .ensures, c .before .enum-told .given .1)
 
@@ -80,30 +29,4 @@ returns-8 c = rw (c .number-of .ensures, c .before .carried-by .ensures, c .befo
 
 pub push-numbers-spec : {M : Type 1} → statement M
 push-numbers-spec =
-    tie.close
-    (tie.spec
-    enum-told
-    named-requires
-    enum-told-2
-    named-requires-2
-    enum-told-3
-    named-requires-3
-    enum-told-4
-    named-requires-4
-    enum-told-5
-    named-requires-5
-    enum-known-pushed
-    named-requires-6
-    enum-known-pushed-2
-    named-requires-7
-    enum-known-pushed-3
-    carried-by-requires
-    number-of-requires
-    returns
-    returns-2
-    returns-3
-    returns-4
-    returns-5
-    returns-6
-    returns-7
-    returns-8)
+    tie.close (tie.spec (λ c. search needs) (λ c κs. search needs) (λ c. search needs) (λ c κs. search needs) (λ c. search needs) (λ c κs. search needs) (λ c. search needs) (λ c κs. search needs) (λ c. search needs) (λ c κs. search needs) (λ c. search needs) (λ c κs. search needs) (λ c. search needs) (λ c κs. search needs) (λ c. search needs) (λ c κs. search needs) (λ c κs. search needs) returns returns-2 returns-3 returns-4 returns-5 returns-6 returns-7 returns-8)

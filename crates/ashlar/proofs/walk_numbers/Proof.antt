@@ -3,15 +3,6 @@ use borrow.Author.Needs.{needs}
 use Rattle.ashlar.proofs.walk_numbers.Statement.{statement}
 use Rattle.ashlar.proofs.walk_numbers.Tie as tie
 
-enum-known-walked : tie.Need-enum-known-walked
-enum-known-walked c = search needs
-
-enum-known-walked-2 : tie.Need-enum-known-walked-2
-enum-known-walked-2 c = search needs
-
-number-of-requires : tie.Need-number-of-requires
-number-of-requires c κs = search needs
-
 returns : tie.Need-returns
 returns c = rw (c .before .walked .given .1)
 
@@ -20,4 +11,4 @@ returns-2 c = rw (c .number-of .ensures, c .before .before .walked2 .given .1)
 
 pub walk-numbers-spec : {M : Type 1} → statement M
 walk-numbers-spec =
-    tie.close (tie.spec enum-known-walked enum-known-walked-2 number-of-requires returns returns-2)
+    tie.close (tie.spec (λ c. search needs) (λ c. search needs) (λ c κs. search needs) returns returns-2)
