@@ -7,7 +7,8 @@ use native.Mathlib.Omega.{arith}
 use lib.Dec.{eqb}
 use borrow.Author.Tests.{eqb-true}
 use Rattle.numbers.specs.Numbers.{gives, isGiven}
-use Rattle.records.specs.Kinds.{Kind, kinds, codeOf}
+use Rattle.records.specs.declared.Kind.{Kind}
+use Rattle.records.specs.Kinds.{kinds, codeOf}
 use Rattle.records.specs.Reading.{withCode}
 use Rattle.layouts.specs.Layouts.{layoutOf, isList}
 use Rattle.kinds.specs.Claims.{Apart}

@@ -16,7 +16,8 @@ use Rattle.records.specs.declared.AssociationState.{AssociationState}
 use Rattle.records.specs.declared.MultiApProfile.{MultiApProfile}
 use Rattle.records.specs.declared.Record.{Record}
 use Rattle.records.specs.Values.{bands, bandOf, bandByte, versions, versionOf, versionByte, results, resultOf, resultByte, profiles, profileOf, profileByte, stateOf, stateByte, bytesOf}
-use Rattle.records.specs.Kinds.{Kind, kindOf}
+use Rattle.records.specs.declared.Kind.{Kind}
+use Rattle.records.specs.Kinds.{kindOf}
 use Rattle.records.specs.Reading.{fixed, ofKind}
 use Rattle.records.proofs.Codes.{past}
 use Rattle.records.proofs.Ways.{bare, whole}

@@ -13,7 +13,8 @@ use Rattle.framing.specs.Claims.{Bytes}
 use Rattle.records.specs.declared.AssociationState.{AssociationState}
 use Rattle.records.specs.declared.Record.{Record}
 use Rattle.records.specs.Values.{bandOf, bandByte, versionOf, versionByte, resultOf, resultByte, profileOf, profileByte, stateOf, stateByte, hasAddress, queryIn, bytesOf}
-use Rattle.records.specs.Kinds.{Kind, kindOf}
+use Rattle.records.specs.declared.Kind.{Kind}
+use Rattle.records.specs.Kinds.{kindOf}
 use Rattle.records.specs.Reading.{Reading, fixed, ofKind}
 use Rattle.records.proofs.Given.{reads, reads-empty}
 use Rattle.record_writing.specs.Writing.{lowestBand, lowestVersion, lowestResult, lowestProfile, readable}

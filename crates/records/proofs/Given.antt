@@ -11,7 +11,8 @@ use Rattle.numbers.specs.Numbers.{Answer, gives, refuses, andThen, isGiven}
 use Rattle.numbers.proofs.Answers.{given, gave}
 use Rattle.numbers.proofs.Firm.{never}
 use Rattle.records.specs.declared.Record.{Record}
-use Rattle.records.specs.Kinds.{Kind, kinds, codeOf}
+use Rattle.records.specs.declared.Kind.{Kind}
+use Rattle.records.specs.Kinds.{kinds, codeOf}
 use Rattle.records.specs.Reading.{Reading, empty, fixed, ofKind, withCode, isRecord, readRecord}
 
 -- an answer that is not 16

@@ -1,14 +1,15 @@
 -- Laws of `empty`, `fixed` and `readRecord`: a law for each way that reading can go.
-use mathlib.Core.Path.{_≡_, refl}
+use mathlib.Core.Path.{_≡_, refl, ap}
 use mathlib.Core.Bool.{Bool, true, false}
 use mathlib.Core.List.{List, []}
 use Prim.Native.Nat.{ℕ, _<_, _≤_}
 use lib.ListN.{length}
 use borrow.Author.Tests.{lt-ltb, le-ltb}
-use Rattle.numbers.specs.Numbers.{gives, refuses}
+use Rattle.numbers.specs.Numbers.{Answer, gives, refuses, andThen}
 use Rattle.records.specs.declared.Record.{Record}
-use Rattle.records.specs.Kinds.{Kind, codeOf}
-use Rattle.records.specs.Reading.{empty, fixed, ofKind, readRecord}
+use Rattle.records.specs.declared.Kind.{Kind}
+use Rattle.records.specs.Kinds.{kinds, codeOf}
+use Rattle.records.specs.Reading.{empty, fixed, ofKind, withCode, readRecord}
 
 module _ (r : Record) (s : List ℕ) where
   pub filled : 0 < length s → refuses 4 [] ≡ empty r s
@@ -31,6 +32,11 @@ module _ (n : ℕ) (ok : Bool) (r : Record) (s : List ℕ) where
   pub whole : n ≤ length s → ok ≡ true → gives (record { value = r; consumed = n }) ≡ fixed n ok r s
   unfolding fixed
   whole h a = simp (le-ltb (length s) n h, a)
+
+-- what the code says, and then the kind's reading
+pub by-code : (c : ℕ) (s : List ℕ) (a : Answer Kind) → a ≡ withCode c kinds → andThen a (λ k. ofKind k s) ≡ readRecord c s
+unfolding readRecord
+by-code c s a e = ap (λ (b : Answer Kind). andThen b (λ k. ofKind k s)) e
 
 -- each code of the list is its own kind's: no two have one code
 pub by-kind : (k : Kind) (s : List ℕ) → readRecord (codeOf k) s ≡ ofKind k s

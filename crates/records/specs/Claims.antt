@@ -6,7 +6,8 @@ use lib.ListN.{length}
 use Rattle.numbers.specs.Numbers.{gives, mapped}
 use Rattle.numbers.specs.Firmness.{Firm}
 use Rattle.records.specs.declared.Record.{Record}
-use Rattle.records.specs.Kinds.{Kind, codeOf, kindOf}
+use Rattle.records.specs.declared.Kind.{Kind}
+use Rattle.records.specs.Kinds.{codeOf, kindOf}
 use Rattle.records.specs.Reading.{Reading, gotOf, measuredOf, isRecord, ofKind, readRecord}
 
 -- each public call by its name: any two answers that its contract allows are one

@@ -1,21 +1,8 @@
 -- The kinds that are records, and their codes (document 01, "The 21 kinds").
 use mathlib.Core.List.{List, [], _∷_}
 use Prim.Native.Nat.{ℕ}
+use Rattle.records.specs.declared.Kind.{Kind}
 use Rattle.records.specs.declared.Record.{Record}
-
-pub data Kind : Type 0 where
-  EndOfMessage : Kind
-  AlMacAddress : Kind
-  MacAddress : Kind
-  SearchedRole : Kind
-  SupportedRole : Kind
-  SupportedFreqBand : Kind
-  Ieee1905ProfileVersion : Kind
-  LinkMetricResultCode : Kind
-  LinkMetricQuery : Kind
-  ClientAssociation : Kind
-  MultiApProfile : Kind
-  Profile2ApCapability : Kind
 
 abbrev pub kinds : List Kind
 kinds =

@@ -9,7 +9,8 @@ use Rattle.records.specs.declared.Record.{Record}
 use Rattle.records.specs.declared.Read.{Read}
 use Rattle.records.specs.declared.Measured.{Measured}
 use Rattle.records.specs.Values.{addressAt, bandOf, versionOf, resultOf, profileOf, hasAddress, queryIn, associationIn, capabilityIn}
-use Rattle.records.specs.Kinds.{Kind, kinds, codeOf}
+use Rattle.records.specs.declared.Kind.{Kind}
+use Rattle.records.specs.Kinds.{kinds, codeOf}
 
 pub record Reading : Type 0 where
   pub value : Record

@@ -6,8 +6,9 @@ mod reading;
 ghost use mathlib.Core.Path.{_≡_};
 ghost use Rattle.records.specs.Values.{bandOf, versionOf, resultOf, profileOf, stateOf, unitsOf};
 ghost use Rattle.numbers.specs.Numbers.{mapped};
-ghost use Rattle.records.specs.Kinds.{codeOf, kindOf};
-ghost use Rattle.records.specs.Reading.{gotOf, readRecord, measuredOf, isRecord};
+ghost use Rattle.records.specs.Kinds.{kinds, codeOf, kindOf};
+ghost use Rattle.records.specs.Reading.{gotOf, readRecord, measuredOf, withCode, isRecord};
+ghost use Rattle.records.specs.PrivateKinds.{knownOf};
 
 pub struct MacAddr {
     pub b0: u8,
@@ -159,6 +160,22 @@ pub struct Profile2ApCapability {
     pub max_vids: u8,
 }
 
+// The kinds whose value is a record.
+pub enum Kind {
+    EndOfMessage,
+    AlMacAddress,
+    MacAddress,
+    SearchedRole,
+    SupportedRole,
+    SupportedFreqBand,
+    Ieee1905ProfileVersion,
+    LinkMetricResultCode,
+    LinkMetricQuery,
+    ClientAssociation,
+    MultiApProfile,
+    Profile2ApCapability,
+}
+
 // A typed value. A role is kept as its byte, though only 0, the registrar, is ever read.
 pub enum Record {
     EndOfMessage,
@@ -181,24 +198,39 @@ pub enum Read {
     Refused(Refusal),
 }
 
+// The kind that has a code, or that none has it.
+pub(crate) enum KnownKind {
+    Is(Kind),
+    None,
+}
+
+fn kind_of(code: u8) -> KnownKind
+    ensures { λ r. ⌜ knownOf r ≡ withCode code kinds ⌝ }
+{
+    match code {
+        0 => KnownKind::Is(Kind::EndOfMessage),
+        1 => KnownKind::Is(Kind::AlMacAddress),
+        2 => KnownKind::Is(Kind::MacAddress),
+        13 => KnownKind::Is(Kind::SearchedRole),
+        15 => KnownKind::Is(Kind::SupportedRole),
+        16 => KnownKind::Is(Kind::SupportedFreqBand),
+        26 => KnownKind::Is(Kind::Ieee1905ProfileVersion),
+        12 => KnownKind::Is(Kind::LinkMetricResultCode),
+        8 => KnownKind::Is(Kind::LinkMetricQuery),
+        0x92 => KnownKind::Is(Kind::ClientAssociation),
+        0xB3 => KnownKind::Is(Kind::MultiApProfile),
+        0xB4 => KnownKind::Is(Kind::Profile2ApCapability),
+        _ => KnownKind::None,
+    }
+}
+
 // The typed value s of the kind with this code.
 pub fn read_record(code: u8, s: &[u8]) -> Read
     ensures { λ r. ⌜ gotOf r ≡ readRecord code (now (s .entry)) ⌝ }
 {
-    match code {
-        0 => reading::read_end_of_message(s),
-        1 => reading::read_al_mac_address(s),
-        2 => reading::read_mac_address(s),
-        13 => reading::read_searched_role(s),
-        15 => reading::read_supported_role(s),
-        16 => reading::read_supported_freq_band(s),
-        26 => reading::read_ieee1905_profile_version(s),
-        12 => reading::read_link_metric_result_code(s),
-        8 => reading::read_link_metric_query(s),
-        0x92 => reading::read_client_association(s),
-        0xB3 => reading::read_multi_ap_profile(s),
-        0xB4 => reading::read_profile2_ap_capability(s),
-        _ => Read::Refused(Refusal::UnknownKind),
+    match kind_of(code) {
+        KnownKind::Is(kind) => reading::read_as(kind, s),
+        KnownKind::None => Read::Refused(Refusal::UnknownKind),
     }
 }
 
@@ -222,16 +254,13 @@ pub fn code_of(item: Record) -> u8
     }
 }
 
-// Whether a code is a record's: then reading, even of no bytes, answers something else than that the kind is unknown.
+// Whether a code is a record's.
 pub fn is_record(code: u8) -> bool
     ensures { λ r. ⌜ r ≡ isRecord code ⌝ }
 {
-    match read_record(code, b"") {
-        Read::Got {
-            record: _,
-            consumed: _,
-        } => true,
-        Read::Refused(refusal) => numbers::number_of(refusal) != 16,
+    match kind_of(code) {
+        KnownKind::Is(_) => true,
+        KnownKind::None => false,
     }
 }
 

@@ -3,6 +3,7 @@ use crate::AssociationState;
 use crate::ByteCounterUnits;
 use crate::ClientAssociation;
 use crate::Ieee1905ProfileVersion;
+use crate::Kind;
 use crate::LinkMetricQuery;
 use crate::LinkMetricResultCode;
 use crate::MacAddr;
@@ -17,10 +18,29 @@ ghost use mathlib.Core.Path.{_≡_};
 ghost use Prim.Native.Nat.{_≤_};
 ghost use lib.ListN.{getD};
 ghost use Rattle.records.specs.Values.{addressAt};
-ghost use Rattle.records.specs.Kinds.{Kind};
 ghost use Rattle.records.specs.Reading.{gotOf, fixed, ofKind};
 
-pub(crate) fn read_end_of_message(s: &[u8]) -> Read
+// A value of a kind.
+pub(crate) fn read_as(kind: Kind, s: &[u8]) -> Read
+    ensures { λ r. ⌜ gotOf r ≡ ofKind kind (now (s .entry)) ⌝ }
+{
+    match kind {
+        Kind::EndOfMessage => read_end_of_message(s),
+        Kind::AlMacAddress => read_al_mac_address(s),
+        Kind::MacAddress => read_mac_address(s),
+        Kind::SearchedRole => read_searched_role(s),
+        Kind::SupportedRole => read_supported_role(s),
+        Kind::SupportedFreqBand => read_supported_freq_band(s),
+        Kind::Ieee1905ProfileVersion => read_ieee1905_profile_version(s),
+        Kind::LinkMetricResultCode => read_link_metric_result_code(s),
+        Kind::LinkMetricQuery => read_link_metric_query(s),
+        Kind::ClientAssociation => read_client_association(s),
+        Kind::MultiApProfile => read_multi_ap_profile(s),
+        Kind::Profile2ApCapability => read_profile2_ap_capability(s),
+    }
+}
+
+fn read_end_of_message(s: &[u8]) -> Read
     ensures { λ r. ⌜ gotOf r ≡ ofKind Kind.EndOfMessage (now (s .entry)) ⌝ }
 {
     if 0 < s.len() {
@@ -32,47 +52,47 @@ pub(crate) fn read_end_of_message(s: &[u8]) -> Read
     }
 }
 
-pub(crate) fn read_al_mac_address(s: &[u8]) -> Read
+fn read_al_mac_address(s: &[u8]) -> Read
     ensures { λ r. ⌜ gotOf r ≡ ofKind Kind.AlMacAddress (now (s .entry)) ⌝ }
 {
     fixed(6, true, Record::AlMacAddress(address_at(s, 0)), s)
 }
 
-pub(crate) fn read_mac_address(s: &[u8]) -> Read
+fn read_mac_address(s: &[u8]) -> Read
     ensures { λ r. ⌜ gotOf r ≡ ofKind Kind.MacAddress (now (s .entry)) ⌝ }
 {
     fixed(6, true, Record::MacAddress(address_at(s, 0)), s)
 }
 
-pub(crate) fn read_searched_role(s: &[u8]) -> Read
+fn read_searched_role(s: &[u8]) -> Read
     ensures { λ r. ⌜ gotOf r ≡ ofKind Kind.SearchedRole (now (s .entry)) ⌝ }
 {
     let role = byte_at(s, 0);
     fixed(1, role == 0, Record::SearchedRole(role), s)
 }
 
-pub(crate) fn read_supported_role(s: &[u8]) -> Read
+fn read_supported_role(s: &[u8]) -> Read
     ensures { λ r. ⌜ gotOf r ≡ ofKind Kind.SupportedRole (now (s .entry)) ⌝ }
 {
     let role = byte_at(s, 0);
     fixed(1, role == 0, Record::SupportedRole(role), s)
 }
 
-pub(crate) fn read_supported_freq_band(s: &[u8]) -> Read
+fn read_supported_freq_band(s: &[u8]) -> Read
     ensures { λ r. ⌜ gotOf r ≡ ofKind Kind.SupportedFreqBand (now (s .entry)) ⌝ }
 {
     let band = SupportedFreqBand::from_u8(byte_at(s, 0));
     fixed(1, true, Record::SupportedFreqBand(band), s)
 }
 
-pub(crate) fn read_ieee1905_profile_version(s: &[u8]) -> Read
+fn read_ieee1905_profile_version(s: &[u8]) -> Read
     ensures { λ r. ⌜ gotOf r ≡ ofKind Kind.Ieee1905ProfileVersion (now (s .entry)) ⌝ }
 {
     let version = Ieee1905ProfileVersion::from_u8(byte_at(s, 0));
     fixed(1, true, Record::Ieee1905ProfileVersion(version), s)
 }
 
-pub(crate) fn read_link_metric_result_code(s: &[u8]) -> Read
+fn read_link_metric_result_code(s: &[u8]) -> Read
     ensures { λ r. ⌜ gotOf r ≡ ofKind Kind.LinkMetricResultCode (now (s .entry)) ⌝ }
 {
     let result = LinkMetricResultCode::from_u8(byte_at(s, 0));
@@ -80,7 +100,7 @@ pub(crate) fn read_link_metric_result_code(s: &[u8]) -> Read
 }
 
 // Only a query about one neighbour, whose first byte is 1, has an address.
-pub(crate) fn read_link_metric_query(s: &[u8]) -> Read
+fn read_link_metric_query(s: &[u8]) -> Read
     ensures { λ r. ⌜ gotOf r ≡ ofKind Kind.LinkMetricQuery (now (s .entry)) ⌝ }
 {
     let neighbor_type = byte_at(s, 0);
@@ -100,7 +120,7 @@ pub(crate) fn read_link_metric_query(s: &[u8]) -> Read
     fixed(2, true, Record::LinkMetricQuery(query), s)
 }
 
-pub(crate) fn read_client_association(s: &[u8]) -> Read
+fn read_client_association(s: &[u8]) -> Read
     ensures { λ r. ⌜ gotOf r ≡ ofKind Kind.ClientAssociation (now (s .entry)) ⌝ }
 {
     let last = byte_at(s, 12);
@@ -117,7 +137,7 @@ pub(crate) fn read_client_association(s: &[u8]) -> Read
     )
 }
 
-pub(crate) fn read_multi_ap_profile(s: &[u8]) -> Read
+fn read_multi_ap_profile(s: &[u8]) -> Read
     ensures { λ r. ⌜ gotOf r ≡ ofKind Kind.MultiApProfile (now (s .entry)) ⌝ }
 {
     let first = byte_at(s, 0);
@@ -126,7 +146,7 @@ pub(crate) fn read_multi_ap_profile(s: &[u8]) -> Read
 }
 
 // The third byte: units in bits 7-6, flags in bits 5, 4 and 3, and three reserved bits, which are kept.
-pub(crate) fn read_profile2_ap_capability(s: &[u8]) -> Read
+fn read_profile2_ap_capability(s: &[u8]) -> Read
     ensures { λ r. ⌜ gotOf r ≡ ofKind Kind.Profile2ApCapability (now (s .entry)) ⌝ }
 {
     let flags = byte_at(s, 2);
