@@ -67,7 +67,7 @@ and-more value = value ++ (0x78 ∷ [])
 abbrev pub entry-of : ℕ → List ℕ → List ℕ → List ℕ
 entry-of code numbers value = partOf (locateKind code numbers value) value
 
--- The values of the kinds, field by field, as the standards have them and tshark reads them. The address 02:00:5E:10:20:n, in bytes and as it is kept:
+-- The values of the kinds, field by field, by the layouts of the standards. The address 02:00:5E:10:20:n, in bytes and as it is kept:
 abbrev pub mac : ℕ → List ℕ
 mac n = 0x02 ∷ 0x00 ∷ 0x5E ∷ 0x10 ∷ 0x20 ∷ n ∷ []
 
