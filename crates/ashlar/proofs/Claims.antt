@@ -1,6 +1,7 @@
 -- The claims of specs/Claims.antt, proved.
 use mathlib.Core.Path.{sym, ap, _∙_}
 use lib.ListN.{length}
+use Rattle.numbers.specs.Numbers.{mapped}
 use Rattle.numbers.proofs.Firm.{by-equation, both}
 use Rattle.walking.specs.Walk.{walkOf, counted, listed, filled}
 use Rattle.kinds.specs.Kinds.{readKind}
@@ -16,7 +17,7 @@ firmness = record {
   ashlar-walk = λ payload. by-equation (walkNumbers (counted (walkOf payload)));
   ashlar-walk-into = λ list payload. both _ _ (by-equation (walkNumbers (listed (length list) (walkOf payload)))) (by-equation (filled (listed (length list) (walkOf payload)) (walkOf payload .tlvs) list));
   ashlar-read-kind = λ code value. by-equation (kindNumbers (readKind code value));
-  ashlar-find = λ list payload code from. by-equation (foundNumbers (findFrom code list payload from));
+  ashlar-find = λ list payload code from. by-equation (foundNumbers (mapped (λ h. h .place) (findFrom code list payload from)));
   ashlar-fresh = by-equation freshTable;
   ashlar-push = λ t store out a payload p q x y i.
       ((x .tells ∙ ap pushNumbers (x .goes .answers ∙ sym (y .goes .answers)) ∙ sym (y .tells)) i, (x .goes .keeps ∙ sym (y .goes .keeps)) i, (x .goes .stores ∙ sym (y .goes .stores)) i, (x .goes .puts ∙ sym (y .goes .puts)) i);

@@ -4,7 +4,7 @@ use mathlib.Core.Bool.{cond}
 use mathlib.Core.List.{List}
 use Prim.Native.Nat.{ℕ}
 use lib.ListN.{length, take}
-use Rattle.numbers.specs.Numbers.{Answer}
+use Rattle.numbers.specs.Numbers.{Answer, mapped}
 use Rattle.numbers.specs.Firmness.{Firm}
 use Rattle.walking.specs.declared.Tlv.{Tlv}
 use Rattle.walking.specs.Walk.{walkOf, counted, listed, filled}
@@ -28,7 +28,7 @@ pub record Firmness : Type 0 where
   pub ashlar-walk-into : (list : List Tlv) (payload : List ℕ)
       → Firm {A = AshlarWalk × List Tlv} (λ o. (o .0 ≡ walkNumbers (listed (length list) (walkOf payload))) × (o .1 ≡ filled (listed (length list) (walkOf payload)) (walkOf payload .tlvs) list))
   pub ashlar-read-kind : (code : ℕ) (value : List ℕ) → Firm (λ r. r ≡ kindNumbers (readKind code value))
-  pub ashlar-find : (list : List Tlv) (payload : List ℕ) (code from : ℕ) → Firm (λ r. r ≡ foundNumbers (findFrom code list payload from))
+  pub ashlar-find : (list : List Tlv) (payload : List ℕ) (code from : ℕ) → Firm (λ r. r ≡ foundNumbers (mapped (λ h. h .place) (findFrom code list payload from)))
   pub ashlar-fresh : Firm (λ r. r ≡ freshTable)
   pub ashlar-push : (t : Table) (store out : List ℕ) (a : Arrival) (payload : List ℕ)
       → Firm {A = AshlarPushed × Table × List ℕ × List ℕ} (λ o. Numbered (way t store a payload (length out)) t store out a payload (o .0) (o .1) (o .2) (o .3))

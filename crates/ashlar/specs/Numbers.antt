@@ -7,7 +7,6 @@ use lib.Dec.{eqb, leb}
 use lib.ListN.{getD}
 use Rattle.numbers.specs.Numbers.{Answer, gives, refuses}
 use Rattle.kinds.specs.Kinds.{Contents, one, list, Typed}
-use Rattle.finding.specs.Finding.{Hit}
 use Rattle.table.specs.declared.Table.{Table}
 use Rattle.pushing.specs.declared.Arrival.{Arrival}
 use Rattle.pushing.specs.declared.Pushed.{Pushed}
@@ -33,8 +32,8 @@ kindNumbers (gives t) = contentsNumbers (t .held) (t .consumed) (t .rest)
 kindNumbers (refuses n vs) = record { entries = 0; consumed = 0; rest = 0; «is_list» = false; refusal = n }
 
 -- a find says where; what the value there reads as is read_kind's to say
-abbrev pub foundNumbers : Answer Hit → AshlarFound
-foundNumbers (gives h) = record { place = h .place; refusal = 0 }
+abbrev pub foundNumbers : Answer ℕ → AshlarFound
+foundNumbers (gives i) = record { place = i; refusal = 0 }
 foundNumbers (refuses n vs) = record { place = 0; refusal = n }
 
 -- push's named answers from 1 on, 0 for a refusal; the length is the message's, or the one that 13 gives

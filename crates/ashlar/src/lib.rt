@@ -1,5 +1,5 @@
 // The hot calls for C: each is a thin shell over the layer's own call, and gives its answer in document 01's numbers. `refusal` is 0 where nothing is refused.
-use finding::Found;
+use finding::Placed;
 use kinds::KindSize;
 use pushing::Arrival;
 use pushing::Pushed;
@@ -10,7 +10,8 @@ use walking::Walked;
 ghost use mathlib.Core.Path.{_≡_};
 ghost use Rattle.walking.specs.Walk.{walkedOf, walkOf, counted, listed, filled};
 ghost use Rattle.kinds.specs.Kinds.{readKind};
-ghost use Rattle.finding.specs.Finding.{foundOf, findFrom};
+ghost use Rattle.numbers.specs.Numbers.{mapped};
+ghost use Rattle.finding.specs.Finding.{placedOf, findFrom};
 ghost use Rattle.table.specs.Rows.{freshTable};
 ghost use lib.ListN.{length};
 ghost use Rattle.pushing.specs.Push.{pushedOf, way};
@@ -128,25 +129,12 @@ pub extern "C" fn ashlar_read_kind(code: u8, value: &[u8]) -> AshlarKind
     }
 }
 
-fn found_numbers(found: Found) -> AshlarFound
-    ensures { λ r. ⌜ r ≡ foundNumbers (foundOf found) ⌝ }
+fn found_numbers(placed: Placed) -> AshlarFound
+    ensures { λ r. ⌜ r ≡ foundNumbers (placedOf placed) ⌝ }
 {
-    match found {
-        Found::Record {
-            place,
-            tlv: _,
-            record: _,
-            consumed: _,
-            rest: _,
-        } => AshlarFound { place, refusal: 0 },
-        Found::List {
-            place,
-            tlv: _,
-            entries: _,
-            consumed: _,
-            rest: _,
-        } => AshlarFound { place, refusal: 0 },
-        Found::Refused(refusal) => AshlarFound {
+    match placed {
+        Placed::At(place) => AshlarFound { place, refusal: 0 },
+        Placed::Refused(refusal) => AshlarFound {
             place: 0,
             refusal: numbers::number_of(refusal),
         },
@@ -156,10 +144,10 @@ fn found_numbers(found: Found) -> AshlarFound
 // The place of the first readable record of the kind with this code, at the place `from` of the list or behind it.
 #[no_mangle]
 pub extern "C" fn ashlar_find(list: &[Tlv], payload: &[u8], code: u8, from: usize) -> AshlarFound
-    ensures { λ r. ⌜ r ≡ foundNumbers (findFrom code (now (list .entry)) (now (payload .entry)) from) ⌝ }
+    ensures { λ r. ⌜ r ≡ foundNumbers (mapped (λ h. h .place) (findFrom code (now (list .entry)) (now (payload .entry)) from)) ⌝ }
 {
-    let found = finding::find(list, payload, code, from);
-    found_numbers(found)
+    let placed = finding::find_place(list, payload, code, from);
+    found_numbers(placed)
 }
 
 // A table that holds nothing.

@@ -1,8 +1,9 @@
 -- The claims of specs/Claims.antt, proved.
 use Rattle.numbers.proofs.Firm.{by-telling}
-use Rattle.finding.specs.Finding.{foundOf, searchedOf, findFrom, findInPayload}
+use Rattle.numbers.specs.Numbers.{mapped}
+use Rattle.finding.specs.Finding.{foundOf, placedOf, searchedOf, findFrom, findInPayload}
 use Rattle.finding.specs.Claims.{Firmness, FindsTheFirst, FindsNone, GoingOn, OverAWalk}
-use Rattle.finding.proofs.Firm.{found-one, searched-one}
+use Rattle.finding.proofs.Firm.{found-one, placed-one, searched-one}
 use Rattle.finding.proofs.First.{is-first, none-there}
 use Rattle.finding.proofs.All.{every-one}
 use Rattle.finding.proofs.OfWalk as walk
@@ -10,6 +11,7 @@ use Rattle.finding.proofs.OfWalk as walk
 pub firmness : Firmness
 firmness = record {
   find = λ code tlvs payload from. by-telling foundOf found-one (findFrom code tlvs payload from);
+  find-place = λ code tlvs payload from. by-telling placedOf placed-one (mapped (λ h. h .place) (findFrom code tlvs payload from));
   find-in-payload = λ code payload from. by-telling searchedOf searched-one (findInPayload code payload from);
 }
 

@@ -13,9 +13,11 @@ use Rattle.kinds.specs.Kinds.{Contents, one, list}
 use Rattle.walking.specs.declared.Tlv.{Tlv}
 use Rattle.finding.specs.declared.Found.{Found}
 use Rattle.finding.specs.declared.Found.the-variants as Found
+use Rattle.finding.specs.declared.Placed.{Placed}
+use Rattle.finding.specs.declared.Placed.the-variants as Placed
 use Rattle.finding.specs.declared.Searched.{Searched}
 use Rattle.finding.specs.declared.Searched.the-variants as Searched
-use Rattle.finding.specs.Finding.{Hit, foundOf, searchedOf}
+use Rattle.finding.specs.Finding.{Hit, foundOf, placedOf, searchedOf}
 
 -- what was found is the answer that is made of it
 abbrev foundAs : Contents Record → ℕ → Tlv → ℕ → ℕ → Found
@@ -35,6 +37,12 @@ found-one (Found.List i t m c n) (Found.Refused f) e = never _ _ _ e
 found-one (Found.Refused f) (Found.Record i t r c n) e = never _ _ _ (sym e)
 found-one (Found.Refused f) (Found.List i t m c n) e = never _ _ _ (sym e)
 found-one (Found.Refused f) (Found.Refused f′) e = ap Found.Refused (firm Hit f f′ e)
+
+pub placed-one : (a b : Placed) → placedOf a ≡ placedOf b → a ≡ b
+placed-one (Placed.At i) (Placed.At i′) e = ap Placed.At (given _ _ e)
+placed-one (Placed.At i) (Placed.Refused f) e = never _ _ _ e
+placed-one (Placed.Refused f) (Placed.At i) e = never _ _ _ (sym e)
+placed-one (Placed.Refused f) (Placed.Refused f′) e = ap Placed.Refused (firm ℕ f f′ e)
 
 -- a walk's refusal is none of `find`'s answers: it has a value more
 apart : {X : Type 0} (r : Refusal) (at : ℕ) (f : Found) → refuses (number r) (at ∷ values r) ≡ foundOf f → X

@@ -7,3 +7,4 @@ pub mod Looking
 pub mod OfWalk
 pub mod Passing
 pub mod Searching
+pub mod There

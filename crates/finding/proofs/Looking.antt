@@ -1,5 +1,5 @@
 -- Laws of `readsAs`, by which a look at one record is right.
-use mathlib.Core.Path.{_≡_, refl, sym, ap}
+use mathlib.Core.Path.{_≡_, refl, sym, ap, _∙_}
 use mathlib.Core.Bool.{Bool, true, false, cond}
 use mathlib.Core.List.{List, []}
 use Prim.Native.Nat.{ℕ, _+_, _-_, _<_, _≤_}
@@ -7,10 +7,10 @@ use native.Mathlib.Omega.{arith}
 use lib.Dec.{eqb, leb}
 use lib.ListN.{length, take, drop}
 use borrow.Author.Tests.{eq-eqb, le-leb, lt-leb, leb-true, leb-false}
-use Rattle.numbers.specs.Numbers.{Answer, gives, refuses}
+use Rattle.numbers.specs.Numbers.{Answer, gives, refuses, mapped, isGiven}
 use Rattle.numbers.proofs.Firm.{never}
 use Rattle.records.specs.declared.Record.{Record}
-use Rattle.kinds.specs.Kinds.{isKind, Typed, readKind}
+use Rattle.kinds.specs.Kinds.{isKind, Typed, readKind, withoutRecord}
 use Rattle.kinds.proofs.Laws.{of-a-kind as reads-a-kind}
 use Rattle.walking.specs.declared.Tlv.{Tlv}
 use Rattle.finding.specs.Finding.{isCandidate, valueOf, readsAs, thereOr}
@@ -43,6 +43,14 @@ module _ (code : ℕ) (payload : List ℕ) (t : Tlv) where
   pub reads : isCandidate code (length payload) t ≡ true → readKind code (valueOf payload t) ≡ readsAs code payload t
   unfolding readsAs
   reads e = ap (λ (b : Bool). cond b (readKind code (valueOf payload t)) (refuses 15 [])) (sym e)
+
+  -- and its value may be measured instead
+  still : (x : Answer (Typed Record)) → isGiven (mapped withoutRecord x) ≡ isGiven x
+  still (gives r) = refl
+  still (refuses n vs) = refl
+
+  pub measured : isCandidate code (length payload) t ≡ true → isGiven (mapped withoutRecord (readKind code (valueOf payload t))) ≡ isGiven (readsAs code payload t)
+  measured e = still (readKind code (valueOf payload t)) ∙ ap isGiven (reads e)
 
   pub no-candidate : isCandidate code (length payload) t ≡ false → refuses 15 [] ≡ readsAs code payload t
   unfolding readsAs

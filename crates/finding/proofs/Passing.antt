@@ -7,17 +7,13 @@ use native.Mathlib.Omega.{arith}
 use native.Mathlib.Numerals.{add-one}
 use lib.ListN.{length, getD, drop, drop-of-length-le}
 use lib.Seq.{drop-cons}
-use Rattle.numbers.specs.Numbers.{Answer, gives, refuses, isGiven}
+use Rattle.numbers.specs.Numbers.{Answer, gives, refuses, mapped, isGiven}
 use Rattle.records.specs.declared.Record.{Record}
 use Rattle.kinds.specs.Kinds.{isKind, Typed}
 use Rattle.walking.specs.declared.Tlv.{Tlv}
 use Rattle.walking.specs.Walk.{noTlv}
 use Rattle.finding.specs.Finding.{Hit, readsAs, thereOr, firstOf, findFrom}
 use Rattle.finding.proofs.Looking.{of-a-kind}
-
--- what a look at a record answers: it, or 15
-abbrev pub Says : ℕ → List ℕ → Tlv → ℕ → Answer Hit → Type 0
-Says code payload t place a = a ≡ thereOr (readsAs code payload t) place t (refuses 15 [])
 
 -- the answer, if it is one, and else what is found behind the record
 pub or-behind : (x : Answer (Typed Record)) (place : ℕ) (t : Tlv) (a : Answer Hit) → a ≡ thereOr x place t (refuses 15 []) → (behind : Answer Hit) → cond (isGiven a) a behind ≡ thereOr x place t behind
@@ -46,28 +42,30 @@ module _ (code : ℕ) (payload : List ℕ) (ys : List Tlv) (from : ℕ) where
         let e : drop i ys ≡ getD ys i noTlv ∷ drop (i + 1) ys = rw (add-one, drop-cons ys i noTlv) in
         sym (first-cons code payload i (getD ys i noTlv) (drop (i + 1) ys)) ∙ ap (firstOf code payload i) (sym e) ∙ f .same
 
-    looked : i < length ys → (a : Answer Hit) → Says code payload (getD ys i noTlv) i a → cond (isGiven a) a (firstOf code payload (i + 1) (drop (i + 1) ys)) ≡ firstOf code payload from (drop from ys)
-    looked l a says = or-behind (readsAs code payload (getD ys i noTlv)) i (getD ys i noTlv) a says (firstOf code payload (i + 1) (drop (i + 1) ys)) ∙ turn l
-
-    pub goes-on : i < length ys → (a : Answer Hit) → Says code payload (getD ys i noTlv) i a → isGiven a ≡ false → Passed code payload ys from (i + 1)
-    goes-on l a says h = record { same = ap (λ (b : Bool). cond b a (firstOf code payload (i + 1) (drop (i + 1) ys))) (sym h) ∙ looked l a says }
+    pub goes-on : i < length ys → isGiven (readsAs code payload (getD ys i noTlv)) ≡ false → Passed code payload ys from (i + 1)
+    goes-on l = by-reading (readsAs code payload (getD ys i noTlv)) (turn l)
+      where
+        by-reading : (x : Answer (Typed Record)) → thereOr x i (getD ys i noTlv) (firstOf code payload (i + 1) (drop (i + 1) ys)) ≡ firstOf code payload from (drop from ys) → isGiven x ≡ false → Passed code payload ys from (i + 1)
+        by-reading (gives r) e h = let z : _≡_ {A = ℕ} 0 1 = cc in absurd (omega arith)
+        by-reading (refuses n vs) e h = record { same = e }
 
     -- a hit is of a kind, so that 16 is not to be answered
-    by-reading : (x : Answer (Typed Record)) → x ≡ readsAs code payload (getD ys i noTlv) → (a : Answer Hit) → a ≡ thereOr x i (getD ys i noTlv) (refuses 15 []) → isGiven a ≡ true → true ≡ isKind code
-    by-reading (gives r) e a says h = of-a-kind code payload (getD ys i noTlv) r e
-    by-reading (refuses n vs) e a says h =
-        let no : isGiven a ≡ false = ap isGiven says in
-        let tf : true ≡ false = sym h ∙ no in
-        let z : _≡_ {A = ℕ} 0 1 = cc in absurd (omega arith)
-
-    pub found : i < length ys → (a : Answer Hit) → Says code payload (getD ys i noTlv) i a → isGiven a ≡ true → a ≡ findFrom code ys payload from
+    pub found : i < length ys → isGiven (readsAs code payload (getD ys i noTlv)) ≡ true → gives i ≡ mapped (λ h. h .place) (findFrom code ys payload from)
     unfolding findFrom
-    found l a says h =
-        ap (λ (b : Bool). cond b a (refuses 16 [])) (by-reading (readsAs code payload (getD ys i noTlv)) refl a says h)
-        ∙ ap (λ (x : Answer Hit). cond (isKind code) x (refuses 16 [])) (ap (λ (b : Bool). cond b a (firstOf code payload (i + 1) (drop (i + 1) ys))) (sym h) ∙ looked l a says)
+    found l = by-reading (readsAs code payload (getD ys i noTlv)) refl (turn l)
+      where
+        by-reading : (x : Answer (Typed Record)) → x ≡ readsAs code payload (getD ys i noTlv) → thereOr x i (getD ys i noTlv) (firstOf code payload (i + 1) (drop (i + 1) ys)) ≡ firstOf code payload from (drop from ys)
+            → isGiven x ≡ true → gives i ≡ mapped (λ (h : Hit). h .place) (cond (isKind code) (firstOf code payload from (drop from ys)) (refuses 16 []))
+        by-reading (gives r) e f h = rw (sym (of-a-kind code payload (getD ys i noTlv) r e), sym f)
+        by-reading (refuses n vs) e f h = let z : _≡_ {A = ℕ} 0 1 = cc in absurd (omega arith)
 
-    pub missed : length ys ≤ i → (a : Answer Hit) → a ≡ cond (isKind code) (refuses 15 []) (refuses 16 []) → a ≡ findFrom code ys payload from
+    pub missed : length ys ≤ i → (a : Answer ℕ) → a ≡ cond (isKind code) (refuses 15 []) (refuses 16 []) → a ≡ mapped (λ h. h .place) (findFrom code ys payload from)
     unfolding findFrom
-    missed l a e =
-        let z : drop i ys ≡ [] = drop-of-length-le ys l in
-        e ∙ ap (λ (x : Answer Hit). cond (isKind code) x (refuses 16 [])) (sym (first-nil code payload i) ∙ ap (firstOf code payload i) (sym z) ∙ f .same)
+    missed l a e = e ∙ by-kind (isKind code)
+      where
+        none : firstOf code payload from (drop from ys) ≡ refuses 15 []
+        none = sym (f .same) ∙ ap (firstOf code payload i) (drop-of-length-le ys l) ∙ first-nil code payload i
+
+        by-kind : (b : Bool) → cond b (refuses 15 []) (refuses 16 []) ≡ mapped (λ (h : Hit). h .place) (cond b (firstOf code payload from (drop from ys)) (refuses 16 []))
+        by-kind true = rw none
+        by-kind false = refl

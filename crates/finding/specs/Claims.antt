@@ -5,18 +5,19 @@ use mathlib.Core.List.{List, [], _∷_}
 use Prim.Native.Nat.{ℕ, zero, suc, _+_, _≤_, _<_}
 use lib.Dec.{eqb}
 use lib.ListN.{length, getD, drop}
-use Rattle.numbers.specs.Numbers.{Answer, gives, refuses, andThen, isGiven}
+use Rattle.numbers.specs.Numbers.{Answer, gives, refuses, andThen, mapped, isGiven}
 use Rattle.numbers.specs.Firmness.{Firm}
 use Rattle.framing.specs.Tlv.{readTlv, valueIn}
 use Rattle.records.specs.declared.Record.{Record}
 use Rattle.kinds.specs.Kinds.{isKind, Typed, readKind}
 use Rattle.walking.specs.declared.Tlv.{Tlv}
 use Rattle.walking.specs.Walk.{walkOf, filled, noTlv}
-use Rattle.finding.specs.Finding.{Hit, foundOf, searchedOf, readsAs, findFrom, findInPayload}
+use Rattle.finding.specs.Finding.{Hit, foundOf, placedOf, searchedOf, readsAs, findFrom, findInPayload}
 
 -- each public call by its name: any two answers that its contract allows are one
 pub record Firmness : Type 0 where
   pub find : (code : ℕ) (tlvs : List Tlv) (payload : List ℕ) (from : ℕ) → Firm (λ r. foundOf r ≡ findFrom code tlvs payload from)
+  pub find-place : (code : ℕ) (tlvs : List Tlv) (payload : List ℕ) (from : ℕ) → Firm (λ r. placedOf r ≡ mapped (λ h. h .place) (findFrom code tlvs payload from))
   pub find-in-payload : (code : ℕ) (payload : List ℕ) (from : ℕ) → Firm (λ r. searchedOf r ≡ findInPayload code payload from)
 
 -- What is found is the first that reads, and where none is found none reads: said by places, without the definition's recursion

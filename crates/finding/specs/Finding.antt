@@ -13,6 +13,8 @@ use Rattle.walking.specs.declared.Tlv.{Tlv}
 use Rattle.walking.specs.Walk.{walkOf}
 use Rattle.finding.specs.declared.Found.{Found}
 use Rattle.finding.specs.declared.Found.the-variants as Found
+use Rattle.finding.specs.declared.Placed.{Placed}
+use Rattle.finding.specs.declared.Placed.the-variants as Placed
 use Rattle.finding.specs.declared.Searched.{Searched}
 use Rattle.finding.specs.declared.Searched.the-variants as Searched
 
@@ -27,6 +29,11 @@ abbrev pub foundOf : Found → Answer Hit
 foundOf (Found.Record i t r c n) = gives (record { place = i; tlv = t; reading = record { held = one r; consumed = c; rest = n } })
 foundOf (Found.List i t m c n) = gives (record { place = i; tlv = t; reading = record { held = list m; consumed = c; rest = n } })
 foundOf (Found.Refused r) = told r
+
+-- what each answer of `find_place` says: the place alone
+abbrev pub placedOf : Placed → Answer ℕ
+placedOf (Placed.At i) = gives i
+placedOf (Placed.Refused r) = told r
 
 -- a record that has the code and lies inside a payload of this size. The sum is one of whole numbers.
 abbrev pub isCandidate : ℕ → ℕ → Tlv → Bool

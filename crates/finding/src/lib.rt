@@ -1,5 +1,6 @@
 // Finding: the first readable record of a kind, in a lent list of TLV records or in a payload.
 use kinds::KindRead;
+use kinds::KindSize;
 use numbers::Refusal;
 use records::Record;
 use walking::Stepped;
@@ -11,10 +12,11 @@ ghost use lib.Dec.{ltb};
 ghost use Prim.Native.Nat.{_+_, _≤_};
 ghost use lib.ListN.{length, drop};
 ghost use mathlib.Core.List.{[]};
-ghost use Rattle.numbers.specs.Numbers.{refuses, isGiven};
+ghost use Rattle.numbers.specs.Numbers.{gives, refuses, andThen, mapped, isGiven};
 ghost use Rattle.walking.specs.Walk.{walkOf};
-ghost use Rattle.kinds.specs.Kinds.{isKind, kindReadOf};
-ghost use Rattle.finding.specs.Finding.{foundOf, searchedOf, isCandidate, valueOf, readsAs, thereOr, firstOf, findFrom, findInPayload};
+ghost use Rattle.kinds.specs.Kinds.{isKind, kindReadOf, kindSizeOf};
+ghost use Rattle.finding.specs.Finding.{foundOf, placedOf, searchedOf, isCandidate, valueOf, readsAs, thereOr, firstOf, findFrom, findInPayload};
+ghost use Rattle.finding.specs.Private.{placeOr};
 
 // The record that was found, its place in the list, from 0, and what its value reads as: a record, or a list of so many entries.
 pub enum Found {
@@ -35,10 +37,101 @@ pub enum Found {
     Refused(Refusal),
 }
 
-// The same of a payload's TLVs. A payload that no walk gets through is told as the walk tells it, with the offset of the TLV that failed.
+// The place alone of what is found.
+pub enum Placed {
+    At(usize),
+    Refused(Refusal),
+}
+
+// The same as `Found` of a payload's TLVs. A payload that no walk gets through is told as the walk tells it, with the offset of the TLV that failed.
 pub enum Searched {
     Unwalked { refusal: Refusal, at: usize },
     Answered(Found),
+}
+
+// Has the record the code, and does it lie inside a payload of this size? Its type is looked at first and its offset last, so that a record of another kind
+// costs no more than its type: the compiler makes one test of the type's and the offset's where little stands between them. No sum can wrap: what is left of
+// the payload is compared, never an end that the record claims.
+fn is_candidate(t: Tlv, size: usize, code: u8) -> bool
+    ensures { λ r. ⌜ r ≡ isCandidate code size t ⌝ }
+{
+    let tlv_type = t.tlv_type;
+    if tlv_type != code {
+        return false;
+    }
+    let length = t.length as usize;
+    if size < length + 3 {
+        return false;
+    }
+    t.offset <= size - length - 3
+}
+
+// The value of a record inside the payload: 3 bytes behind its offset, without another look at the header.
+fn value_in(t: Tlv, payload: &[u8]) -> &[u8]
+    requires { ⌜ t .offset + 3 + t .length ≤ length (now payload) ⌝ }
+    ensures { λ r. ⌜ now r ≡ valueOf (now (payload .entry)) t ⌝ }
+{
+    let start = t.offset + 3;
+    let end = start + t.length as usize;
+    &payload[start..end]
+}
+
+fn is_read(size: KindSize) -> bool
+    ensures { λ r. ⌜ r ≡ isGiven (kindSizeOf size) ⌝ }
+{
+    match size {
+        KindSize::Record {
+            consumed: _,
+            rest: _,
+        } => true,
+        KindSize::List {
+            entries: _,
+            consumed: _,
+            rest: _,
+        } => true,
+        KindSize::Refused(_) => false,
+    }
+}
+
+// Is the record a readable one of the kind? Its value is measured alone: what it reads as is asked of the record that is found, and of no other.
+fn reads(t: Tlv, payload: &[u8], code: u8) -> bool
+    ensures { λ r. ⌜ r ≡ isGiven (readsAs code (now (payload .entry)) t) ⌝ }
+{
+    if is_candidate(t, payload.len(), code) {
+        return is_read(kinds::measure(code, value_in(t, payload)));
+    }
+    false
+}
+
+fn placed_at(place: usize) -> Placed
+    ensures { λ r. ⌜ placedOf r ≡ gives place ⌝ }
+{
+    Placed::At(place)
+}
+
+// What is refused where no record was found.
+fn none(code: u8) -> Placed
+    ensures { λ r. ⌜ placedOf r ≡ cond (isKind code) (refuses 15 []) (refuses 16 []) ⌝ }
+{
+    if kinds::is_kind(code) {
+        return Placed::Refused(Refusal::NotFound);
+    }
+    Placed::Refused(Refusal::UnknownKind)
+}
+
+// The place of the first readable record of the kind, at place `from` of the list or behind it: from 0 the first of all, and from the place of an answer plus
+// 1 the next one. The list is any list, its records need not be of this payload.
+pub fn find_place(list: &[Tlv], payload: &[u8], code: u8, from: usize) -> Placed
+    ensures { λ r. ⌜ placedOf r ≡ mapped (λ h. h .place) (findFrom code (now (list .entry)) (now (payload .entry)) from) ⌝ }
+{
+    let mut place = from;
+    while place < list.len() {
+        if reads(list[place], payload, code) {
+            return placed_at(place);
+        }
+        place += 1;
+    }
+    none(code)
 }
 
 // What is found where the value of the record t reads so.
@@ -72,33 +165,6 @@ fn hit_of(read: KindRead, t: Tlv, place: usize) -> Found
     }
 }
 
-// Has the record the code, and does it lie inside a payload of this size? Its type is looked at first and its offset last, so that a record of another kind
-// costs no more than its type: the compiler makes one test of the type's and the offset's where little stands between them. No sum can wrap: what is left of
-// the payload is compared, never an end that the record claims.
-fn is_candidate(t: Tlv, size: usize, code: u8) -> bool
-    ensures { λ r. ⌜ r ≡ isCandidate code size t ⌝ }
-{
-    let tlv_type = t.tlv_type;
-    if tlv_type != code {
-        return false;
-    }
-    let length = t.length as usize;
-    if size < length + 3 {
-        return false;
-    }
-    t.offset <= size - length - 3
-}
-
-// The value of a record inside the payload: 3 bytes behind its offset, without another look at the header.
-fn value_in(t: Tlv, payload: &[u8]) -> &[u8]
-    requires { ⌜ t .offset + 3 + t .length ≤ length (now payload) ⌝ }
-    ensures { λ r. ⌜ now r ≡ valueOf (now (payload .entry)) t ⌝ }
-{
-    let start = t.offset + 3;
-    let end = start + t.length as usize;
-    &payload[start..end]
-}
-
 // A look at one record, the answer if it is a readable one of the kind.
 fn look(t: Tlv, payload: &[u8], code: u8, place: usize) -> Found
     ensures { λ r. ⌜ foundOf r ≡ thereOr (readsAs code (now (payload .entry)) t) place t (refuses 15 []) ⌝ }
@@ -107,6 +173,37 @@ fn look(t: Tlv, payload: &[u8], code: u8, place: usize) -> Found
         return hit_of(kinds::read_kind(code, value_in(t, payload)), t, place);
     }
     Found::Refused(Refusal::NotFound)
+}
+
+fn place_or(placed: Placed, other: usize) -> usize
+    ensures { λ r. ⌜ r ≡ placeOr other (placedOf placed) ⌝ }
+{
+    match placed {
+        Placed::At(place) => place,
+        Placed::Refused(_) => other,
+    }
+}
+
+// What was refused.
+fn refused(placed: Placed) -> Found
+    ensures { λ r. ⌜ foundOf r ≡ andThen (placedOf placed) (λ i. refuses 15 []) ⌝ }
+{
+    match placed {
+        Placed::At(_) => Found::Refused(Refusal::NotFound),
+        Placed::Refused(refusal) => Found::Refused(refusal),
+    }
+}
+
+// The same with the record at that place, and what its value reads as.
+pub fn find(list: &[Tlv], payload: &[u8], code: u8, from: usize) -> Found
+    ensures { λ r. ⌜ foundOf r ≡ findFrom code (now (list .entry)) (now (payload .entry)) from ⌝ }
+{
+    let placed = find_place(list, payload, code, from);
+    let place = place_or(placed, list.len());
+    if place < list.len() {
+        return look(list[place], payload, code, place);
+    }
+    refused(placed)
 }
 
 fn is_hit(found: Found) -> bool
@@ -129,32 +226,6 @@ fn is_hit(found: Found) -> bool
         } => true,
         Found::Refused(_) => false,
     }
-}
-
-// What is refused where no record was found.
-fn none(code: u8) -> Found
-    ensures { λ r. ⌜ foundOf r ≡ cond (isKind code) (refuses 15 []) (refuses 16 []) ⌝ }
-{
-    if kinds::is_kind(code) {
-        return Found::Refused(Refusal::NotFound);
-    }
-    Found::Refused(Refusal::UnknownKind)
-}
-
-// The first readable record of the kind at place `from` of the list or behind it: from 0 the first of all, and from the place of an answer plus 1 the next
-// one. The list is any list, its records need not be of this payload.
-pub fn find(list: &[Tlv], payload: &[u8], code: u8, from: usize) -> Found
-    ensures { λ r. ⌜ foundOf r ≡ findFrom code (now (list .entry)) (now (payload .entry)) from ⌝ }
-{
-    let mut place = from;
-    while place < list.len() {
-        let found = look(list[place], payload, code, place);
-        if is_hit(found) {
-            return found;
-        }
-        place += 1;
-    }
-    none(code)
 }
 
 // A look at a record, if its place does not come before `from`.

@@ -1,4 +1,4 @@
--- `ashlar_find` meets its contract: a walk of its MIR, by hand: a call of `find`, to which all parameters go, and one of `found_numbers`. Assumes nothing.
+-- `ashlar_find` meets its contract: a walk of its MIR, by hand: a call of `find_place`, to which all parameters go, and one of `found_numbers`. Assumes nothing.
 use mathlib.Core.Path.{_≡_, refl, _∙_, ap}
 use Prim.Native.Nat.{ℕ, _<_, _^_}
 use mathlib.Core.List.{List, [], _∷_}
@@ -36,16 +36,17 @@ use denote.Triple.Spec.{Meets, tripleOf}
 use denote.Triple.Table.{entered, cited}
 use denote.Triple.Walked.{says, Stays, stay-dropped, walkOf, goes-dropped, Walks, ends-at, walked, walk-meets}
 use denote.Exit.{yes}
+use Rattle.numbers.specs.Numbers.{mapped}
 use Rattle.walking.specs.declared.Tlv.{Tlv}
 use Rattle.walking.proofs.Tlv as T
-use Rattle.finding.specs.declared.Found.{Found}
-use Rattle.finding.specs.Finding.{foundOf, findFrom}
-use Rattle.finding.proofs.Found as S
-use Rattle.finding.proofs.Found.Laws as S′
-use Rattle.finding.proofs.find as callee
-use Rattle.finding.proofs.find.Symbol as callee-def
-use Rattle.finding.proofs.find.Symbol.{name as #callee}
-use Rattle.finding.proofs.find.Met as callee-thm
+use Rattle.finding.specs.declared.Placed.{Placed}
+use Rattle.finding.specs.Finding.{placedOf, findFrom}
+use Rattle.finding.proofs.Placed as S
+use Rattle.finding.proofs.Placed.Laws as S′
+use Rattle.finding.proofs.find_place as callee
+use Rattle.finding.proofs.find_place.Symbol as callee-def
+use Rattle.finding.proofs.find_place.Symbol.{name as #callee}
+use Rattle.finding.proofs.find_place.Met as callee-thm
 use Rattle.ashlar.specs.declared.AshlarFound.{AshlarFound}
 use Rattle.ashlar.specs.Numbers.{foundNumbers}
 use Rattle.ashlar.proofs.AshlarFound as N
@@ -98,28 +99,28 @@ module _ {M : Type 1} (𝓤 : URA M) (H : Heap 𝓤) (A : Atoms 𝓤) (W : Given
   abbrev Post : Val → SProp 𝓤
   Post = walkOf 𝓤 H A f.ended stayed (f.clauses 𝓤 H A mem run) .post ((κs, (q, (q′, tt)), tt, x, at), tt)
 
-  -- the call of `find`: what is had on entry is what it asks
+  -- the call of `find_place`: what is had on entry is what it asks
   abbrev to : Callee 𝓤 H A mem run .Ghost
   to = ((κs, (q, (q′, tt)), tt, x, at), tt)
 
   handed : ent 𝓤 (onEntry 𝓤 H A f.signature κs (q, (q′, tt)) x at) (Callee 𝓤 H A mem run .pre to)
   handed = qed W ((‵ (flft κ q) ⊛ (‵ (flft κ′ q′) ⊛ ‵ ftrue)) ∷ ‵ (owns (ShrSlice (named 0) κ R ∷ ShrSlice (named 1) κ′ u8 ∷ u8 ∷ usize ∷ []) x at) ∷ []) ∵ join ! $ frame ! $ done !
 
-  abbrev Says : Found → Type 0
-  Says r = foundOf r ≡ findFrom kind ys (now pay) i₀
+  abbrev Says : Placed → Type 0
+  Says r = placedOf r ≡ mapped (λ h. h .place) (findFrom kind ys (now pay) i₀)
 
   -- the call of `found_numbers` at an answer r
-  module _ (r : Found) (u : Val) where
+  module _ (r : Placed) (u : Val) where
     abbrev to-num : Num 𝓤 H A mem run .Ghost
     to-num = ((tt, tt, tt, (r, tt), (u ∷ [], tt)), tt)
 
     handed-on : Is S.the-row r (u ∷ []) → ent 𝓤 (⋆ 𝓤 H A []) (Num 𝓤 H A mem run .pre to-num)
     handed-on is = qed W [] ∵ nothing ! $ owned ! S.the-row (Is S.the-row) (EL.makes S.the-type S′.the-plain 𝓤 H A) r _ is $ fjoin ! $ nothing ! $ join ! $ frame ! $ done !
 
-  abbrev InNumbers : Found → AshlarFound → Type 0
-  InNumbers r z = z ≡ foundNumbers (foundOf r)
+  abbrev InNumbers : Placed → AshlarFound → Type 0
+  InNumbers r z = z ≡ foundNumbers (placedOf r)
 
-  exits : (r : Found) (z : AshlarFound) (w : Val) → Says r → InNumbers r z → ent 𝓤 (⋆ 𝓤 H A ((‵ (flft κ q) ⊛ (‵ (flft κ′ q′) ⊛ ‵ ftrue)) ∷ ‵ (N.the-row .own z (w ∷ [])) ∷ [])) (Post w)
+  exits : (r : Placed) (z : AshlarFound) (w : Val) → Says r → InNumbers r z → ent 𝓤 (⋆ 𝓤 H A ((‵ (flft κ q) ⊛ (‵ (flft κ′ q′) ⊛ ‵ ftrue)) ∷ ‵ (N.the-row .own z (w ∷ [])) ∷ [])) (Post w)
   exits r z w e e′ =
       qed W ((‵ (flft κ q) ⊛ (‵ (flft κ′ q′) ⊛ ‵ ftrue)) ∷ ‵ (N.the-row .own z (w ∷ [])) ∷ []) ∵
       suffices ! _ (ends-at 𝓤 H A f.ended stayed (f.clauses 𝓤 H A mem run) W ((κs, (q, (q′, tt)), tt, x, at), tt) w z (tt, (tt, (tt, (tt, tt)))) (tt, (tt, (tt, (tt, tt))))) $
@@ -135,7 +136,7 @@ module _ {M : Type 1} (𝓤 : URA M) (H : Heap 𝓤) (A : Atoms 𝓤) (W : Given
         move ! (12 ∷ 13 ∷ []) $ use2 W (raw (Callee 𝓤 H A mem run .pre to)) handed $
         -- [pre; _5 (1); …; _0 (11); …]
         calls-at ! fm (Callee 𝓤 H A mem run) known to (and-then ! (load ! (from ! (stop !)) (look ! 9 refl)) (and-then ! (load ! (from ! (stop !)) (look ! 7 refl)) (and-then ! (load ! (from ! (stop !)) (look ! 5 refl)) (and-then ! (load ! (from ! (stop !)) (look ! 3 refl)) (no-more !))))) (λ u.
-        use1 W (later (some (λ (r : Found). ((‵ (flft κ q) ⊛ (‵ (flft κ′ q′) ⊛ ‵ ftrue)) ⊛ ‵ (S.the-row .own r (u ∷ []))) ⊛ raw (ensured 𝓤 H A callee.ended (callee.clauses 𝓤 H A mem run) κs x tt r)))) (id⊢ 𝓤 _) $ await ! tt $ pick ! (λ r.
+        use1 W (later (some (λ (r : Placed). ((‵ (flft κ q) ⊛ (‵ (flft κ′ q′) ⊛ ‵ ftrue)) ⊛ ‵ (S.the-row .own r (u ∷ []))) ⊛ raw (ensured 𝓤 H A callee.ended (callee.clauses 𝓤 H A mem run) κs x tt r)))) (id⊢ 𝓤 _) $ await ! tt $ pick ! (λ r.
         split ! $ move ! (1 ∷ []) $ use1 W (some (λ (ws : Unit {0} × (Unit {0} × (Unit {0} × (Unit {0} × Unit {0})))). ‵ (lasts callee.ended κs x ws) ⊛ raw (fact 𝓤 (Says r)))) (id⊢ 𝓤 _) $ pick ! (λ ws.
         split ! $ move ! (1 ∷ []) $ heard ! (Says r) (λ e. drop ! $
         split ! $ move ! (1 ∷ []) $ peeks ! S.the-row (Is S.the-row) (shows 𝓤 H A S.the-row) r (u ∷ []) (λ is.
@@ -171,5 +172,5 @@ ashlar-find-spec 𝓤 H 𝓜 𝓖 𝓡 =
     entered 𝓤 H (tripleOf 𝓤 H (𝓖 .A) f.signature (f.spec 𝓤 H (𝓖 .A) (𝓜 .mem) (𝓡 .run)))
     (tables 𝓤 H 𝓜 𝓡 code.env .C) (tables 𝓤 H 𝓜 𝓡 code.env .Λ) #f code.function (code.unfolded 𝓤 H 𝓜 𝓡)
     (f-meets 𝓤 H (𝓖 .A) (givenOf 𝓤 H 𝓜 𝓖) (𝓜 .mem) (𝓡 .run) (tablesOf 𝓤 H 𝓜 (tables 𝓤 H 𝓜 𝓡 code.env))
-    (cited 𝓤 H (Callee 𝓤 H (𝓖 .A) (𝓜 .mem) (𝓡 .run)) 𝓜 𝓡 code.env #callee callee-def.routine code.calls-finding·find (callee-thm.met 𝓤 H 𝓜 𝓖 𝓡))
+    (cited 𝓤 H (Callee 𝓤 H (𝓖 .A) (𝓜 .mem) (𝓡 .run)) 𝓜 𝓡 code.env #callee callee-def.routine code.calls-finding·find-place (callee-thm.met 𝓤 H 𝓜 𝓖 𝓡))
     (cited 𝓤 H (Num 𝓤 H (𝓖 .A) (𝓜 .mem) (𝓡 .run)) 𝓜 𝓡 code.env #num num-def.routine code.calls-ashlar·found-numbers (num-thm.met 𝓤 H 𝓜 𝓖 𝓡)))

@@ -4,14 +4,10 @@ use Rattle.ashlar.proofs.found_numbers.Statement.{statement}
 use Rattle.ashlar.proofs.found_numbers.Tie as tie
 
 returns : tie.Need-returns
-returns c = rw (c .before .found .given .1)
+returns c = rw (c .before .placed .given .1)
 
 returns-2 : tie.Need-returns-2
-returns-2 c = rw (c .before .found2 .given .1)
-
-returns-3 : tie.Need-returns-3
-returns-3 c = rw (c .number-of .ensures, c .before .before .found3 .given .1)
+returns-2 c = rw (c .number-of .ensures, c .before .before .placed2 .given .1)
 
 pub found-numbers-spec : {M : Type 1} → statement M
-found-numbers-spec =
-    tie.close (tie.spec (λ c. search needs) (λ c. search needs) (λ c. search needs) (λ c κs. search needs) returns returns-2 returns-3)
+found-numbers-spec = tie.close (tie.spec (λ c. search needs) (λ c. search needs) (λ c κs. search needs) returns returns-2)
