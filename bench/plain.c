@@ -81,7 +81,8 @@ static inline __attribute__((always_inline)) AshlarKind three(size_t head, size_
     return listed(entries, p, n);
 }
 
-AshlarKind plain_read_kind(uint8_t code, const uint8_t *v, size_t n) {
+/* stands in the search itself too, which needs of it only whether it reads */
+static inline __attribute__((always_inline)) AshlarKind kind_in(uint8_t code, const uint8_t *v, size_t n) {
     switch (code) {
     case 0: return n ? refused(4) : fixed(0, 0);
     case 1: case 2: return fixed(6, n);
@@ -107,6 +108,8 @@ AshlarKind plain_read_kind(uint8_t code, const uint8_t *v, size_t n) {
     }
 }
 
+AshlarKind plain_read_kind(uint8_t code, const uint8_t *v, size_t n) { return kind_in(code, v, n); }
+
 static bool is_kind(uint8_t code) {
     static const uint64_t known[4] = {
         1ull << 0 | 1ull << 1 | 1ull << 2 | 1ull << 4 | 1ull << 6 | 1ull << 7 | 1ull << 8 | 1ull << 12 | 1ull << 13 | 1ull << 15 | 1ull << 16 | 1ull << 23 | 1ull << 24 | 1ull << 26 | 1ull << 30,
@@ -118,12 +121,11 @@ static bool is_kind(uint8_t code) {
 }
 
 AshlarFound plain_find(const AshlarTlv *list, size_t count, const uint8_t *p, size_t n, uint8_t code, size_t from) {
-    if (!is_kind(code)) return (AshlarFound){.refusal = 16};
     for (size_t i = from; i < count; i++) {
         if (list[i].tlv_type != code || n < 3 || n - 3 < list[i].length || n - 3 - list[i].length < list[i].offset) continue;
-        if (!plain_read_kind(code, p + list[i].offset + 3, list[i].length).refusal) return (AshlarFound){i, 0};
+        if (!kind_in(code, p + list[i].offset + 3, list[i].length).refusal) return (AshlarFound){i, 0};
     }
-    return (AshlarFound){.refusal = 15};
+    return (AshlarFound){.refusal = is_kind(code) ? 15 : 16};
 }
 
 AshlarTable plain_fresh(void) { return (AshlarTable){0}; }
