@@ -148,12 +148,12 @@ pub record ZeroThenLastOne (p q : Push) : Type 0 where
 
 pub record Examples : Type 0 where
   -- "empty gives 1; `01 00` gives 1"
-  pub empty : readTlv [] ≡ refuses 1 []
-  pub two-bytes : readTlv (0x01 ∷ 0x00 ∷ []) ≡ refuses 1 []
+  pub empty : readTlv [] ≡ refuses 1 (3 ∷ [])
+  pub two-bytes : readTlv (0x01 ∷ 0x00 ∷ []) ≡ refuses 1 (1 ∷ [])
   -- "`00 00 00` is type 0, consumed 3"
   pub end-marker : readTlv (0x00 ∷ 0x00 ∷ 0x00 ∷ []) ≡ gives (record { tlv-type = 0; value-length = 0; consumed = 3 })
   -- "`01 00 02 AA` gives 2"
-  pub runs-past : readTlv (0x01 ∷ 0x00 ∷ 0x02 ∷ 0xAA ∷ []) ≡ refuses 2 []
+  pub runs-past : readTlv (0x01 ∷ 0x00 ∷ 0x02 ∷ 0xAA ∷ []) ≡ refuses 2 (1 ∷ [])
   -- "`01 00 02 AA BB CC` has value `AA BB`, rest 1": five of the six bytes are consumed
   pub read : readTlv (0x01 ∷ 0x00 ∷ 0x02 ∷ 0xAA ∷ 0xBB ∷ 0xCC ∷ []) ≡ gives (record { tlv-type = 1; value-length = 2; consumed = 5 })
   pub value : valueIn (readTlv (0x01 ∷ 0x00 ∷ 0x02 ∷ 0xAA ∷ 0xBB ∷ 0xCC ∷ [])) (0x01 ∷ 0x00 ∷ 0x02 ∷ 0xAA ∷ 0xBB ∷ 0xCC ∷ []) ≡ 0xAA ∷ 0xBB ∷ []

@@ -5,9 +5,10 @@ use Rattle.numbers.specs.Parts.{behind}
 use Rattle.numbers.proofs.Firm.{by-equation, by-telling, both}
 use Rattle.framing.specs.Tlv.{readOf, readTlv, valueIn, valueFrom, header, tlvBytes, writtenOf, writeSize, leaves}
 use Rattle.framing.specs.Cmdu.{headerOf, readHeader}
-use Rattle.framing.specs.Claims.{Firmness, RoundTrip}
+use Rattle.framing.specs.Claims.{Shortfalls, Firmness, RoundTrip}
 use Rattle.framing.proofs.Firm.{read-one, written-one, header-one}
 use Rattle.framing.proofs.RoundTrip.{read-written, value-written, written-read}
+use Rattle.framing.proofs.Shortfall.{of-tlv, of-header}
 
 pub firmness : Firmness
 firmness = record {
@@ -20,3 +21,6 @@ firmness = record {
 
 pub round-trip : RoundTrip
 round-trip = record { read-written = read-written; value-written = value-written; written-read = written-read }
+
+pub shortfalls : Shortfalls
+shortfalls = record { of-tlv = of-tlv; of-header = of-header }

@@ -1,14 +1,14 @@
 -- Laws of `readHeader`: its two cases.
 use mathlib.Core.Path.{_≡_}
-use mathlib.Core.List.{List, []}
-use Prim.Native.Nat.{ℕ, _+_, _*_, _/_, _%_, _<_, _≤_}
+use mathlib.Core.List.{List, [], _∷_}
+use Prim.Native.Nat.{ℕ, _+_, _-_, _*_, _/_, _%_, _<_, _≤_}
 use lib.Dec.{eqb}
 use lib.ListN.{length, getD}
 use borrow.Author.Tests.{lt-ltb, le-ltb}
 use Rattle.numbers.specs.Numbers.{gives, refuses}
 use Rattle.framing.specs.Cmdu.{readHeader}
 
-pub short : (s : List ℕ) → length s < 8 → refuses 1 [] ≡ readHeader s
+pub short : (s : List ℕ) → length s < 8 → refuses 1 ((8 - length s) ∷ []) ≡ readHeader s
 unfolding readHeader
 short s h = simp (lt-ltb (length s) 8 h)
 

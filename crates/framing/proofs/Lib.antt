@@ -5,3 +5,4 @@ pub mod Heading
 pub mod Reading
 pub mod RoundTrip
 pub mod Writing
+pub mod Shortfall

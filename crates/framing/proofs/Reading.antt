@@ -10,14 +10,14 @@ use borrow.Author.Tests.{ltb-false, lt-ltb, le-ltb}
 use Rattle.numbers.specs.Numbers.{gives, refuses}
 use Rattle.framing.specs.Tlv.{TlvRead, readTlv, declared, valueIn, valueFrom}
 
-pub short : (s : List ℕ) → length s < 3 → refuses 1 [] ≡ readTlv s
+pub short : (s : List ℕ) → length s < 3 → refuses 1 ((3 - length s) ∷ []) ≡ readTlv s
 unfolding readTlv
 short s h = simp (lt-ltb (length s) 3 h)
 
 -- `n` is how the code came by the declared length
-pub past : (s : List ℕ) (n : ℕ) → n ≡ declared s → 3 ≤ length s → length s - 3 < n → refuses 2 [] ≡ readTlv s
+pub past : (s : List ℕ) (n : ℕ) → n ≡ declared s → 3 ≤ length s → length s - 3 < n → refuses 2 ((n - (length s - 3)) ∷ []) ≡ readTlv s
 unfolding readTlv
-past s n e h l = simp (le-ltb (length s) 3 h, lt-ltb (length s - 3) (declared s) (rw e at l))
+past s n e h l = rw e (simp (le-ltb (length s) 3 h, lt-ltb (length s - 3) (declared s) (rw e at l)))
 
 pub whole : (s : List ℕ) (n : ℕ) → n ≡ declared s → 3 ≤ length s → n ≤ length s - 3 → gives (record { tlv-type = getD s 0 0; value-length = n; consumed = 3 + n }) ≡ readTlv s
 unfolding readTlv
@@ -30,15 +30,15 @@ pub record Reads (s : List ℕ) (t : TlvRead) : Type 0 where
   pub all : t .consumed ≡ 3 + t .value-length
   pub inside : t .consumed ≤ length s
 
-by-tests : (x y : Bool) (t u : TlvRead) → gives t ≡ cond x (refuses 1 []) (cond y (refuses 2 []) (gives u)) → (x ≡ false) × ((y ≡ false) × (t ≡ u))
-by-tests true y t u e = let z : _≡_ {A = ℕ} 0 1 = cc in absurd (omega arith)
-by-tests false true t u e = let z : _≡_ {A = ℕ} 0 1 = cc in absurd (omega arith)
-by-tests false false t u e = (refl, (refl, cc))
+by-tests : (x y : Bool) (vs ws : List ℕ) (t u : TlvRead) → gives t ≡ cond x (refuses 1 vs) (cond y (refuses 2 ws) (gives u)) → (x ≡ false) × ((y ≡ false) × (t ≡ u))
+by-tests true y vs ws t u e = let z : _≡_ {A = ℕ} 0 1 = cc in absurd (omega arith)
+by-tests false true vs ws t u e = let z : _≡_ {A = ℕ} 0 1 = cc in absurd (omega arith)
+by-tests false false vs ws t u e = (refl, (refl, cc))
 
 pub reads : (s : List ℕ) (t : TlvRead) → gives t ≡ readTlv s → Reads s t
 unfolding readTlv
 reads s t e =
-    let h = by-tests (ltb (length s) 3) (ltb (length s - 3) (declared s)) t _ e in
+    let h = by-tests (ltb (length s) 3) (ltb (length s - 3) (declared s)) _ _ t _ e in
     let long = ltb-false (length s) 3 (h .0) in
     let fits = ltb-false (length s - 3) (declared s) (h .1 .0) in
     record {

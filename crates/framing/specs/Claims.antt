@@ -1,10 +1,10 @@
 -- What is claimed of this crate's calls; proofs/Claims.antt proves it.
 use mathlib.Core.Path.{_≡_}
-use mathlib.Core.List.{List, _++_}
+use mathlib.Core.List.{List, [], _∷_, _++_}
 use Prim.Native.Nat.{ℕ, _+_, _<_, _≤_}
 use lib.ListN.{length, take, getD}
 use denote.Ref.{RefT, now}
-use Rattle.numbers.specs.Numbers.{gives}
+use Rattle.numbers.specs.Numbers.{Answer, gives, refuses}
 use Rattle.numbers.specs.Parts.{behind}
 use Rattle.numbers.specs.Firmness.{Firm}
 use Rattle.framing.specs.Tlv.{TlvRead, readOf, readTlv, valueIn, valueFrom, header, tlvBytes, writtenOf, longestValue, writeSize, leaves}
@@ -35,3 +35,17 @@ pub record RoundTrip : Type 0 where
   pub value-written : (t : ℕ) (v rest : List ℕ) → length v ≤ longestValue → valueIn (readTlv (tlvBytes t v ++ rest)) (tlvBytes t v ++ rest) ≡ v
   -- writing what was read gives the consumed bytes
   pub written-read : (s : List ℕ) → Bytes s → (t : TlvRead) → gives t ≡ readTlv s → tlvBytes (t .tlv-type) (valueIn (readTlv s) s) ≡ take (t .consumed) s
+
+-- 2026-01: "the exact shortfall: the bytes that must be added before that same number would no longer be given"
+abbrev pub numberIn : {A : Type 0} → Answer A → ℕ
+numberIn (gives a) = 0
+numberIn (refuses n vs) = n
+
+-- a reading of s is refused by n, and so many bytes are missing: with any fewer behind s it is refused by n again, and with any so many it isn't
+pub record Missing {A : Type 0} (read : List ℕ → Answer A) (s : List ℕ) (n missing : ℕ) : Type 0 where
+  pub again : (more : List ℕ) → length more < missing → numberIn (read (s ++ more)) ≡ n
+  pub no-longer : (more : List ℕ) → length more ≡ missing → numberIn (read (s ++ more)) ≡ n → ⊥
+
+pub record Shortfalls : Type 0 where
+  pub of-tlv : (s : List ℕ) (n missing : ℕ) → readTlv s ≡ refuses n (missing ∷ []) → Missing readTlv s n missing
+  pub of-header : (s : List ℕ) (n missing : ℕ) → readHeader s ≡ refuses n (missing ∷ []) → Missing readHeader s n missing

@@ -1,7 +1,7 @@
 -- The CMDU header (IEEE 1905.1, clause 6.2): version, reserved byte, type in 2 bytes, message id in 2, fragment number, flags; bit 7 of flags marks the last fragment.
 use mathlib.Core.Bool.{cond}
-use mathlib.Core.List.{List, []}
-use Prim.Native.Nat.{ℕ, _+_, _*_, _/_, _%_}
+use mathlib.Core.List.{List, [], _∷_}
+use Prim.Native.Nat.{ℕ, _+_, _-_, _*_, _/_, _%_}
 use lib.Dec.{ltb, eqb}
 use lib.ListN.{length, getD}
 use Rattle.numbers.specs.Numbers.{Answer, gives, refuses, told}
@@ -15,7 +15,7 @@ headerOf (Refused r) = told r
 
 unfoldable pub readHeader : List ℕ → Answer CmduHeader
 readHeader s =
-    cond (ltb (length s) 8) (refuses 1 [])
+    cond (ltb (length s) 8) (refuses 1 ((8 - length s) ∷ []))
     (gives (record {
       «message_version» = getD s 0 0;
       reserved = getD s 1 0;

@@ -27,8 +27,8 @@ declared s = getD s 1 0 * 256 + getD s 2 0
 
 unfoldable pub readTlv : List ℕ → Answer TlvRead
 readTlv s =
-    cond (ltb (length s) 3) (refuses 1 [])
-    (cond (ltb (length s - 3) (declared s)) (refuses 2 [])
+    cond (ltb (length s) 3) (refuses 1 ((3 - length s) ∷ []))
+    (cond (ltb (length s - 3) (declared s)) (refuses 2 ((declared s - (length s - 3)) ∷ []))
     (gives (record { tlv-type = getD s 0 0; value-length = declared s; consumed = 3 + declared s })))
 
 -- the value of a TLV that reads as said, as a part of the bytes, and where it starts in them; where none reads, their empty start

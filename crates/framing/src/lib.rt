@@ -54,11 +54,12 @@ pub fn read_tlv(s: &[u8]) -> Read
     ensures { λ r. ⌜ readOf r ≡ readTlv (now (s .entry)) ⌝ }
 {
     if s.len() < 3 {
-        return Read::Refused(Refusal::TooFewBytes);
+        return Read::Refused(Refusal::TooFewBytes(3 - s.len()));
     }
     let length = wide(s[1]) * 256 + wide(s[2]);
-    if s.len() - 3 < length {
-        return Read::Refused(Refusal::RunsPastEnd);
+    let there = s.len() - 3;
+    if there < length {
+        return Read::Refused(Refusal::RunsPastEnd(length - there));
     }
     Read::Whole {
         tlv_type: s[0],
@@ -138,7 +139,7 @@ pub fn read_cmdu_header(s: &[u8]) -> HeaderRead
     ensures { λ r. ⌜ headerOf r ≡ readHeader (now (s .entry)) ⌝ }
 {
     if s.len() < 8 {
-        return HeaderRead::Refused(Refusal::TooFewBytes);
+        return HeaderRead::Refused(Refusal::TooFewBytes(8 - s.len()));
     }
     let message_type = wide16(s[2], s[3]);
     let message_id = wide16(s[4], s[5]);

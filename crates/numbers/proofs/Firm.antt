@@ -11,14 +11,14 @@ use Rattle.numbers.specs.declared.Refusal.the-variants.{TooFewBytes, Run
 
 -- the cases by their numbers, with the value v, and the case with the number n
 abbrev cases : ℕ → List Refusal
-cases v = UnknownKind ∷ TooFewBytes ∷ RunsPastEnd ∷ CutShort ∷ LeftOver ∷ BadValue ∷ NoEntry ∷ NoRoom ∷ ValueTooLong ∷ NeverRead ∷ TableFull ∷ StoreTooSmall ∷ PayloadTooLong ∷ OutputTooSmall v ∷ ListTooShort ∷ NotFound ∷ UnknownKind ∷ []
+cases v = UnknownKind ∷ TooFewBytes v ∷ RunsPastEnd v ∷ CutShort ∷ LeftOver ∷ BadValue ∷ NoEntry ∷ NoRoom ∷ ValueTooLong ∷ NeverRead ∷ TableFull ∷ StoreTooSmall ∷ PayloadTooLong ∷ OutputTooSmall v ∷ ListTooShort ∷ NotFound ∷ UnknownKind ∷ []
 
 abbrev caseOf : ℕ → ℕ → Refusal
 caseOf n v = getD (cases v) n UnknownKind
 
 back : (r : Refusal) → caseOf (number r) (carried r) ≡ r
-back TooFewBytes = refl
-back RunsPastEnd = refl
+back (TooFewBytes n) = refl
+back (RunsPastEnd n) = refl
 back CutShort = refl
 back LeftOver = refl
 back BadValue = refl

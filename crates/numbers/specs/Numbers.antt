@@ -25,10 +25,10 @@ abbrev pub isGiven : {A : Type 0} → Answer A → Bool
 isGiven (gives a) = true
 isGiven (refuses n vs) = false
 
--- The number of each refusal and its values: "All but 13 and these [the walk's, which carry an offset] carry no other number."
+-- The number of each refusal and its values: "All but 13 and these [the walk's, which carry an offset] carry no other number." 2026-01: "Numbers 1 and 2 shall carry the exact shortfall".
 abbrev pub numbered : Refusal → ℕ × List ℕ
-numbered TooFewBytes = (1, [])
-numbered RunsPastEnd = (2, [])
+numbered (TooFewBytes missing) = (1, missing ∷ [])
+numbered (RunsPastEnd missing) = (2, missing ∷ [])
 numbered CutShort = (3, [])
 numbered LeftOver = (4, [])
 numbered BadValue = (5, [])

@@ -4,10 +4,10 @@ ghost use Rattle.numbers.specs.Numbers.{number, carried};
 
 // Why a call refused. A caller passes a refusal of a layer below on by this name and never makes it anew, so that what a case carries can grow.
 pub enum Refusal {
-    // 1: fewer than 3 bytes for a TLV, or 8 for a CMDU header
-    TooFewBytes,
-    // 2: the declared value runs past the end
-    RunsPastEnd,
+    // 1: fewer than 3 bytes for a TLV, or 8 for a CMDU header; with how many are missing
+    TooFewBytes(usize),
+    // 2: the declared value runs past the end; with how many of its bytes are missing
+    RunsPastEnd(usize),
     // 3: a typed value ends inside its layout
     CutShort,
     // 4: bytes left over in a kind that takes none
@@ -43,8 +43,8 @@ pub fn number_of(refusal: Refusal) -> u8
     ensures { λ r. ⌜ r ≡ number refusal ⌝ }
 {
     match refusal {
-        Refusal::TooFewBytes => 1,
-        Refusal::RunsPastEnd => 2,
+        Refusal::TooFewBytes(_) => 1,
+        Refusal::RunsPastEnd(_) => 2,
         Refusal::CutShort => 3,
         Refusal::LeftOver => 4,
         Refusal::BadValue => 5,
@@ -62,14 +62,14 @@ pub fn number_of(refusal: Refusal) -> u8
     }
 }
 
-// What a refusal carries besides its number: the length of 13, and 0 where it carries nothing.
+// What a refusal carries besides its number: the shortfall of 1 and 2, the length of 13, and 0 where it carries nothing.
 pub fn carried_by(refusal: Refusal) -> usize
     ensures { λ r. ⌜ r ≡ carried refusal ⌝ }
 {
     match refusal {
+        Refusal::TooFewBytes(missing) => missing,
+        Refusal::RunsPastEnd(missing) => missing,
         Refusal::OutputTooSmall(length) => length,
-        Refusal::TooFewBytes => 0,
-        Refusal::RunsPastEnd => 0,
         Refusal::CutShort => 0,
         Refusal::LeftOver => 0,
         Refusal::BadValue => 0,

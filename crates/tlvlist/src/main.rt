@@ -1,5 +1,5 @@
 // Lists the TLVs of the payload on standard input, a line for each: its type and the length of its value. Then `end` and where the payload
-// ends, or `bad`, the number of the refusal and the offset of the TLV that failed.
+// ends, or `bad`, the number of the refusal, the offset of the TLV that failed and how many bytes are missing.
 use libc::STDIN_FILENO;
 use libc::STDOUT_FILENO;
 use walking::Stepped;
@@ -7,8 +7,8 @@ use walking::Tlv;
 ghost use Prim.Native.Nat.{_≤_};
 ghost use lib.ListN.{length};
 
-// A line is at most 49 bytes long: "bad ", two numbers of at most 20 digits, " at " and the line's end.
-const LINE: usize = 64;
+// A line is at most 70 bytes long: "bad ", three numbers of at most 20 digits, " at ", a space and the line's end.
+const LINE: usize = 80;
 
 // The bytes go into the text at `used`; where the text then ends. Bytes that have no room are left out: `with_room` sees to it that a line has.
 fn put(text: &mut [u8], used: usize, bytes: &[u8]) -> usize
@@ -54,7 +54,7 @@ fn put_end(text: &mut [u8], used: usize, at: usize) -> usize
     put(text, b, b"\n")
 }
 
-fn put_bad(text: &mut [u8], used: usize, number: u8, at: usize) -> usize
+fn put_bad(text: &mut [u8], used: usize, number: u8, at: usize, missing: usize) -> usize
     requires { ⌜ used ≤ length (now text) ⌝ }
     ensures { λ r. ⌜ r ≤ length (now (text .entry)) ⌝ }
 {
@@ -62,7 +62,9 @@ fn put_bad(text: &mut [u8], used: usize, number: u8, at: usize) -> usize
     let b = put_number(text, a, number as usize);
     let c = put(text, b, b" at ");
     let d = put_number(text, c, at);
-    put(text, d, b"\n")
+    let e = put(text, d, b" ");
+    let f = put_number(text, e, missing);
+    put(text, f, b"\n")
 }
 
 // Writes the first bytes of the text out.
@@ -101,7 +103,8 @@ fn list(payload: &[u8], text: &mut [u8]) -> usize
                 at = next;
             }
             Stepped::Refused { refusal, at } => {
-                return put_bad(text, used, numbers::number_of(refusal), at);
+                let missing = numbers::carried_by(refusal);
+                return put_bad(text, used, numbers::number_of(refusal), at, missing);
             }
         }
     }
@@ -115,7 +118,7 @@ fn main() {
     let mut text = [0u8; 4096];
     let n = io::read_full(STDIN_FILENO, &mut payload);
     if MOST_INPUT < n {
-        let used = put_bad(&mut text, 0, 12, 0);
+        let used = put_bad(&mut text, 0, 12, 0, 0);
         flush(&text, used);
         return;
     }

@@ -1,9 +1,9 @@
 -- What is claimed of this crate's calls; proofs/Claims.antt proves it.
 use mathlib.Core.Path.{_≡_}
 use mathlib.Core.List.{List, [], _∷_, _++_}
-use Prim.Native.Nat.{ℕ, _+_}
+use Prim.Native.Nat.{ℕ, _+_, _<_}
 use lib.ListN.{length, take, drop}
-use Rattle.numbers.specs.Numbers.{gives}
+use Rattle.numbers.specs.Numbers.{Answer, gives, refuses}
 use Rattle.numbers.specs.Firmness.{Firm}
 use Rattle.framing.specs.Tlv.{tlvBytes}
 use Rattle.framing.specs.Claims.{Bytes}
@@ -29,3 +29,16 @@ written p (t ∷ ts) = tlvOf p t ++ written p ts
 -- The TLVs of a walk that succeeds, written again, are the payload, byte for byte, and it ends at the payload's end.
 abbrev pub WalkWritten : Type 0
 WalkWritten = (p : List ℕ) → Bytes p → (end : ℕ) → walkOf p .end ≡ gives end → (written p (walkOf p .tlvs) ≡ p) × (end ≡ length p)
+
+-- 2026-01: "the bytes that must be added before that same number would no longer be given", of a walk at the same offset: the number and the offset of a refusal, 0 and 0 where there is none
+abbrev pub refusedAt : {A : Type 0} → Answer A → ℕ × ℕ
+refusedAt (gives a) = (0, 0)
+refusedAt (refuses n []) = (n, 0)
+refusedAt (refuses n (at ∷ vs)) = (n, at)
+
+pub record MissingAt (p : List ℕ) (n at missing : ℕ) : Type 0 where
+  pub again : (more : List ℕ) → length more < missing → refusedAt (counted (walkOf (p ++ more))) ≡ (n, at)
+  pub no-longer : (more : List ℕ) → length more ≡ missing → refusedAt (counted (walkOf (p ++ more))) ≡ (n, at) → ⊥
+
+abbrev pub WalkShortfall : Type 0
+WalkShortfall = (p : List ℕ) (n at missing : ℕ) → counted (walkOf p) ≡ refuses n (at ∷ missing ∷ []) → MissingAt p n at missing

@@ -51,6 +51,9 @@ loop-again c = ((passes _ _ _ _ (ap steppedOf (sym (c .before .before .before .b
 enum-known-refusal : tie.Need-enum-known-refusal Inv-loop μ-loop
 enum-known-refusal c = search needs
 
+carried-by-requires : tie.Need-carried-by-requires Inv-loop μ-loop
+carried-by-requires c κs = search needs
+
 number-of-requires : tie.Need-number-of-requires Inv-loop μ-loop
 number-of-requires c κs = search needs
 
@@ -81,6 +84,7 @@ list-spec =
     loop-less
     loop-again
     enum-known-refusal
+    carried-by-requires
     number-of-requires
     put-bad-requires
     same-length-2

@@ -1,0 +1,88 @@
+-- The shortfall of 1 and 2 is exact.
+use mathlib.Core.Path.{_≡_, refl, sym, ap, _∙_}
+use mathlib.Core.Bool.{Bool, true, false, cond}
+use mathlib.Core.List.{List, [], _∷_, _++_}
+use Prim.Native.Nat.{ℕ, _+_, _-_, _*_, _<_, _≤_}
+use native.Mathlib.Omega.{arith}
+use lib.Dec.{ltb}
+use lib.ListN.{length, getD, length-append, List·getD-append}
+use borrow.Author.Tests.{ltb-true, ltb-false}
+use Rattle.numbers.specs.Numbers.{Answer, gives, refuses}
+use Rattle.numbers.proofs.Firm.{never}
+use Rattle.framing.specs.Tlv.{TlvRead, readTlv, declared}
+use Rattle.framing.specs.Cmdu.{readHeader}
+use Rattle.framing.specs.declared.CmduHeader.{CmduHeader}
+use Rattle.framing.specs.Claims.{numberIn, Missing}
+use Rattle.framing.proofs.Reading as tlv
+use Rattle.framing.proofs.Heading as heading
+
+-- a refusal with one value is one number and one value
+one-number : {A : Type 0} (n m k l : ℕ) → _≡_ {A = Answer A} (refuses n (k ∷ [])) (refuses m (l ∷ [])) → (n ≡ m) × (k ≡ l)
+one-number n m k l e = (cc, cc)
+
+-- with three bytes the declared length is there, and stays
+declared-same : (s more : List ℕ) → 3 ≤ length s → declared s ≡ declared (s ++ more)
+declared-same s more h = rw (List·getD-append s more 0 1 (omega arith), List·getD-append s more 0 2 (omega arith))
+
+-- what reads reads the same with more behind it
+pub longer : (s more : List ℕ) (t : TlvRead) → gives t ≡ readTlv s → gives t ≡ readTlv (s ++ more)
+longer s more t e =
+    let r = tlv.reads s t e in
+    let d = declared-same s more (omega (arith, r .all, r .inside)) in
+    let g = List·getD-append s more 0 0 (omega (arith, r .all, r .inside)) in
+    let w = tlv.whole (s ++ more) (t .value-length) (r .long ∙ d) (omega (arith, r .all, r .inside, length-append s more)) (omega (arith, r .all, r .inside, length-append s more)) in
+    rw (r .all, r .typed, ← g) w
+
+-- a refusal of a TLV has a number of its own
+pub numbered : (s : List ℕ) (n : ℕ) (vs : List ℕ) → readTlv s ≡ refuses n vs → 0 < n
+numbered s n vs e = go (ltb (length s) 3) (ltb (length s - 3) (declared s)) refl refl
+  where
+    go : (x y : Bool) → ltb (length s) 3 ≡ x → ltb (length s - 3) (declared s) ≡ y → 0 < n
+    go true y f g = omega (arith, ap numberIn (tlv.short s (ltb-true (length s) 3 f) ∙ e))
+    go false true f g = omega (arith, ap numberIn (tlv.past s (declared s) refl (ltb-false (length s) 3 f) (ltb-true (length s - 3) (declared s) g) ∙ e))
+    go false false f g = never _ _ _ (tlv.whole s (declared s) refl (ltb-false (length s) 3 f) (ltb-false (length s - 3) (declared s) g) ∙ e)
+
+not-one : (s : List ℕ) → 3 ≤ length s → numberIn (readTlv s) ≡ 1 → ⊥
+not-one s h e = go (ltb (length s - 3) (declared s)) refl
+  where
+    go : (b : Bool) → ltb (length s - 3) (declared s) ≡ b → ⊥
+    go true f = omega (arith, ap numberIn (tlv.past s (declared s) refl h (ltb-true (length s - 3) (declared s) f)), e)
+    go false f = omega (arith, ap numberIn (tlv.whole s (declared s) refl h (ltb-false (length s - 3) (declared s) f)), e)
+
+module _ (s : List ℕ) where
+  few : length s < 3 → Missing readTlv s 1 (3 - length s)
+  few h = record {
+    again = λ more l. sym (ap numberIn (tlv.short (s ++ more) (omega (arith, length-append s more))));
+    no-longer = λ more l e. not-one (s ++ more) (omega (arith, length-append s more)) e;
+  }
+
+  past : 3 ≤ length s → length s - 3 < declared s → Missing readTlv s 2 (declared s - (length s - 3))
+  past h l = record {
+    again = λ more f. sym (ap numberIn (tlv.past (s ++ more) (declared s) (declared-same s more h) (omega (arith, length-append s more)) (omega (arith, length-append s more))));
+    no-longer = λ more f e. omega (arith, ap numberIn (tlv.whole (s ++ more) (declared s) (declared-same s more h) (omega (arith, length-append s more)) (omega (arith, length-append s more))), e);
+  }
+
+  pub of-tlv : (n missing : ℕ) → readTlv s ≡ refuses n (missing ∷ []) → Missing readTlv s n missing
+  of-tlv n missing e = go (ltb (length s) 3) (ltb (length s - 3) (declared s)) refl refl
+    where
+      go : (x y : Bool) → ltb (length s) 3 ≡ x → ltb (length s - 3) (declared s) ≡ y → Missing readTlv s n missing
+      go true y f g = let h = ltb-true (length s) 3 f in let o = one-number _ _ _ _ (sym e ∙ sym (tlv.short s h)) in rw (o .0, o .1) (few h)
+      go false true f g =
+          let h = ltb-false (length s) 3 f in
+          let l = ltb-true (length s - 3) (declared s) g in
+          let o = one-number _ _ _ _ (sym e ∙ sym (tlv.past s (declared s) refl h l)) in
+          rw (o .0, o .1) (past h l)
+      go false false f g = never _ _ _ (tlv.whole s (declared s) refl (ltb-false (length s) 3 f) (ltb-false (length s - 3) (declared s) g) ∙ e)
+
+  few-of-header : length s < 8 → Missing readHeader s 1 (8 - length s)
+  few-of-header h = record {
+    again = λ more l. sym (ap numberIn (heading.short (s ++ more) (omega (arith, length-append s more))));
+    no-longer = λ more l e. omega (arith, ap numberIn (heading.whole (s ++ more) _ _ (omega (arith, length-append s more)) refl refl), e);
+  }
+
+  pub of-header : (n missing : ℕ) → readHeader s ≡ refuses n (missing ∷ []) → Missing readHeader s n missing
+  of-header n missing e = go (ltb (length s) 8) refl
+    where
+      go : (x : Bool) → ltb (length s) 8 ≡ x → Missing readHeader s n missing
+      go true f = let h = ltb-true (length s) 8 f in let o = one-number _ _ _ _ (sym e ∙ sym (heading.short s h)) in rw (o .0, o .1) (few-of-header h)
+      go false f = never _ _ _ (heading.whole s _ _ (ltb-false (length s) 8 f) refl refl ∙ e)
