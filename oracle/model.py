@@ -74,10 +74,10 @@ def read_tlv(data, at=0):
     """Type, length of the value, bytes consumed."""
     there = len(data) - at
     if there < 3:
-        raise Refused(1)
+        raise Refused(1, 3 - there)
     length = data[at + 1] * 256 + data[at + 2]
     if there - 3 < length:
-        raise Refused(2)
+        raise Refused(2, length - (there - 3))
     return data[at], length, 3 + length
 
 
@@ -88,7 +88,8 @@ def walk(data):
         try:
             kind, length, consumed = read_tlv(data, at)
         except Refused as refused:
-            raise Refused(refused.args[0], at)
+            number, shortfall = refused.args
+            raise Refused(number, at, shortfall)
         found.append((kind, at, length))
         at += consumed
     return found
@@ -104,7 +105,7 @@ def write_tlv(kind, value, room):
 
 def header(data):
     if len(data) < 8:
-        raise Refused(1)
+        raise Refused(1, 8 - len(data))
     return data[0], data[1], data[2] * 256 + data[3], data[4] * 256 + data[5], data[6], data[7], data[7] >> 7
 
 

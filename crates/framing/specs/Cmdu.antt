@@ -13,6 +13,7 @@ abbrev pub headerOf : HeaderRead → Answer CmduHeader
 headerOf (Header h) = gives h
 headerOf (Refused r) = told r
 
+-- 2026-01: 1 carries the shortfall, "8 less what there is"
 unfoldable pub readHeader : List ℕ → Answer CmduHeader
 readHeader s =
     cond (ltb (length s) 8) (refuses 1 ((8 - length s) ∷ []))

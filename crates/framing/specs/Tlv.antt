@@ -25,6 +25,7 @@ readOf (Read.Refused r) = told r
 abbrev pub declared : List ℕ → ℕ
 declared s = getD s 1 0 * 256 + getD s 2 0
 
+-- 2026-01: 1 and 2 "shall carry the exact shortfall": "3 [..] less what there is; the declared length less what there is"
 unfoldable pub readTlv : List ℕ → Answer TlvRead
 readTlv s =
     cond (ltb (length s) 3) (refuses 1 ((3 - length s) ∷ []))
