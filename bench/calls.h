@@ -4,6 +4,7 @@
 #define CALLS_H
 #include "../include/ashlar.h"
 
+__typeof__(ashlar_read_header) plain_read_header;
 __typeof__(ashlar_walk) plain_walk;
 __typeof__(ashlar_walk_into) plain_walk_into;
 __typeof__(ashlar_read_kind) plain_read_kind;

@@ -16,13 +16,16 @@ COUNTER = ["qemu-x86_64", "-plugin", f"{WORK}/icount.so"]
 LOADER = [f"{LIBRARY}/ld-linux-x86-64.so.2", "--library-path", LIBRARY]
 ORIGINAL = f"{WORK}/cargo/x86_64-unknown-linux-gnu/release/rows"
 PROGRAMS = {"plain": [f"{WORK}/plain"], "original": LOADER + [ORIGINAL], "ours": [f"{WORK}/ours"]}
+WITHOUT_ORIGINAL = {who: PROGRAMS[who] for who in ("plain", "ours")}
 LISTERS = {"plain": [f"{WORK}/plain-tlvlist"], "original": LOADER + [ORIGINAL, "list"], "ours": LOADER + ["target/bin/tlvlist"]}
 TURNS = 20
 # Where the stack lies moves with the environment's length, and with it what a copy on the stack costs: so the programs get always the same one.
 FIXED = {"PATH": os.defpath}
 
-# what is done; words for the programs; at most so many times plain C; less than, or at most, so many times the original; at most so many beyond the payload's copy
+# what is done; words for the programs; at most so many times plain C; less than, or at most, so many times the original, None where it has no such call; at most so many beyond
+# the payload's copy
 ROWS = [
+    ("A CMDU header", "header", 3, None, None),
     ("Walk of 1,492 bytes, 497 TLVs", "walk-497", 2, 0.5, None),
     ("the same into a list", "list-497", 2, 0.5, None),
     ("Walk of 1,492 bytes, 165 TLVs", "walk-165", 2, 0.5, None),
@@ -89,7 +92,7 @@ def shown(n):
 
 
 def ratio(counts, to):
-    return "" if counts["ours"] is None else f"{counts['ours'] / counts[to]:.2f}"
+    return "" if counts["ours"] is None or to not in counts else f"{counts['ours'] / counts[to]:.2f}"
 
 
 def judged(counts, plain, original, beyond, copy):
@@ -99,8 +102,9 @@ def judged(counts, plain, original, beyond, copy):
         bars.append(f"≤ {plain} × C")
         if counts["ours"] is not None and counts["ours"] > plain * counts["plain"]:
             missed.append(f"{ratio(counts, 'plain')} times plain C, the bar is {plain}")
-    bars.append("< original" if original == 1 else f"≤ {original} × original")
-    if counts["ours"] is not None:
+    if original:
+        bars.append("< original" if original == 1 else f"≤ {original} × original")
+    if original and counts["ours"] is not None:
         share = counts["ours"] / counts["original"]
         if share > original or (original == 1 and share == 1):
             missed.append(f"{share:.2f} times the original, the bar is {original}")
@@ -161,10 +165,10 @@ def main():
     told = reasons()
     table, misses = [], []
     for title, words, plain, original, beyond in ROWS + [("tlvlist over 47,744 bytes, 15,914 TLVs", "tlvlist", None, 1, None)]:
-        counts = listed() if words == "tlvlist" else counted(words)
+        counts = listed() if words == "tlvlist" else counted(words, PROGRAMS if original else WITHOUT_ORIGINAL)
         bars, missed = judged(counts, plain, original, beyond, copies[1492 if "1492" in words else 16])
         print(f"{words}: {counts}{' MISSES: ' + '; '.join(missed) if missed else ''}", flush=True)
-        table.append(f"| {title} | {shown(counts['plain'])} | {shown(counts['original'])} | {shown(counts['ours'])} | {ratio(counts, 'plain')} | {ratio(counts, 'original')} | {', '.join(bars)} | {'missed' if missed else 'kept'} |")
+        table.append(f"| {title} | {shown(counts['plain'])} | {shown(counts['original']) if original else 'no such call'} | {shown(counts['ours'])} | {ratio(counts, 'plain')} | {ratio(counts, 'original')} | {', '.join(bars)} | {'missed' if missed else 'kept'} |")
         if missed:
             misses.append(f"- **{title}** (`{words}`): {'; '.join(missed)}. {told.get(words, 'The reason is not recorded yet.')}")
     walks = [counted(f"walk {n}") for n in WALKS]

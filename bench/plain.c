@@ -2,16 +2,21 @@
 #include "calls.h"
 #include <string.h>
 
+AshlarHeader plain_read_header(const uint8_t *p, size_t n) {
+    if (n < 8) return (AshlarHeader){.shortfall = 8 - n, .refusal = 1};
+    return (AshlarHeader){0, p[0], p[1], (uint16_t)(p[2] << 8 | p[3]), (uint16_t)(p[4] << 8 | p[5]), p[6], p[7], p[7] & 0x80, 0};
+}
+
 AshlarWalk plain_walk(const uint8_t *p, size_t n) {
     size_t at = 0, count = 0;
     while (at < n) {
-        if (n - at < 3) return (AshlarWalk){0, at, 1};
+        if (n - at < 3) return (AshlarWalk){0, at, 3 - (n - at), 1};
         size_t length = (size_t)p[at + 1] << 8 | p[at + 2];
-        if (n - at - 3 < length) return (AshlarWalk){0, at, 2};
+        if (n - at - 3 < length) return (AshlarWalk){0, at, length - (n - at - 3), 2};
         at += 3 + length;
         count++;
     }
-    return (AshlarWalk){count, 0, 0};
+    return (AshlarWalk){count, 0, 0, 0};
 }
 
 /* One pass checks and one fills, since a refusal leaves the list as lent. */
@@ -21,7 +26,7 @@ AshlarWalk plain_walk_into(AshlarTlv *list, size_t room, const uint8_t *p, size_
     size_t at = 0;
     if (room < w.count) {
         for (size_t i = 0; i < room; i++) at += 3 + ((size_t)p[at + 1] << 8 | p[at + 2]);
-        return (AshlarWalk){0, at, 14};
+        return (AshlarWalk){0, at, 0, 14};
     }
     for (size_t i = 0; i < w.count; i++) {
         uint16_t length = (uint16_t)(p[at + 1] << 8 | p[at + 2]);

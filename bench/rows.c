@@ -68,6 +68,12 @@ static unsigned long sum(const uint8_t *b, size_t n) {
     return s;
 }
 
+static void read_header(int turns) {
+    AshlarHeader h = {0};
+    for (int i = 0; i < turns; i++) h = CALL(read_header)(payload, size);
+    printf("%d %d %d %d %d %d %d, %d\n", h.version, h.reserved, h.message_type, h.message_id, h.number, h.flags, h.last, h.refusal);
+}
+
 static void walk(int turns) {
     AshlarWalk w = {0};
     for (int i = 0; i < turns; i++) w = CALL(walk)(payload, size);
@@ -151,7 +157,8 @@ int main(int argc, char **argv) {
     size_t many = argc > 3 ? (size_t)atol(argv[3]) : 0;
     if (turns < 1 || turns > MOST) return 2;
     for (size_t i = 0; i < sizeof payload; i++) payload[i] = (uint8_t)(i * 7);
-    if (!strcmp(row, "walk-497")) tlvs(497, 1, 0, 1), walk(turns);
+    if (!strcmp(row, "header")) bytes(8), read_header(turns);
+    else if (!strcmp(row, "walk-497")) tlvs(497, 1, 0, 1), walk(turns);
     else if (!strcmp(row, "walk-165")) tlvs(165, 1, 6, 13), walk(turns);
     else if (!strcmp(row, "list-497")) tlvs(497, 1, 0, 1), walk_into(turns);
     else if (!strcmp(row, "list-165")) tlvs(165, 1, 6, 13), walk_into(turns);

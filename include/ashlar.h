@@ -1,10 +1,12 @@
 /* Ashlargale for C: messages of IEEE 1905.1 and Wi-Fi Multi-AP taken apart, and put together from fragments.
 
-   The payload of a message (of a CMDU, behind its header of eight bytes) is a row of TLVs: a type byte, the length of the value in two bytes, the higher one
-   first, and the value. ashlar_walk counts them and ashlar_walk_into lists them; ashlar_find looks in such a list for a TLV of one of 21 kinds, and
-   ashlar_read_kind reads the value of one.
+   What a frame carries (a CMDU) begins with a header of eight bytes, which ashlar_read_header reads. Behind it stands the payload.
+   The payload of a message is a row of TLVs: a type byte, the length of the value in two bytes, the higher one first, and the value. ashlar_walk counts them and
+   ashlar_walk_into lists them; ashlar_find looks in such a list for a TLV of one of 21 kinds, and ashlar_read_kind reads the value of one.
    A message longer than a frame comes in fragments, numbered from 0, the last one marked: ashlar_push keeps them in a table and joins them, ashlar_show says
    where the message lies, and ashlar_sweep drops what has waited for three seconds.
+   Where bytes come piece by piece, a header or a row of TLVs that ends too early is told with the number of bytes that are missing: a receive loop waits for as many
+   more and calls again.
 
    The archive libashlar.a is for x86-64 with the System V calling convention. It wants nothing but memcpy and memset, and takes no heap and at most 2,048 bytes of stack.
 
@@ -43,8 +45,10 @@ extern "C" {
 /* What a field `refusal` says. 6 to 9 are given by no call of this header: they belong to calls that reach single entries and write, and that C doesn't have. */
 typedef enum {
     ASHLAR_OK = 0,                 /* Nothing is refused: the other fields hold the answer. */
-    ASHLAR_TOO_FEW_BYTES = 1,      /* Fewer than three bytes are left where a TLV has to begin. The payload is cut or no row of TLVs: give it up. `at` says where. */
-    ASHLAR_RUNS_PAST_END = 2,      /* A TLV declares a longer value than bytes are left. The payload is cut or no row of TLVs: give it up. `at` says where. */
+    ASHLAR_TOO_FEW_BYTES = 1,      /* Fewer than three bytes are left where a TLV has to begin, `at` says where; or there are fewer than eight for a header. `shortfall` says
+                                      how many of the three or eight are missing: wait for as many more. If none are to come, the bytes are cut or no row of TLVs: give them up. */
+    ASHLAR_RUNS_PAST_END = 2,      /* A TLV declares a longer value than bytes are left, `at` says where. `shortfall` says how many bytes of the value are missing: wait for as
+                                      many more. If none are to come, the payload is cut or no row of TLVs: give it up. */
     ASHLAR_CUT_SHORT = 3,          /* A value ends inside its kind's layout, as where a count promises more entries than there are: pass the TLV over. */
     ASHLAR_LEFT_OVER = 4,          /* A value has bytes behind its layout, in a kind that takes none (0, 6, 7, 30): pass the TLV over. */
     ASHLAR_BAD_VALUE = 5,          /* A role that is not 0, an association byte that is neither 0x80 nor 0, or profile 0: pass the TLV over. */
@@ -97,11 +101,25 @@ typedef struct {
     size_t offset;    /* where its type byte stands in the payload, from 0 */
 } AshlarTlv;
 
+/* What the header of a CMDU says: its fields in their order, as they stand there, none of them checked. Where refused, all but `shortfall` and `refusal` is 0. */
+typedef struct {
+    size_t shortfall;      /* where refused, how many of the eight bytes are missing; else 0 */
+    uint8_t version;       /* the message version */
+    uint8_t reserved;      /* a byte that has no meaning yet */
+    uint16_t message_type;
+    uint16_t message_id;   /* one for all fragments of a message; part of AshlarArrival's key */
+    uint8_t number;        /* the fragment's number, from 0 */
+    uint8_t flags;         /* the whole byte */
+    bool last;             /* whether the fragment is marked last: bit 7 of `flags`, the highest one */
+    uint8_t refusal;       /* an AshlarRefusal */
+} AshlarHeader;
+
 /* What a walk answers. */
 typedef struct {
-    size_t count;    /* how many TLVs the payload has; 0 where refused */
-    size_t at;       /* where refused, the offset of the TLV that can't be read (1, 2) or has no element (14); else 0 */
-    uint8_t refusal; /* an AshlarRefusal */
+    size_t count;     /* how many TLVs the payload has; 0 where refused */
+    size_t at;        /* where refused, the offset of the TLV that can't be read (1, 2) or has no element (14); else 0 */
+    size_t shortfall; /* of 1 and 2, how many bytes are missing: with any fewer behind the payload the same is refused again, with any as many it isn't; else 0 */
+    uint8_t refusal;  /* an AshlarRefusal */
 } AshlarWalk;
 
 /* What a value reads as. Where refused, all else is 0. */
@@ -133,7 +151,7 @@ typedef struct {
     bool used[ASHLAR_KEYS];                 /* whether the row holds a message */
 } AshlarTable;
 
-/* What the header of a fragment says. */
+/* What the table keeps of a fragment's header: fields of an AshlarHeader, by the same names. */
 typedef struct {
     uint16_t message_type;
     uint8_t version; /* the message version */
@@ -182,6 +200,9 @@ typedef struct {
 } AshlarCounts;
 
 /* ---- Calls ---- */
+
+/* The header of a CMDU, which is the first eight of the bytes; what stands behind these is not looked at. Refusals: 1. */
+AshlarHeader ashlar_read_header(const uint8_t *bytes, size_t bytes_length);
 
 /* The TLVs of a payload, counted. Refusals: 1, 2. */
 AshlarWalk ashlar_walk(const uint8_t *payload, size_t payload_length);

@@ -15,31 +15,79 @@ static void check(const char *name, bool good) {
 
 static uint8_t payload[ASHLAR_PAYLOAD + 1], store[ASHLAR_STORE], out[ASHLAR_MESSAGE];
 
+/* ---- Headers ---- */
+
+static const uint8_t heading[9] = {0x11, 0x22, 0x33, 0x44, 0x55, 0x66, 0x77, 0x80, 0xFF};
+
+static void headings(void) {
+    AshlarHeader h = ashlar_read_header(heading, 9);
+    check("ashlar_read_header: eight bytes and one more", h.refusal == ASHLAR_OK && h.shortfall == 0);
+    check("AshlarHeader: version", h.version == 0x11);
+    check("AshlarHeader: reserved", h.reserved == 0x22);
+    check("AshlarHeader: message_type", h.message_type == 0x3344);
+    check("AshlarHeader: message_id", h.message_id == 0x5566);
+    check("AshlarHeader: number", h.number == 0x77);
+    check("AshlarHeader: flags, last", h.flags == 0x80 && h.last);
+    const uint8_t unmarked[8] = {[7] = 0x7F};
+    h = ashlar_read_header(unmarked, 8);
+    check("AshlarHeader: flags that are not the last mark", h.flags == 0x7F && !h.last && h.refusal == ASHLAR_OK);
+    h = ashlar_read_header(heading, 5);
+    check("ashlar_read_header: 1, and the shortfall", h.refusal == ASHLAR_TOO_FEW_BYTES && h.shortfall == 3);
+    check("ashlar_read_header: where refused, all else is 0", !(h.version || h.reserved || h.message_type || h.message_id || h.number || h.flags || h.last));
+    refusals |= 1u << h.refusal;
+    bool good = true;
+    for (size_t n = 0; n < 8; n++) {
+        h = ashlar_read_header(heading, n);
+        good &= h.refusal == ASHLAR_TOO_FEW_BYTES && h.shortfall == 8 - n;
+        good &= ashlar_read_header(heading, n + h.shortfall).refusal == ASHLAR_OK;
+    }
+    check("ashlar_read_header: with as many bytes more as were missing it reads", good);
+}
+
 /* ---- Walking ---- */
 
-/* TLVs at 0, 5 and 8, the last with a length of two bytes, and one that begins at 267 */
-static const uint8_t row[270] = {0x92, 0, 2, 0xAA, 0xBB, 7, 0, 0, 0x83, 1, 0, [267] = 1, 0, 9};
+/* TLVs at 0, 5 and 8, the last with a length of two bytes, and one that begins at 267 and lacks its nine bytes */
+static const uint8_t row[279] = {0x92, 0, 2, 0xAA, 0xBB, 7, 0, 0, 0x83, 1, 0, [267] = 1, 0, 9};
+
+/* what a receive loop does: from so many bytes of the row it waits for those that are missing, as long as any are, and then has them all */
+static bool waits(size_t size) {
+    AshlarWalk w = ashlar_walk(row, size);
+    while (w.refusal && w.shortfall && w.shortfall <= sizeof row - size) {
+        for (size_t fewer = 1; fewer < w.shortfall; fewer++) {
+            AshlarWalk again = ashlar_walk(row, size + fewer);
+            if (again.refusal != w.refusal || again.at != w.at || again.shortfall != w.shortfall - fewer) return false;
+        }
+        size += w.shortfall;
+        w = ashlar_walk(row, size);
+    }
+    return w.refusal == ASHLAR_OK && (size == 5 || size == 8 || size == 267 || size == sizeof row);
+}
 
 static void walks(void) {
     AshlarTlv list[4];
     AshlarWalk w = ashlar_walk(row, 267);
-    check("ashlar_walk: count", w.count == 3 && w.at == 0 && w.refusal == ASHLAR_OK);
+    check("ashlar_walk: count", w.count == 3 && w.at == 0 && w.shortfall == 0 && w.refusal == ASHLAR_OK);
     w = ashlar_walk(row, 269);
-    check("ashlar_walk: 1, and at", w.count == 0 && w.at == 267 && w.refusal == ASHLAR_TOO_FEW_BYTES);
+    check("ashlar_walk: 1, at and shortfall", w.count == 0 && w.at == 267 && w.shortfall == 1 && w.refusal == ASHLAR_TOO_FEW_BYTES);
     refusals |= 1u << w.refusal;
-    w = ashlar_walk(row, 270);
-    check("ashlar_walk: 2, and at", w.count == 0 && w.at == 267 && w.refusal == ASHLAR_RUNS_PAST_END);
+    w = ashlar_walk(row, 272);
+    check("ashlar_walk: 2, at and shortfall", w.count == 0 && w.at == 267 && w.shortfall == 7 && w.refusal == ASHLAR_RUNS_PAST_END);
     refusals |= 1u << w.refusal;
+    bool good = true;
+    for (size_t size = 1; size <= sizeof row; size++) good &= waits(size);
+    check("ashlar_walk: as many bytes more as are missing, and not fewer", good);
 
     memset(list, 0xEE, sizeof list);
     w = ashlar_walk_into(list, 2, row, 267);
-    check("ashlar_walk_into: 14, and at", w.count == 0 && w.at == 8 && w.refusal == ASHLAR_LIST_TOO_SHORT);
+    check("ashlar_walk_into: 14, at and no shortfall", w.count == 0 && w.at == 8 && w.shortfall == 0 && w.refusal == ASHLAR_LIST_TOO_SHORT);
     check("ashlar_walk_into: a refusal leaves the list", list[0].tlv_type == 0xEE && list[1].offset == (size_t)0xEEEEEEEEEEEEEEEE);
     refusals |= 1u << w.refusal;
-    w = ashlar_walk_into(list, 4, row, 269);
-    check("ashlar_walk_into: 1 before 14", w.at == 267 && w.refusal == ASHLAR_TOO_FEW_BYTES);
+    w = ashlar_walk_into(list, 2, row, 268);
+    check("ashlar_walk_into: 1 before 14", w.at == 267 && w.shortfall == 2 && w.refusal == ASHLAR_TOO_FEW_BYTES);
+    w = ashlar_walk_into(list, 2, row, 274);
+    check("ashlar_walk_into: 2 before 14", w.at == 267 && w.shortfall == 5 && w.refusal == ASHLAR_RUNS_PAST_END);
     w = ashlar_walk_into(list, 4, row, 267);
-    check("ashlar_walk_into: count", w.count == 3 && w.at == 0 && w.refusal == ASHLAR_OK);
+    check("ashlar_walk_into: count", w.count == 3 && w.at == 0 && w.shortfall == 0 && w.refusal == ASHLAR_OK);
     check("AshlarTlv: tlv_type", list[0].tlv_type == 0x92 && list[1].tlv_type == 7 && list[2].tlv_type == 0x83 && list[3].tlv_type == 0xEE);
     check("AshlarTlv: length", list[0].length == 2 && list[1].length == 0 && list[2].length == 256 && list[3].length == 0xEEEE);
     check("AshlarTlv: offset", list[0].offset == 0 && list[1].offset == 5 && list[2].offset == 8 && list[3].offset == (size_t)0xEEEEEEEEEEEEEEEE);
@@ -236,7 +284,7 @@ static void sweeps(void) {
 
 int main(void) {
     for (size_t i = 0; i < sizeof payload; i++) payload[i] = (uint8_t)(i + 1);
-    walks(), reads(), finds(), fields(), pushes(), limits(), sweeps();
+    headings(), walks(), reads(), finds(), fields(), pushes(), limits(), sweeps();
     check("every refusal that a call can give came: 1 to 5 and 10 to 16", (refusals & ~1u) == 0x1FC3E);
     check("every answer of push came: 0 to 7", answers == 0xFF);
     return failed != 0;

@@ -6,11 +6,12 @@
 #include <string.h>
 #include <sys/mman.h>
 
-enum { PAGE = 4096, WALK = 0, WALK_INTO, READ_KIND, FIND, PUSH, SHOW, SWEEP, KINDS };
+enum { PAGE = 4096, READ_HEADER = 0, WALK, WALK_INTO, READ_KIND, FIND, PUSH, SHOW, SWEEP, KINDS };
 
-static const char *const names[KINDS] = {"walk", "walk_into", "read_kind", "find", "push", "show", "sweep"};
+static const char *const names[KINDS] = {"read_header", "walk", "walk_into", "read_kind", "find", "push", "show", "sweep"};
 /* which numbers document 01 lets each call give, a bit for each; 0 is no refusal */
 static const unsigned numbers[KINDS] = {
+    1u << 0 | 1u << 1,
     1u << 0 | 1u << 1 | 1u << 2,
     1u << 0 | 1u << 1 | 1u << 2 | 1u << 14,
     1u << 0 | 1u << 3 | 1u << 4 | 1u << 5 | 1u << 16,
@@ -75,7 +76,19 @@ static uint8_t code(void) {
     return below(4) ? codes[below(21)] : (uint8_t)any();
 }
 
-static bool same_walk(AshlarWalk a, AshlarWalk b) { return a.count == b.count && a.at == b.at && a.refusal == b.refusal; }
+static bool same_header(AshlarHeader a, AshlarHeader b) {
+    return a.shortfall == b.shortfall && a.version == b.version && a.reserved == b.reserved && a.message_type == b.message_type && a.message_id == b.message_id && a.number == b.number &&
+           a.flags == b.flags && a.last == b.last && a.refusal == b.refusal;
+}
+
+static void read_header(void) {
+    size_t n = below(4) ? below(12) : below(2000);
+    uint8_t *p = bytes(n);
+    AshlarHeader a = ashlar_read_header(p, n);
+    told(READ_HEADER, a.refusal, same_header(a, plain_read_header(p, n)));
+}
+
+static bool same_walk(AshlarWalk a, AshlarWalk b) { return a.count == b.count && a.at == b.at && a.shortfall == b.shortfall && a.refusal == b.refusal; }
 
 static void walk(void) {
     size_t n = below(4) ? below(64) : below(3000);
@@ -167,7 +180,8 @@ int main(int argc, char **argv) {
     fresh();
     for (unsigned long i = 0; i < many; i++) {
         size_t which = below(100);
-        if (which < 10) walk();
+        if (which < 4) read_header();
+        else if (which < 12) walk();
         else if (which < 20) walk_into();
         else if (which < 35) read_kind();
         else if (which < 50) find();
@@ -183,7 +197,8 @@ int main(int argc, char **argv) {
             if (seen[k] >> n & 1) printf(" %d", n);
         printf("\n");
     }
-    bool all = answers == 0xff && seen[PUSH] == numbers[PUSH] && seen[FIND] == numbers[FIND] && seen[WALK_INTO] == numbers[WALK_INTO] && seen[READ_KIND] == numbers[READ_KIND];
+    bool all = answers == 0xff;
+    for (int k = 0; k < KINDS; k++) all &= seen[k] == numbers[k];
     printf("%s every number that a call can give came, and every answer of push\n", all ? "ok" : "FAILED");
     return failed || !all;
 }

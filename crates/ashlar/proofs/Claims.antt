@@ -3,17 +3,19 @@ use mathlib.Core.Path.{sym, ap, _∙_}
 use lib.ListN.{length}
 use Rattle.numbers.specs.Numbers.{mapped}
 use Rattle.numbers.proofs.Firm.{by-equation, both}
+use Rattle.framing.specs.Cmdu.{readHeader}
 use Rattle.walking.specs.Walk.{walkOf, counted, listed, filled}
 use Rattle.kinds.specs.Kinds.{readKind}
 use Rattle.finding.specs.Finding.{findFrom}
 use Rattle.table.specs.Rows.{freshTable}
 use Rattle.reassembler.proofs.Claims as reassembler
-use Rattle.ashlar.specs.Numbers.{walkNumbers, kindNumbers, foundNumbers, pushNumbers, shownIn}
+use Rattle.ashlar.specs.Numbers.{headerNumbers, walkNumbers, kindNumbers, foundNumbers, pushNumbers, shownIn}
 use Rattle.ashlar.specs.Claims.{Firmness, ShowsTheMessage}
 use Rattle.ashlar.proofs.Shown.{shows}
 
 pub firmness : Firmness
 firmness = record {
+  ashlar-read-header = λ bytes. by-equation (headerNumbers (readHeader bytes));
   ashlar-walk = λ payload. by-equation (walkNumbers (counted (walkOf payload)));
   ashlar-walk-into = λ list payload. both _ _ (by-equation (walkNumbers (listed (length list) (walkOf payload)))) (by-equation (filled (listed (length list) (walkOf payload)) (walkOf payload .tlvs) list));
   ashlar-read-kind = λ code value. by-equation (kindNumbers (readKind code value));

@@ -6,6 +6,7 @@ use Prim.Native.Nat.{ℕ}
 use lib.ListN.{length, take}
 use Rattle.numbers.specs.Numbers.{Answer, mapped}
 use Rattle.numbers.specs.Firmness.{Firm}
+use Rattle.framing.specs.Cmdu.{readHeader}
 use Rattle.walking.specs.declared.Tlv.{Tlv}
 use Rattle.walking.specs.Walk.{walkOf, counted, listed, filled}
 use Rattle.kinds.specs.Kinds.{readKind}
@@ -20,10 +21,11 @@ use Rattle.pushing.specs.Show.{shown}
 use Rattle.ashlar.specs.declared.AshlarWalk.{AshlarWalk}
 use Rattle.ashlar.specs.declared.AshlarPushed.{AshlarPushed}
 use Rattle.ashlar.specs.declared.AshlarShown.{AshlarShown}
-use Rattle.ashlar.specs.Numbers.{walkNumbers, kindNumbers, foundNumbers, pushNumbers, Numbered, shownIn}
+use Rattle.ashlar.specs.Numbers.{headerNumbers, walkNumbers, kindNumbers, foundNumbers, pushNumbers, Numbered, shownIn}
 
 -- each call by its name: any two answers that its contract allows, with what the call leaves in the list, the table, the store and the output, are one
 pub record Firmness : Type 0 where
+  pub ashlar-read-header : (bytes : List ℕ) → Firm (λ r. r ≡ headerNumbers (readHeader bytes))
   pub ashlar-walk : (payload : List ℕ) → Firm (λ r. r ≡ walkNumbers (counted (walkOf payload)))
   pub ashlar-walk-into : (list : List Tlv) (payload : List ℕ)
       → Firm {A = AshlarWalk × List Tlv} (λ o. (o .0 ≡ walkNumbers (listed (length list) (walkOf payload))) × (o .1 ≡ filled (listed (length list) (walkOf payload)) (walkOf payload .tlvs) list))

@@ -6,21 +6,39 @@ use Prim.Native.Nat.{ℕ}
 use lib.Dec.{eqb, leb}
 use lib.ListN.{getD}
 use Rattle.numbers.specs.Numbers.{Answer, gives, refuses}
+use Rattle.framing.specs.declared.CmduHeader.{CmduHeader}
 use Rattle.kinds.specs.Kinds.{Contents, one, list, Typed}
 use Rattle.table.specs.declared.Table.{Table}
 use Rattle.pushing.specs.declared.Arrival.{Arrival}
 use Rattle.pushing.specs.declared.Pushed.{Pushed}
 use Rattle.pushing.specs.Push.{Heard, waiting, duplicated, inconsistent, missing, missingLast, single, joined, pushedOf, Way, Goes}
+use Rattle.ashlar.specs.declared.AshlarHeader.{AshlarHeader}
 use Rattle.ashlar.specs.declared.AshlarWalk.{AshlarWalk}
 use Rattle.ashlar.specs.declared.AshlarKind.{AshlarKind}
 use Rattle.ashlar.specs.declared.AshlarFound.{AshlarFound}
 use Rattle.ashlar.specs.declared.AshlarPushed.{AshlarPushed}
 use Rattle.ashlar.specs.declared.AshlarShown.{AshlarShown}
 
--- a walk's refusal gives the offset of the TLV that failed, first of its values
+-- 2026-01: "The walk, the CMDU header reader and tlvlist pass [the shortfall] through". It is the one value of a header's refusal.
+abbrev pub headerNumbers : Answer CmduHeader → AshlarHeader
+headerNumbers (gives h) = record {
+  shortfall = 0;
+  version = h .«message_version»;
+  reserved = h .reserved;
+  «message_type» = h .«message_type»;
+  «message_id» = h .«message_id»;
+  number = h .fragment;
+  flags = h .flags;
+  last = h .«last_fragment»;
+  refusal = 0;
+}
+headerNumbers (refuses n vs) =
+    record { shortfall = getD vs 0 0; version = 0; reserved = 0; «message_type» = 0; «message_id» = 0; number = 0; flags = 0; last = false; refusal = n }
+
+-- a walk's refusal gives the offset of the TLV that failed, first of its values, and of 1 and 2 the shortfall, the second; 14 has none
 abbrev pub walkNumbers : Answer ℕ → AshlarWalk
-walkNumbers (gives n) = record { count = n; at = 0; refusal = 0 }
-walkNumbers (refuses n vs) = record { count = 0; at = getD vs 0 0; refusal = n }
+walkNumbers (gives n) = record { count = n; at = 0; shortfall = 0; refusal = 0 }
+walkNumbers (refuses n vs) = record { count = 0; at = getD vs 0 0; shortfall = getD vs 1 0; refusal = n }
 
 -- a record is the first bytes of its value, as many as were consumed; of a list, how many entries its own level has
 abbrev pub contentsNumbers : {R : Type 0} → Contents R → ℕ → ℕ → AshlarKind

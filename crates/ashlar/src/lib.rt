@@ -1,5 +1,6 @@
 // The hot calls for C: each is a thin shell over the layer's own call, and gives its answer in document 01's numbers. `refusal` is 0 where nothing is refused.
 use finding::Placed;
+use framing::HeaderRead;
 use kinds::KindSize;
 use pushing::Arrival;
 use pushing::Pushed;
@@ -9,6 +10,7 @@ use walking::Tlv;
 use walking::Walked;
 ghost use mathlib.Core.Path.{_≡_};
 ghost use Rattle.walking.specs.Walk.{walkedOf, walkOf, counted, listed, filled};
+ghost use Rattle.framing.specs.Cmdu.{readHeader};
 ghost use Rattle.kinds.specs.Kinds.{readKind};
 ghost use Rattle.numbers.specs.Numbers.{mapped};
 ghost use Rattle.finding.specs.Finding.{placedOf, findFrom};
@@ -17,13 +19,28 @@ ghost use lib.ListN.{length};
 ghost use Rattle.pushing.specs.Push.{pushedOf, way};
 ghost use Rattle.sweeping.specs.Sweep.{swept, sweptAs};
 ghost use Rattle.pushing.specs.Made.{Made};
-ghost use Rattle.ashlar.specs.Numbers.{walkNumbers, kindNumbers, foundNumbers, namedAs, pushNumbers, withinOf, shownIn, Numbered};
+ghost use Rattle.ashlar.specs.Numbers.{headerNumbers, walkNumbers, kindNumbers, foundNumbers, namedAs, pushNumbers, withinOf, shownIn, Numbered};
 
-// How many TLVs a payload has; where one is refused, its offset.
+// The header of a CMDU, its fields in their order, but for the shortfall: how many bytes are missing, where it is refused. `last` is bit 7 of `flags`.
+#[repr(C)]
+pub struct AshlarHeader {
+    pub shortfall: usize,
+    pub version: u8,
+    pub reserved: u8,
+    pub message_type: u16,
+    pub message_id: u16,
+    pub number: u8,
+    pub flags: u8,
+    pub last: bool,
+    pub refusal: u8,
+}
+
+// How many TLVs a payload has; where one is refused, its offset, and how many bytes are missing.
 #[repr(C)]
 pub struct AshlarWalk {
     pub count: usize,
     pub at: usize,
+    pub shortfall: usize,
     pub refusal: u8,
 }
 
@@ -60,6 +77,37 @@ pub struct AshlarShown {
     pub in_output: bool,
 }
 
+// The header of the CMDU at the start of the bytes.
+#[no_mangle]
+pub extern "C" fn ashlar_read_header(bytes: &[u8]) -> AshlarHeader
+    ensures { λ r. ⌜ r ≡ headerNumbers (readHeader (now (bytes .entry))) ⌝ }
+{
+    match framing::read_cmdu_header(bytes) {
+        HeaderRead::Header(h) => AshlarHeader {
+            shortfall: 0,
+            version: h.message_version,
+            reserved: h.reserved,
+            message_type: h.message_type,
+            message_id: h.message_id,
+            number: h.fragment,
+            flags: h.flags,
+            last: h.last_fragment,
+            refusal: 0,
+        },
+        HeaderRead::Refused(short) => AshlarHeader {
+            shortfall: numbers::carried_by(short),
+            version: 0,
+            reserved: 0,
+            message_type: 0,
+            message_id: 0,
+            number: 0,
+            flags: 0,
+            last: false,
+            refusal: numbers::number_of(short),
+        },
+    }
+}
+
 fn walk_numbers(walked: Walked) -> AshlarWalk
     ensures { λ r. ⌜ r ≡ walkNumbers (walkedOf walked) ⌝ }
 {
@@ -67,11 +115,13 @@ fn walk_numbers(walked: Walked) -> AshlarWalk
         Walked::Count(count) => AshlarWalk {
             count,
             at: 0,
+            shortfall: 0,
             refusal: 0,
         },
         Walked::Refused { refusal, at } => AshlarWalk {
             count: 0,
             at,
+            shortfall: numbers::carried_by(refusal),
             refusal: numbers::number_of(refusal),
         },
     }
