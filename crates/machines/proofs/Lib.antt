@@ -1,3 +1,4 @@
 pub mod Lists
 pub mod Story
 pub mod TwoRuns
+pub mod Both

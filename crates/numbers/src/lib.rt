@@ -36,6 +36,8 @@ pub enum Refusal {
     NotFound,
     // 16: kind not among the 21
     UnknownKind,
+    // 17: a join of an unknown station with 128 held
+    NoStationRoom,
 }
 
 // Document 01's number of a refusal.
@@ -59,6 +61,7 @@ pub fn number_of(refusal: Refusal) -> u8
         Refusal::ListTooShort => 14,
         Refusal::NotFound => 15,
         Refusal::UnknownKind => 16,
+        Refusal::NoStationRoom => 17,
     }
 }
 
@@ -83,5 +86,6 @@ pub fn carried_by(refusal: Refusal) -> usize
         Refusal::ListTooShort => 0,
         Refusal::NotFound => 0,
         Refusal::UnknownKind => 0,
+        Refusal::NoStationRoom => 0,
     }
 }

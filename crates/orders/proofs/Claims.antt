@@ -1,6 +1,7 @@
 -- The claims of specs/Claims.antt, proved.
 use Rattle.orders.specs.Claims.{Claims}
 use Rattle.orders.proofs.Orders.{local, alike, shares-add-up, run-made, told-alone, sweeps-add-up, order-across-keys, swapped}
+use Rattle.orders.proofs.Together.{order-together}
 use Rattle.orders.proofs.Happened.{finished-shown, is-run, order-across-senders, sender-alone}
 use Rattle.orders.proofs.Completes.{completes, fresh-completes, completes-among}
 
@@ -15,6 +16,7 @@ claims = record {
   sweeps-add-up = sweeps-add-up;
   order-across-keys = order-across-keys;
   swapped = swapped;
+  order-together = order-together;
   is-run = is-run;
   order-across-senders = order-across-senders;
   sender-alone = sender-alone;

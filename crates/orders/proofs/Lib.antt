@@ -18,4 +18,5 @@ pub mod Completion
 pub mod Completes
 pub mod Happened
 pub mod Examples
+pub mod Together
 pub mod Claims

@@ -11,9 +11,14 @@ use Rattle.pushing.specs.Show.{shown}
 use Rattle.pushing.specs.Made.{Made}
 use Rattle.reassembler.specs.Keys.{Origin, keyFor}
 use Rattle.machines.specs.Machine.{those, gathered, every}
+use Rattle.machines.specs.Both.{lefts, rights}
+use Rattle.stations.specs.Rows.{placeOf}
+use Rattle.stations.specs.Runs.{isOwn as isStations}
+use Rattle.stations.specs.Claims.{Reordered as EventsReordered}
 use Rattle.orders.specs.Shares.{share, total, isIn, distinct}
 use Rattle.orders.specs.Messages.{Message, Room, Sent, calls, completing}
-use Rattle.orders.specs.Runs.{State, Push, Call, push, sweep, finishedBy, wayOf, isAccepted, isOwn, neverFull, hasRoom, after, tells, mine, start, holding, holdsNothing, ends, crossed, repliesTo, repliesToAccepted, repliesToSweeps}
+use Rattle.orders.specs.Together.{Mixed, noCall, noEvent, endsTogether, toldTogether, roomForAll}
+use Rattle.orders.specs.Runs.{State, Push, Call, push, sweep, finishedBy, wayOf, isAccepted, isOwn, isSweep, neverFull, hasRoom, after, tells, mine, start, holding, holdsNothing, ends, crossed, repliesTo, repliesToAccepted, repliesToSweeps}
 use Rattle.orders.specs.Happened.{Event, Happened, callOf, gotBy, replyOf, isRefused, isFull, isFrom, isSweepEvent, isAbout}
 
 -- What a key holds is untouched by every push under another key, refused or not; a refused call changes nothing.
@@ -88,6 +93,18 @@ pub record GotAlone (o : Origin) (events events′ : List Event) (z z′ : State
   pub holds : holding (keyFor o) z ≡ holding (keyFor o) z′
   pub none-refused : those isRefused events′ ≡ []
 
+-- Request 2026-02: "From here demand 3 also covers events of different stations, if no event is refused: those of one station keep their order". Events stand between pushes and sweeps wherever they like.
+pub record ReorderedTogether (calls calls′ : List Mixed) : Type 0 where
+  pub messages : Reordered (lefts calls) (lefts calls′)
+  pub events : EventsReordered (rights calls) (rights calls′)
+
+pub record SameTogether (store store′ : List ℕ) (calls calls′ : List Mixed) : Type 0 where
+  pub pushes : (key : ℕ) → toldTogether (isOwn key) noEvent store calls ≡ toldTogether (isOwn key) noEvent store′ calls′
+  pub sweeps : toldTogether isSweep noEvent store calls ≡ toldTogether isSweep noEvent store′ calls′
+  pub events : (station : ℕ) → toldTogether noCall (isStations station) store calls ≡ toldTogether noCall (isStations station) store′ calls′
+  pub holds : (key : ℕ) → holding key (endsTogether store calls .0) ≡ holding key (endsTogether store′ calls′ .0)
+  pub places : (station : ℕ) → placeOf (endsTogether store calls .1) station ≡ placeOf (endsTogether store′ calls′ .1) station
+
 pub record Claims : Type 0 where
   -- what one call does, at every table that the calls made
   pub local : (z : State) → Made (z .table) → Local z
@@ -104,6 +121,9 @@ pub record Claims : Type 0 where
   pub order-across-keys : (store store′ : List ℕ) → length store′ ≡ length store → (calls calls′ : List Call) → Reordered calls calls′
       → neverFull (start store) calls ≡ true → neverFull (start store′) calls′ ≡ true → SameStory store store′ calls calls′
   pub swapped : (before behind : List Call) (p q : Push) → (p .arrival .key ≡ q .arrival .key → ⊥) → Reordered (before ++ push p ∷ push q ∷ behind) (before ++ push q ∷ push p ∷ behind)
+  -- and with the events of stations between them
+  pub order-together : (store store′ : List ℕ) → length store′ ≡ length store → (calls calls′ : List Mixed) → ReorderedTogether calls calls′
+      → roomForAll store calls ≡ true → roomForAll store′ calls′ ≡ true → SameTogether store store′ calls calls′
   -- the same for calls that happened
   pub is-run : (store : List ℕ) (events : List Event) (z : State) → Happened (start store) events z → IsRun store events z
   pub order-across-senders : (store : List ℕ) (events : List Event) (z : State) → Happened (start store) events z → (store′ : List ℕ) (events′ : List Event) (z′ : State) → Happened (start store′) events′ z′

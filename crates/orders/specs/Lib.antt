@@ -2,4 +2,5 @@ pub mod Runs
 pub mod Shares
 pub mod Messages
 pub mod Happened
+pub mod Together
 pub mod Claims

@@ -1,0 +1,97 @@
+-- The table's rows: "up to 128 stations". Row n has a station in element n of the array and its access point in element 128 + n.
+use mathlib.Core.Bool.{Bool, cond, not}
+use mathlib.Core.List.{List}
+use Prim.Native.Nat.{ℕ, zero, suc, _+_}
+use lib.Dec.{eqb, ltb}
+use lib.ListN.{getD, set, replicate}
+use Rattle.numbers.specs.Numbers.{Answer}
+use Rattle.table.specs.Search.{lowest}
+use Rattle.stations.specs.declared.Heard.{Heard}
+use Rattle.stations.specs.declared.Where.{Where}
+use Rattle.stations.specs.declared.Listed.{Listed}
+use Rattle.stations.specs.Addresses.{addressOf}
+use Rattle.stations.specs.Whereabouts.{Place, nowhere, at, Event, isAt, answerAt}
+
+abbrev pub rows : ℕ
+rows = 128
+
+abbrev pub Stations : Type 0
+Stations = List ℕ
+
+abbrev pub freshStations : Stations
+freshStations = replicate (rows + rows) 0
+
+-- what stands for a station in its row; a free row has 0 there, and 0 for an access point
+abbrev pub codeOf : ℕ → ℕ
+codeOf station = station + 1
+
+abbrev pub pointAt : Stations → ℕ → ℕ
+pointAt t row = getD t (rows + row) 0
+
+-- the lowest row that has a code, the number of rows where none has
+abbrev pub rowWith : Stations → ℕ → ℕ
+rowWith t code = lowest (λ row. eqb (getD t row 0) code) rows
+
+-- where the table says that a station is
+abbrev pub placeIn : Stations → ℕ → Place
+placeIn t row = cond (ltb row rows) (at (pointAt t row)) nowhere
+
+unfoldable pub placeOf : Stations → ℕ → Place
+placeOf t station = placeIn t (rowWith t (codeOf station))
+
+-- "128 held": no row is free
+unfoldable pub isFull : Stations → Bool
+isFull t = not (ltb (rowWith t 0) rows)
+
+abbrev pub answerTo : Stations → Event → Answer Heard
+answerTo t e = answerAt (isFull t) e (placeOf t (e .station))
+
+-- the table with a row written
+abbrev pub withRow : Stations → (row code point : ℕ) → Stations
+withRow t row code point = set (set t row code) (rows + row) point
+
+-- the table after an event. A join of a station that is held alters its access point; of another one, it takes the lowest free row: "Freed rows are used again."
+unfoldable pub afterJoin : Stations → (station point : ℕ) → Stations
+afterJoin t station point =
+    cond (ltb (rowWith t (codeOf station)) rows) (set t (rows + rowWith t (codeOf station)) point)
+    (cond (isFull t) t
+    (withRow t (rowWith t 0) (codeOf station) point))
+
+-- a leave that is not stale frees the row: it is as a fresh one
+unfoldable pub afterLeave : Stations → (station point : ℕ) → Stations
+afterLeave t station point = cond (isAt point (placeOf t station)) (withRow t (rowWith t (codeOf station)) 0 0) t
+
+abbrev pub tableAfter : Stations → Event → Stations
+tableAfter t e = cond (e .joined) (afterJoin t (e .station) (e .point)) (afterLeave t (e .station) (e .point))
+
+-- what a row holds
+pub data Row : Type 0 where
+  free : Row
+  holds : (station point : ℕ) → Row
+
+abbrev pub rowOf : (code point : ℕ) → Row
+rowOf zero point = free
+rowOf (suc station) point = holds station point
+
+abbrev pub rowAt : Stations → ℕ → Row
+rowAt t n = cond (ltb n rows) (rowOf (getD t n 0) (pointAt t n)) free
+
+-- how many of the first n rows hold a station, and how many do at all
+abbrev pub oneIf : (code : ℕ) → ℕ
+oneIf code = cond (eqb code 0) 0 1
+
+unfoldable pub countBelow : Stations → ℕ → ℕ
+countBelow t zero = 0
+countBelow t (suc n) = countBelow t n + oneIf (getD t n 0)
+
+abbrev pub countOf : Stations → ℕ
+countOf t = countBelow t rows
+
+-- what a call shows of a place and of a row
+abbrev pub shown : Place → Where
+shown nowhere = Where.Nowhere
+shown (at point) = Where.At (addressOf point)
+
+abbrev pub listed : Row → Listed
+listed free = Listed.Free
+listed (holds station point) = Listed.Held (addressOf station) (addressOf point)

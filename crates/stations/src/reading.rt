@@ -1,0 +1,47 @@
+// An event in the value of a TLV, and the answer to it.
+use crate::Answered;
+use crate::Applied;
+use numbers::Refusal;
+use records::ClientAssociation;
+use records::Read;
+use records::Record;
+ghost use mathlib.Core.Path.{_≡_};
+ghost use Rattle.numbers.specs.Numbers.{mapped};
+ghost use Rattle.records.specs.Reading.{readRecord};
+ghost use Rattle.records.specs.Values.{associationIn};
+ghost use Rattle.stations.specs.Events.{answeredOf, appliedOf};
+ghost use Rattle.stations.specs.PrivateEvents.{associationOf};
+
+// The event in a value, and how many bytes it took.
+pub(crate) enum Association {
+    Event {
+        e: ClientAssociation,
+        consumed: usize,
+    },
+    Refused(Refusal),
+}
+
+pub(crate) fn association_in(value: &[u8]) -> Association
+    ensures { λ r. ⌜ associationOf r ≡ mapped (λ x. record { association = associationIn (now (value .entry)); consumed = x .consumed }) (readRecord 146 (now (value .entry))) ⌝ }
+{
+    match records::read_record(0x92, value) {
+        Read::Got { record, consumed } => {
+            // Of this kind reading gives no other record.
+            let Record::ClientAssociation(e) = record else {
+                return Association::Refused(Refusal::UnknownKind);
+            };
+            Association::Event { e, consumed }
+        }
+        Read::Refused(refusal) => Association::Refused(refusal),
+    }
+}
+
+// An answer to such an event, with the bytes that it took.
+pub(crate) fn with_consumed(answered: Answered, consumed: usize) -> Applied
+    ensures { λ r. ⌜ appliedOf r ≡ mapped (λ h. record { heard = h; consumed = consumed }) (answeredOf answered) ⌝ }
+{
+    match answered {
+        Answered::Heard(heard) => Applied::Heard { heard, consumed },
+        Answered::Refused(refusal) => Applied::Refused(refusal),
+    }
+}
