@@ -13,6 +13,12 @@ __typeof__(ashlar_fresh) plain_fresh;
 __typeof__(ashlar_push) plain_push;
 __typeof__(ashlar_show) plain_show;
 __typeof__(ashlar_sweep) plain_sweep;
+__typeof__(ashlar_stations_fresh) plain_stations_fresh;
+__typeof__(ashlar_station_event) plain_station_event;
+__typeof__(ashlar_station_event_from) plain_station_event_from;
+__typeof__(ashlar_station_at) plain_station_at;
+__typeof__(ashlar_station_count) plain_station_count;
+__typeof__(ashlar_station_row) plain_station_row;
 
 #ifdef PLAIN
 #define CALL(name) plain_##name

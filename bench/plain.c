@@ -255,3 +255,76 @@ AshlarCounts plain_sweep(AshlarTable *t, uint64_t time) {
     }
     return c;
 }
+
+/* ---- Stations ---- */
+
+static uint64_t number_of(AshlarAddress a) {
+    uint64_t n = 0;
+    for (int i = 0; i < 6; i++) n = n << 8 | a.bytes[i];
+    return n;
+}
+
+static AshlarAddress address_of(uint64_t n) {
+    AshlarAddress a;
+    for (int i = 0; i < 6; i++) a.bytes[i] = (uint8_t)(n >> (40 - 8 * i));
+    return a;
+}
+
+static int row_with(const AshlarStations *t, uint64_t code) {
+    for (int i = 0; i < ASHLAR_STATIONS; i++)
+        if (t->stations[i] == code) return i;
+    return -1;
+}
+
+void plain_stations_fresh(AshlarStations *t) { *t = (AshlarStations){0}; }
+
+static AshlarHeard join(AshlarStations *t, uint64_t code, uint64_t point) {
+    int row = row_with(t, code);
+    if (row >= 0) {
+        uint64_t from = t->points[row];
+        t->points[row] = point;
+        return from == point ? (AshlarHeard){.answer = ASHLAR_SAME} : (AshlarHeard){address_of(from), ASHLAR_MOVED, 0};
+    }
+    row = row_with(t, 0);
+    if (row < 0) return (AshlarHeard){.refusal = ASHLAR_NO_STATION_ROOM};
+    t->stations[row] = code;
+    t->points[row] = point;
+    return (AshlarHeard){.answer = ASHLAR_PLACED};
+}
+
+static AshlarHeard leave(AshlarStations *t, uint64_t code, uint64_t point) {
+    int row = row_with(t, code);
+    if (row < 0 || t->points[row] != point) return (AshlarHeard){.answer = ASHLAR_STALE};
+    t->stations[row] = t->points[row] = 0;
+    return (AshlarHeard){.answer = ASHLAR_REMOVED};
+}
+
+AshlarHeard plain_station_event(AshlarStations *t, AshlarAddress station, AshlarAddress point, bool joined) {
+    return joined ? join(t, number_of(station) + 1, number_of(point)) : leave(t, number_of(station) + 1, number_of(point));
+}
+
+AshlarApplied plain_station_event_from(AshlarStations *t, const uint8_t *v, size_t n) {
+    AshlarAddress station, point;
+    if (n < 13) return (AshlarApplied){.heard.refusal = ASHLAR_CUT_SHORT};
+    if (v[12] & 0x7f) return (AshlarApplied){.heard.refusal = ASHLAR_BAD_VALUE};
+    memcpy(station.bytes, v, 6);
+    memcpy(point.bytes, v + 6, 6);
+    AshlarHeard h = plain_station_event(t, station, point, v[12] & 0x80);
+    return h.refusal ? (AshlarApplied){.heard = h} : (AshlarApplied){13, n - 13, h};
+}
+
+AshlarAt plain_station_at(const AshlarStations *t, AshlarAddress station) {
+    int row = row_with(t, number_of(station) + 1);
+    return row < 0 ? (AshlarAt){.held = false} : (AshlarAt){address_of(t->points[row]), true};
+}
+
+size_t plain_station_count(const AshlarStations *t) {
+    size_t n = 0;
+    for (int i = 0; i < ASHLAR_STATIONS; i++) n += t->stations[i] != 0;
+    return n;
+}
+
+AshlarRow plain_station_row(const AshlarStations *t, size_t n) {
+    if (n >= ASHLAR_STATIONS || !t->stations[n]) return (AshlarRow){.held = false};
+    return (AshlarRow){address_of(t->stations[n] - 1), address_of(t->points[n]), true};
+}

@@ -10,6 +10,7 @@ enum { MOST = 64, TLVS = 15914 };
 static uint8_t payload[ASHLAR_STORE], store[ASHLAR_STORE], out[3 * ASHLAR_PAYLOAD];
 static AshlarTlv list[TLVS];
 static AshlarTable tables[MOST];
+static AshlarStations stations[MOST];
 static size_t size;
 
 static void add(uint8_t type, size_t length) {
@@ -150,6 +151,31 @@ static void sweep(int turns, uint64_t time) {
     printf("dropped %d, keys %d\n", c.empty + c.unmarked + c.incomplete + c.neither, keys(&tables[turns - 1]));
 }
 
+static AshlarAddress address(uint8_t last) { return (AshlarAddress){{2, 0, 0, 0, 0, last}}; }
+
+/* every station table holds the first so many stations, at access point 200; the last one is looked for longest */
+static void stationed(int many) {
+    AshlarStations t;
+    CALL(stations_fresh)(&t);
+    for (int i = 0; i < many; i++) CALL(station_event)(&t, address((uint8_t)i), address(200), true);
+    for (int i = 0; i < MOST; i++) stations[i] = t;
+}
+
+static void event(int turns, int held, uint8_t station, uint8_t point, bool joined) {
+    stationed(held);
+    AshlarHeard h = {0};
+    for (int i = 0; i < turns; i++) h = CALL(station_event)(&stations[i], address(station), address(point), joined);
+    AshlarStations *t = &stations[turns - 1];
+    printf("%d from %d, %d; %zu held, %d at %d\n", h.answer, h.from.bytes[5], h.refusal, CALL(station_count)(t), station, CALL(station_at)(t, address(station)).point.bytes[5]);
+}
+
+static void lookup(int turns, uint8_t station) {
+    stationed(ASHLAR_STATIONS);
+    AshlarAt a = {0};
+    for (int i = 0; i < turns; i++) a = CALL(station_at)(stations, address(station));
+    printf("%d %d\n", a.held, a.point.bytes[5]);
+}
+
 int main(int argc, char **argv) {
     if (argc < 3) return 2;
     const char *row = argv[1];
@@ -174,6 +200,10 @@ int main(int argc, char **argv) {
     else if (!strcmp(row, "copy")) copy(turns, many);
     else if (!strcmp(row, "sweep-none")) sweep(turns, 3999);
     else if (!strcmp(row, "sweep-all")) sweep(turns, 4000);
+    else if (!strcmp(row, "join-known")) event(turns, ASHLAR_STATIONS, ASHLAR_STATIONS - 1, 201, true);
+    else if (!strcmp(row, "join-new")) event(turns, ASHLAR_STATIONS - 1, ASHLAR_STATIONS - 1, 201, true);
+    else if (!strcmp(row, "leave-stale")) event(turns, ASHLAR_STATIONS, ASHLAR_STATIONS - 1, 201, false);
+    else if (!strcmp(row, "where-none")) lookup(turns, ASHLAR_STATIONS);
     else return 2;
     return 0;
 }

@@ -5,10 +5,14 @@
    ashlar_walk_into lists them; ashlar_find looks in such a list for a TLV of one of 21 kinds, and ashlar_read_kind reads the value of one.
    A message longer than a frame comes in fragments, numbered from 0, the last one marked: ashlar_push keeps them in a table and joins them, ashlar_show says
    where the message lies, and ashlar_sweep drops what has waited for three seconds.
+   Which access point is the phone on? Access points tell the controller which stations (phones, laptops) join and leave them, each time by a TLV of kind 0x92. A table of
+   its own, of stations, hears these events: ashlar_station_event takes one, ashlar_station_event_from reads it from the TLV's value first, and ashlar_station_at says at which
+   access point a station is; ashlar_station_count and ashlar_station_row list all that are held. It has nothing to do with the table of fragments.
    Where bytes come piece by piece, a header or a row of TLVs that ends too early is told with the number of bytes that are missing: a receive loop waits for as many
    more and calls again.
 
-   The archive libashlar.a is for x86-64 with the System V calling convention. It wants nothing but memcpy and memset, and takes no heap and at most 2,048 bytes of stack.
+   The archive libashlar.a is for x86-64 with the System V calling convention. It wants nothing but memcpy and memset, and takes no heap and at most 2,048 bytes of stack, the calls
+   of the station table at most 1,024.
 
    Every call takes any bytes, lengths and numbers, and answers or refuses by a number of AshlarRefusal. A call that refuses leaves all that it was lent as it was.
    What a call can't see is expected of the caller:
@@ -18,7 +22,9 @@
    - Pointers are aligned as their types are, and a bool is 0 or 1.
    - A table is one that ashlar_fresh made and only ashlar_push and ashlar_sweep altered. With it goes one store, always the same, which ashlar_push alone
      writes; what it holds at first doesn't matter.
-   - There are no globals, so threads need no lock but for what they share: one table, with its store, is in one call at a time. */
+   - A station table is one that ashlar_stations_fresh made and only ashlar_station_event and ashlar_station_event_from altered. No call is unsafe with any other content, but then
+     what it answers is about that content: a station may stand in two rows.
+   - There are no globals, so threads need no lock but for what they share: one table, with its store, is in one call at a time, and so is one station table. */
 #ifndef ASHLAR_H
 #define ASHLAR_H
 #include <stdbool.h>
@@ -37,6 +43,8 @@ extern "C" {
 #define ASHLAR_STORE 47744              /* bytes of the store that a table wants, at least: ASHLAR_PLACES times ASHLAR_PAYLOAD */
 #define ASHLAR_MESSAGE 49236            /* bytes of a joined message, at most: those of all places, and the last fragment's, which takes none */
 #define ASHLAR_TABLE 528                /* bytes of an AshlarTable */
+#define ASHLAR_STATIONS 128             /* stations that a station table holds, at most */
+#define ASHLAR_STATION_TABLE 2048       /* bytes of an AshlarStations */
 #define ASHLAR_OLD 3000                 /* milliseconds after which ashlar_sweep drops a message that is not whole */
 #define ASHLAR_TLVS(size) ((size) / 3)  /* TLVs of a payload of so many bytes, at most: into a list as long ashlar_walk_into never refuses with 14 */
 
@@ -62,7 +70,8 @@ typedef enum {
     ASHLAR_OUTPUT_TOO_SMALL = 13,  /* The message is whole but longer than the output. `length` says how long: push the same fragment again with an output of so many bytes. */
     ASHLAR_LIST_TOO_SHORT = 14,    /* The payload has more TLVs than the list has elements. `at` is the offset of the first TLV without one: come with a longer list. */
     ASHLAR_NOT_FOUND = 15,         /* No TLV of this kind that reads stands in the list, from the place asked for on. */
-    ASHLAR_UNKNOWN_KIND = 16       /* The code is none of AshlarCode. */
+    ASHLAR_UNKNOWN_KIND = 16,      /* The code is none of AshlarCode. */
+    ASHLAR_NO_STATION_ROOM = 17    /* A station joined that is not held, and ASHLAR_STATIONS others are: it is told nowhere until one of these leaves and it joins again. */
 } AshlarRefusal;
 
 /* ---- Kinds ---- */
@@ -199,6 +208,54 @@ typedef struct {
     uint8_t neither;    /* one is marked last, and there are as many: a duplicate was marked, and completes nothing */
 } AshlarCounts;
 
+/* An address of six bytes, as they stand in a frame: copy them in and out. */
+typedef struct {
+    uint8_t bytes[6];
+} AshlarAddress;
+
+/* Which access point each station is at. To be looked at only, by the calls or here; an address as a number is its six bytes, the first byte highest. Rows are in no order. */
+typedef struct {
+    uint64_t stations[ASHLAR_STATIONS]; /* 1 more than the number of the station's address; 0 where the row is free */
+    uint64_t points[ASHLAR_STATIONS];   /* the number of the address of the access point that it is at; 0 where the row is free */
+} AshlarStations;
+
+/* What a field `answer` of an AshlarHeard says; 0 is ASHLAR_REFUSED. */
+typedef enum {
+    ASHLAR_PLACED = 1,  /* a join: the station was not held, and is at this access point now */
+    ASHLAR_MOVED = 2,   /* a join: the station was at another access point, `from`, and is at this one now */
+    ASHLAR_SAME = 3,    /* a join: the station was at this access point already */
+    ASHLAR_REMOVED = 4, /* a leave: the station was at this access point, and is not held any more */
+    ASHLAR_STALE = 5    /* a leave: the station is at another access point, or not held. It came too late, as the old access point's leave often comes after the new
+                           one's join; nothing is altered */
+} AshlarEventAnswer;
+
+/* What an event did. */
+typedef struct {
+    AshlarAddress from; /* of 2, the access point that the station was at; else zeros */
+    uint8_t answer;     /* an AshlarEventAnswer, or ASHLAR_REFUSED: see `refusal` */
+    uint8_t refusal;    /* an AshlarRefusal */
+} AshlarHeard;
+
+/* What an event did that was read from a value. Where refused, all else is 0. */
+typedef struct {
+    size_t consumed;   /* how many bytes of the value the event took: 13 */
+    size_t rest;       /* how many bytes are behind these: they belong to no field, and may be passed over */
+    AshlarHeard heard;
+} AshlarApplied;
+
+/* Where a station is. */
+typedef struct {
+    AshlarAddress point; /* the access point; zeros where the station is not held */
+    bool held;           /* whether the table holds the station */
+} AshlarAt;
+
+/* What a row of a station table holds. */
+typedef struct {
+    AshlarAddress station; /* zeros where the row is free */
+    AshlarAddress point;   /* the access point that it is at; zeros where the row is free */
+    bool held;             /* whether the row holds a station; addresses of zeros may be held, too */
+} AshlarRow;
+
 /* ---- Calls ---- */
 
 /* The header of a CMDU, which is the first eight of the bytes; what stands behind these is not looked at. Refusals: 1. */
@@ -229,6 +286,25 @@ AshlarShown ashlar_show(AshlarPushed pushed, const uint8_t *payload, size_t payl
 
 /* Messages whose first fragment came ASHLAR_OLD milliseconds or longer before `time` are dropped, with all their fragments, and counted. A clock that went back drops none. */
 AshlarCounts ashlar_sweep(AshlarTable *table, uint64_t time);
+
+/* The table holds no station, whatever it held: all its bytes are 0. It is made where it lies, and so never lies on a stack. */
+void ashlar_stations_fresh(AshlarStations *table);
+
+/* A station joined an access point, or left it. A join puts the station at that access point, wherever it was. A leave removes it only if it names the access point that the
+   station is at; any other leave is stale. A station that is held is never refused. Refusals: 17, with joined only. */
+AshlarHeard ashlar_station_event(AshlarStations *table, AshlarAddress station, AshlarAddress point, bool joined);
+
+/* The same, read from the value of a TLV of kind 0x92. Refusals: 3, 5, 17, in this order: a value that does not read alters nothing. */
+AshlarApplied ashlar_station_event_from(AshlarStations *table, const uint8_t *value, size_t value_length);
+
+/* Where a station is: at the access point that its latest join named, of those that were not refused, unless a later leave named that one too. */
+AshlarAt ashlar_station_at(const AshlarStations *table, AshlarAddress station);
+
+/* How many stations are held. */
+size_t ashlar_station_count(const AshlarStations *table);
+
+/* The station in row n, from 0, and its access point. Rows are free here and there: with each n below ASHLAR_STATIONS all stations are listed, each once. A row past these is free. */
+AshlarRow ashlar_station_row(const AshlarStations *table, size_t n);
 
 #ifdef __cplusplus
 }

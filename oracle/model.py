@@ -1,7 +1,8 @@
 #!/usr/bin/env python3
 """Document 01 as a program: answers the commands of COMMANDS.md, with the document's numbers behind `no`.
 
-Usage: oracle/model.py [LEVEL] < COMMANDS. LEVEL is the last request of document 02 that counts; only the kinds of 2026-04, 2026-08 and 2026-13 are here.
+Usage: oracle/model.py [LEVEL] < COMMANDS. LEVEL is the last request of document 02 that counts for the kinds of 2026-04, 2026-08 and 2026-13. The stations of 2026-02 are
+here at any level; of them this is the only opinion beside the library's, since the original has none.
 It shakes out the driver and the language, and stands beside the proved library as a second opinion on the numbers, which the original doesn't have.
 It follows document 01's text and the readings of its open points, as plainly as it goes. The generator takes its layouts from here.
 """
@@ -9,6 +10,7 @@ import itertools
 import sys
 
 STORE_PLACES, STORE_KEYS, PLACE = 32, 16, 1492
+MOST_STATIONS = 128
 EXPIRES = 3000
 # Of the command language: bytes of a line, and bytes that come out of one.
 LONGEST_LINE, MOST_BYTES = 32768, 66000
@@ -424,6 +426,51 @@ class Table:
         return " ".join(text)
 
 
+# --- stations (2026-02) ---
+
+class Stations:
+    """Which access point each station is at; addresses are words of twelve hex digits, which are in the order of the addresses."""
+
+    def __init__(self):
+        self.point_of = {}
+
+    def join(self, station, point):
+        was = self.point_of.get(station)
+        if was is None and len(self.point_of) == MOST_STATIONS:
+            raise Refused(17)
+        self.point_of[station] = point
+        return "placed" if was is None else "same" if was == point else "moved " + was
+
+    def leave(self, station, point):
+        if self.point_of.get(station) != point:
+            return "stale"
+        del self.point_of[station]
+        return "removed"
+
+    def event_from(self, data):
+        consumed(0x92, data)
+        station, point = data[:6].hex(), data[6:12].hex()
+        return self.join(station, point) if data[12] else self.leave(station, point)
+
+    def where(self, station):
+        return "at " + self.point_of[station] if station in self.point_of else "nowhere"
+
+    def contents(self):
+        return " ".join(["ok %d" % len(self.point_of)] + ["%s@%s" % held for held in sorted(self.point_of.items())])
+
+    def answer(self, command, words):
+        if command == "Z":
+            self.__init__()
+            return "ok"
+        if command == "Y":
+            return self.contents()
+        if command == "y":
+            return self.where(words[1])
+        if command == "J":
+            return self.event_from(to_bytes(words[1]))
+        return self.join(*words[1:3]) if command == "j" else self.leave(*words[1:3])
+
+
 # --- commands ---
 
 def listed(tlvs):
@@ -433,11 +480,13 @@ def listed(tlvs):
     return "ok %d %s" % (len(tlvs), checksum(data))
 
 
-def answer(table, line):
+def answer(table, stations, line):
     if len(line) > LONGEST_LINE:
         raise Bad
     words = line.split(" ")
     command, last = words[0], words[-1]
+    if command in ("Z", "j", "x", "y", "Y", "J"):
+        return stations.answer(command, words)
     if command == "z":
         table.__init__()
         return "ok"
@@ -499,10 +548,10 @@ def answer(table, line):
 def main():
     if len(sys.argv) > 1:
         use_level(int(sys.argv[1]))
-    table = Table()
+    table, stations = Table(), Stations()
     for line in sys.stdin:
         try:
-            text = answer(table, line.removesuffix("\n"))
+            text = answer(table, stations, line.removesuffix("\n"))
         except Refused as refused:
             text = " ".join(["no"] + [str(number) for number in refused.args])
         except (Bad, ValueError, IndexError):

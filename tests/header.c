@@ -5,8 +5,8 @@
 #include <string.h>
 
 static int failed;
-/* the refusals and the answers of push that were seen, a bit for each */
-static unsigned refusals, answers;
+/* the refusals, the answers of push and those of events that were seen, a bit for each */
+static unsigned refusals, answers, events;
 
 static void check(const char *name, bool good) {
     failed += !good;
@@ -282,10 +282,114 @@ static void sweeps(void) {
     check("ashlar_sweep: what is dropped leaves nothing", !memcmp(&before, &table, sizeof table));
 }
 
+/* ---- Stations ---- */
+
+static AshlarStations stations;
+static const AshlarAddress phone = {{0x02, 0x11, 0x22, 0x33, 0x44, 0x55}}, kitchen = {{0x06, 0xAA, 0xBB, 0xCC, 0xDD, 0xEE}}, attic = {{0x0A, 0x0F, 0x1E, 0x2D, 0x3C, 0x4B}}, none;
+
+static bool same_address(AshlarAddress a, AshlarAddress b) { return !memcmp(&a, &b, sizeof a); }
+
+static bool heard(AshlarHeard h, uint8_t answer, AshlarAddress from) {
+    events |= 1u << h.answer;
+    refusals |= 1u << h.refusal;
+    return h.answer == answer && same_address(h.from, from) && h.refusal == ASHLAR_OK;
+}
+
+static bool is_at(AshlarAddress station, AshlarAddress point) {
+    AshlarAt a = ashlar_station_at(&stations, station);
+    return a.held && same_address(a.point, point);
+}
+
+static bool is_nowhere(AshlarAddress station) {
+    AshlarAt a = ashlar_station_at(&stations, station);
+    return !a.held && same_address(a.point, none);
+}
+
+static bool holds(size_t row, AshlarAddress station, AshlarAddress point) {
+    AshlarRow r = ashlar_station_row(&stations, row);
+    return r.held && same_address(r.station, station) && same_address(r.point, point);
+}
+
+static bool is_free(size_t row) {
+    AshlarRow r = ashlar_station_row(&stations, row);
+    return !r.held && same_address(r.station, none) && same_address(r.point, none);
+}
+
+static void moves(void) {
+    static const AshlarStations nothing;
+    memset(&stations, 0xEE, sizeof stations);
+    ashlar_stations_fresh(&stations);
+    check("ASHLAR_STATION_TABLE, ashlar_stations_fresh: all its bytes are 0", sizeof stations == ASHLAR_STATION_TABLE && !memcmp(&stations, &nothing, sizeof stations));
+    check("AshlarAddress: six bytes", sizeof(AshlarAddress) == 6);
+    check("ashlar_station_at: nowhere", is_nowhere(phone));
+    check("AshlarEventAnswer: placed", heard(ashlar_station_event(&stations, phone, kitchen, true), ASHLAR_PLACED, none) && is_at(phone, kitchen) && is_nowhere(kitchen));
+    check("AshlarStations: stations, points", stations.stations[0] == 0x021122334456 && stations.points[0] == 0x06AABBCCDDEE && stations.stations[1] == 0 && stations.points[1] == 0);
+    check("AshlarEventAnswer: the same", heard(ashlar_station_event(&stations, phone, kitchen, true), ASHLAR_SAME, none) && is_at(phone, kitchen));
+    check("AshlarEventAnswer: moved, and from where", heard(ashlar_station_event(&stations, phone, attic, true), ASHLAR_MOVED, kitchen) && is_at(phone, attic));
+    AshlarStations before = stations;
+    check("AshlarEventAnswer: stale, a leave that comes late", heard(ashlar_station_event(&stations, phone, kitchen, false), ASHLAR_STALE, none) && !memcmp(&before, &stations, sizeof stations));
+    check("AshlarEventAnswer: stale, a station that is not held", heard(ashlar_station_event(&stations, attic, phone, false), ASHLAR_STALE, none) && !memcmp(&before, &stations, sizeof stations));
+    check("AshlarRow: station, point, held", holds(0, phone, attic) && is_free(1) && ashlar_station_count(&stations) == 1);
+    check("AshlarEventAnswer: removed", heard(ashlar_station_event(&stations, phone, attic, false), ASHLAR_REMOVED, none) && is_nowhere(phone) && ashlar_station_count(&stations) == 0);
+    check("ashlar_station_event: a freed row is as a fresh one", !memcmp(&stations, &nothing, sizeof stations));
+    check("AshlarAt, AshlarRow: addresses of zeros are held", heard(ashlar_station_event(&stations, none, none, true), ASHLAR_PLACED, none) && is_at(none, none) && holds(0, none, none) && ashlar_station_count(&stations) == 1);
+}
+
+/* a value that joins the phone to the attic, and a byte behind it */
+static uint8_t association[14] = {0x02, 0x11, 0x22, 0x33, 0x44, 0x55, 0x0A, 0x0F, 0x1E, 0x2D, 0x3C, 0x4B, 0x80, 0x99};
+
+/* a value is refused so, all else is 0, and the table stays */
+static void refused_value(const char *name, uint8_t last, size_t size, uint8_t refusal) {
+    AshlarStations before = stations;
+    association[12] = last;
+    AshlarApplied a = ashlar_station_event_from(&stations, association, size);
+    association[12] = 0x80;
+    events |= 1u << a.heard.answer;
+    refusals |= 1u << a.heard.refusal;
+    check(name, a.heard.refusal == refusal && a.heard.answer == ASHLAR_REFUSED && same_address(a.heard.from, none) && a.consumed == 0 && a.rest == 0 && !memcmp(&before, &stations, sizeof stations));
+}
+
+static void values(void) {
+    ashlar_stations_fresh(&stations);
+    ashlar_station_event(&stations, phone, kitchen, true);
+    AshlarApplied a = ashlar_station_event_from(&stations, association, 14);
+    check("AshlarApplied: heard", heard(a.heard, ASHLAR_MOVED, kitchen) && is_at(phone, attic));
+    check("AshlarApplied: consumed, rest", a.consumed == 13 && a.rest == 1);
+    refused_value("ashlar_station_event_from: 3, a byte too few", 0x80, 12, ASHLAR_CUT_SHORT);
+    refused_value("ashlar_station_event_from: 5, bits that have no meaning", 0x81, 13, ASHLAR_BAD_VALUE);
+    association[12] = 0;
+    a = ashlar_station_event_from(&stations, association, 13);
+    association[12] = 0x80;
+    check("ashlar_station_event_from: a leave", heard(a.heard, ASHLAR_REMOVED, none) && a.consumed == 13 && a.rest == 0 && is_nowhere(phone));
+}
+
+static AshlarAddress station_number(int n) { return (AshlarAddress){{0, 0, 0, 0, (uint8_t)(n >> 8), (uint8_t)n}}; }
+
+static void crowd(void) {
+    bool good = true;
+    ashlar_stations_fresh(&stations);
+    for (int n = 0; n < ASHLAR_STATIONS; n++) good &= heard(ashlar_station_event(&stations, station_number(n), kitchen, true), ASHLAR_PLACED, none) && holds((size_t)n, station_number(n), kitchen);
+    check("ASHLAR_STATIONS: so many are held", good && ashlar_station_count(&stations) == ASHLAR_STATIONS);
+    check("ashlar_station_row: past the rows there is none", is_free(ASHLAR_STATIONS) && is_free((size_t)-1));
+    AshlarStations before = stations;
+    AshlarHeard h = ashlar_station_event(&stations, phone, kitchen, true);
+    check("ashlar_station_event: 17 with one more", h.refusal == ASHLAR_NO_STATION_ROOM && h.answer == ASHLAR_REFUSED && same_address(h.from, none) && !memcmp(&before, &stations, sizeof stations));
+    events |= 1u << h.answer;
+    refusals |= 1u << h.refusal;
+    refused_value("ashlar_station_event_from: 17 with one more", 0x80, 13, ASHLAR_NO_STATION_ROOM);
+    refused_value("ashlar_station_event_from: 3 before 17", 0x80, 12, ASHLAR_CUT_SHORT);
+    refused_value("ashlar_station_event_from: 5 before 17", 0x81, 14, ASHLAR_BAD_VALUE);
+    check("a full table: one that is held moves", heard(ashlar_station_event(&stations, station_number(127), attic, true), ASHLAR_MOVED, kitchen) && is_at(station_number(127), attic));
+    ashlar_station_event(&stations, station_number(77), kitchen, false), ashlar_station_event(&stations, station_number(7), kitchen, false);
+    check("a full table: two leave, and the lowest row is used again", heard(ashlar_station_event(&stations, phone, attic, true), ASHLAR_PLACED, none) && holds(7, phone, attic) && is_free(77));
+    check("ashlar_station_count: with a free row", ashlar_station_count(&stations) == ASHLAR_STATIONS - 1);
+}
+
 int main(void) {
     for (size_t i = 0; i < sizeof payload; i++) payload[i] = (uint8_t)(i + 1);
-    headings(), walks(), reads(), finds(), fields(), pushes(), limits(), sweeps();
-    check("every refusal that a call can give came: 1 to 5 and 10 to 16", (refusals & ~1u) == 0x1FC3E);
+    headings(), walks(), reads(), finds(), fields(), pushes(), limits(), sweeps(), moves(), values(), crowd();
+    check("every refusal that a call can give came: 1 to 5 and 10 to 17", (refusals & ~1u) == 0x3FC3E);
     check("every answer of push came: 0 to 7", answers == 0xFF);
+    check("every answer of an event came: 0 to 5", events == 0x3F);
     return failed != 0;
 }

@@ -1,15 +1,16 @@
-/* hostile CALLS SEED: so many random calls. Each slice ends at a page that can't be touched, lengths are any, tables are those that the calls made. Every answer is one of
-   document 01's numbers for its call and the same as that of the plain C of bench/plain.c, and so is every byte that was lent. */
+/* hostile CALLS SEED: so many random calls. Each slice ends at a page that can't be touched, lengths are any, tables are those that the calls made; a station table may be any
+   bytes. Every answer is one of the documents' numbers for its call and the same as that of the plain C of bench/plain.c, and so is every byte that was lent. */
 #include "../bench/calls.h"
 #include <stdio.h>
 #include <stdlib.h>
 #include <string.h>
 #include <sys/mman.h>
 
-enum { PAGE = 4096, READ_HEADER = 0, WALK, WALK_INTO, READ_KIND, FIND, PUSH, SHOW, SWEEP, KINDS };
+enum { PAGE = 4096, READ_HEADER = 0, WALK, WALK_INTO, READ_KIND, FIND, PUSH, SHOW, SWEEP, STATION_EVENT, STATION_EVENT_FROM, STATION_AT, STATION_COUNT, STATION_ROW, KINDS };
 
-static const char *const names[KINDS] = {"read_header", "walk", "walk_into", "read_kind", "find", "push", "show", "sweep"};
-/* which numbers document 01 lets each call give, a bit for each; 0 is no refusal */
+static const char *const names[KINDS] = {
+    "read_header", "walk", "walk_into", "read_kind", "find", "push", "show", "sweep", "station_event", "station_event_from", "station_at", "station_count", "station_row"};
+/* which numbers the documents let each call give, a bit for each; 0 is no refusal */
 static const unsigned numbers[KINDS] = {
     1u << 0 | 1u << 1,
     1u << 0 | 1u << 1 | 1u << 2,
@@ -19,9 +20,14 @@ static const unsigned numbers[KINDS] = {
     1u << 0 | 1u << 10 | 1u << 11 | 1u << 12 | 1u << 13,
     1u << 0,
     1u << 0,
+    1u << 0 | 1u << 17,
+    1u << 0 | 1u << 3 | 1u << 5 | 1u << 17,
+    1u << 0,
+    1u << 0,
+    1u << 0,
 };
 static unsigned long calls[KINDS], wrong[KINDS];
-static unsigned seen[KINDS], answers;
+static unsigned seen[KINDS], answers, events;
 static uint64_t state;
 
 static uint64_t any(void) {
@@ -48,7 +54,7 @@ static Room room(size_t most) {
 
 static void told(int call, unsigned number, bool same) {
     calls[call]++;
-    if (number > 16 || !(numbers[call] >> number & 1) || !same) wrong[call]++;
+    if (number > 17 || !(numbers[call] >> number & 1) || !same) wrong[call]++;
     else seen[call] |= 1u << number;
 }
 
@@ -172,12 +178,93 @@ static void fresh(void) {
     tables[1] = plain_fresh();
 }
 
+/* ---- Stations ---- */
+
+static AshlarStations *stations[2];
+
+static void fresh_stations(void) {
+    ashlar_stations_fresh(stations[0]);
+    plain_stations_fresh(stations[1]);
+}
+
+/* one of so many addresses, among them all zeros and all ones, or any at all */
+static AshlarAddress address(size_t of) {
+    AshlarAddress a;
+    size_t n = below(of);
+    bool other = !below(32);
+    for (int i = 0; i < 6; i++) a.bytes[i] = (uint8_t)(other ? any() : n == of - 1 ? 0xff : i == 5 ? n : 0);
+    return a;
+}
+
+static AshlarAddress station(void) { return address(160); }
+
+static AshlarAddress point(void) { return address(4); }
+
+/* a station table that no call made, the same on both sides: any bytes, or numbers near those of addresses */
+static void any_stations(void) {
+    bool near = below(2);
+    for (size_t i = 0; i < 2 * ASHLAR_STATIONS; i++) {
+        uint64_t n = near ? below(170) : any() << 16 ^ any();
+        memcpy((uint8_t *)stations[0] + i * 8, &n, 8);
+    }
+    *stations[1] = *stations[0];
+}
+
+static bool same_address(AshlarAddress a, AshlarAddress b) { return !memcmp(&a, &b, sizeof a); }
+
+static bool same_heard(AshlarHeard a, AshlarHeard b) {
+    events |= 1u << (a.answer & 7);
+    return same_address(a.from, b.from) && a.answer == b.answer && a.refusal == b.refusal && a.answer <= ASHLAR_STALE && (a.answer == ASHLAR_REFUSED) == (a.refusal != 0);
+}
+
+static bool same_stations(void) { return !memcmp(stations[0], stations[1], sizeof *stations[0]); }
+
+static void station_event(void) {
+    AshlarAddress s = station(), p = point();
+    bool joined = below(5);
+    AshlarHeard a = ashlar_station_event(stations[0], s, p, joined), b = plain_station_event(stations[1], s, p, joined);
+    told(STATION_EVENT, a.refusal, same_heard(a, b) && same_stations());
+}
+
+static void station_event_from(void) {
+    size_t n = below(4) ? 11 + below(5) : below(2000);
+    AshlarAddress s = station(), p = point();
+    uint8_t *v = bytes(n);
+    if (n > 12) memcpy(v, &s, 6), memcpy(v + 6, &p, 6), v[12] = (uint8_t)(below(4) ? below(5) ? 0x80 : 0 : any());
+    AshlarApplied a = ashlar_station_event_from(stations[0], v, n), b = plain_station_event_from(stations[1], v, n);
+    told(STATION_EVENT_FROM, a.heard.refusal, a.consumed == b.consumed && a.rest == b.rest && same_heard(a.heard, b.heard) && same_stations());
+}
+
+static void station_at(void) {
+    AshlarAddress s = station();
+    AshlarAt a = ashlar_station_at(stations[0], s), b = plain_station_at(stations[1], s);
+    told(STATION_AT, 0, a.held == b.held && same_address(a.point, b.point));
+}
+
+static void station_rows(void) {
+    size_t n = below(4) ? below(ASHLAR_STATIONS) : below(4) ? ASHLAR_STATIONS + below(9) : (size_t)any() << 40;
+    AshlarRow a = ashlar_station_row(stations[0], n), b = plain_station_row(stations[1], n);
+    told(STATION_ROW, 0, a.held == b.held && same_address(a.station, b.station) && same_address(a.point, b.point));
+    told(STATION_COUNT, 0, ashlar_station_count(stations[0]) == plain_station_count(stations[1]) && same_stations());
+}
+
+static void of_stations(void) {
+    size_t which = below(100);
+    if (which < 50) station_event();
+    else if (which < 75) station_event_from();
+    else if (which < 85) station_at();
+    else if (which < 95) station_rows();
+    else if (!below(8)) any_stations();
+    else if (!below(20)) fresh_stations();
+}
+
 int main(int argc, char **argv) {
     unsigned long many = argc > 1 ? strtoul(argv[1], 0, 10) : 20000, seed = argc > 2 ? strtoul(argv[2], 0, 10) : 1;
     state = seed * 0x9E3779B97F4A7C15ull | 1;
     payloads = room(PAGE), lists = room(1100 * sizeof(AshlarTlv)), expected = room(1100 * sizeof(AshlarTlv));
-    for (int i = 0; i < 2; i++) stores[i] = room(ASHLAR_STORE + 1), outs[i] = room(6000);
+    for (int i = 0; i < 2; i++) stores[i] = room(ASHLAR_STORE + 1), outs[i] = room(6000), stations[i] = (AshlarStations *)(room(sizeof(AshlarStations)).end - sizeof(AshlarStations));
     fresh();
+    fresh_stations();
     for (unsigned long i = 0; i < many; i++) {
         size_t which = below(100);
         if (which < 4) read_header();
@@ -185,7 +272,8 @@ int main(int argc, char **argv) {
         else if (which < 20) walk_into();
         else if (which < 35) read_kind();
         else if (which < 50) find();
-        else if (which < 98) push();
+        else if (which < 80) push();
+        else if (which < 98) of_stations();
         else if (below(200)) sweep();
         else fresh();
     }
@@ -193,12 +281,12 @@ int main(int argc, char **argv) {
     for (int k = 0; k < KINDS; k++) {
         failed += wrong[k] != 0;
         printf("%s ashlar_%s, %lu calls, %lu wrong, numbers", wrong[k] ? "FAILED" : "ok", names[k], calls[k], wrong[k]);
-        for (int n = 0; n <= 16; n++)
+        for (int n = 0; n <= 17; n++)
             if (seen[k] >> n & 1) printf(" %d", n);
         printf("\n");
     }
-    bool all = answers == 0xff;
+    bool all = answers == 0xff && events == 0x3f;
     for (int k = 0; k < KINDS; k++) all &= seen[k] == numbers[k];
-    printf("%s every number that a call can give came, and every answer of push\n", all ? "ok" : "FAILED");
+    printf("%s every number that a call can give came, and every answer of push and of an event\n", all ? "ok" : "FAILED");
     return failed || !all;
 }

@@ -9,7 +9,11 @@ use Rattle.kinds.specs.Kinds.{readKind}
 use Rattle.finding.specs.Finding.{findFrom}
 use Rattle.table.specs.Rows.{freshTable}
 use Rattle.reassembler.proofs.Claims as reassembler
+use Rattle.stations.specs.Addresses.{numberOf}
+use Rattle.stations.specs.Rows.{freshStations, placeOf, answerTo, tableAfter, rowAt, countOf, shown, listed as listedRow}
+use Rattle.stations.specs.Events.{answerFrom, tableFrom}
 use Rattle.ashlar.specs.Numbers.{headerNumbers, walkNumbers, kindNumbers, foundNumbers, pushNumbers, shownIn}
+use Rattle.ashlar.specs.Stations.{addressIn, eventWith, eventNumbers, appliedNumbers, whereNumbers, rowNumbers}
 use Rattle.ashlar.specs.Claims.{Firmness, ShowsTheMessage}
 use Rattle.ashlar.proofs.Shown.{shows}
 
@@ -25,6 +29,12 @@ firmness = record {
       ((x .tells ∙ ap pushNumbers (x .goes .answers ∙ sym (y .goes .answers)) ∙ sym (y .tells)) i, (x .goes .keeps ∙ sym (y .goes .keeps)) i, (x .goes .stores ∙ sym (y .goes .stores)) i, (x .goes .puts ∙ sym (y .goes .puts)) i);
   ashlar-show = λ pushed payload out. by-equation (shownIn pushed (length payload) (length out));
   ashlar-sweep = reassembler.firmness .sweep;
+  ashlar-stations-fresh = by-equation freshStations;
+  ashlar-station-event = λ t station point joined. both _ _ (by-equation (eventNumbers (answerTo t (eventWith station point joined)))) (by-equation (tableAfter t (eventWith station point joined)));
+  ashlar-station-event-from = λ t value. both _ _ (by-equation (appliedNumbers (length value) (answerFrom t value))) (by-equation (tableFrom t value));
+  ashlar-station-at = λ t station. by-equation (whereNumbers (shown (placeOf t (numberOf (addressIn station)))));
+  ashlar-station-count = λ t. by-equation (countOf t);
+  ashlar-station-row = λ t n. by-equation (rowNumbers (listedRow (rowAt t n)));
 }
 
 pub shows-the-message : ShowsTheMessage

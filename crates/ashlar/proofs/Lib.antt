@@ -1,3 +1,4 @@
 pub mod Measured
 pub mod Shown
+pub mod Stations
 pub mod Claims

@@ -1,6 +1,6 @@
 -- What is claimed of the exported calls; proofs/Claims.antt proves it.
 use mathlib.Core.Path.{_≡_}
-use mathlib.Core.Bool.{cond}
+use mathlib.Core.Bool.{Bool, cond}
 use mathlib.Core.List.{List}
 use Prim.Native.Nat.{ℕ}
 use lib.ListN.{length, take}
@@ -22,8 +22,15 @@ use Rattle.ashlar.specs.declared.AshlarWalk.{AshlarWalk}
 use Rattle.ashlar.specs.declared.AshlarPushed.{AshlarPushed}
 use Rattle.ashlar.specs.declared.AshlarShown.{AshlarShown}
 use Rattle.ashlar.specs.Numbers.{headerNumbers, walkNumbers, kindNumbers, foundNumbers, pushNumbers, Numbered, shownIn}
+use Rattle.stations.specs.Addresses.{numberOf}
+use Rattle.stations.specs.Rows.{Stations, freshStations, placeOf, answerTo, tableAfter, rowAt, countOf, shown as shownPlace, listed as listedRow}
+use Rattle.stations.specs.Events.{answerFrom, tableFrom}
+use Rattle.ashlar.specs.declared.AshlarAddress.{AshlarAddress}
+use Rattle.ashlar.specs.declared.AshlarHeard.{AshlarHeard}
+use Rattle.ashlar.specs.declared.AshlarApplied.{AshlarApplied}
+use Rattle.ashlar.specs.Stations.{addressIn, eventWith, eventNumbers, appliedNumbers, whereNumbers, rowNumbers}
 
--- each call by its name: any two answers that its contract allows, with what the call leaves in the list, the table, the store and the output, are one
+-- each call by its name: any two answers that its contract allows, with what the call leaves in the list, the tables, the store and the output, are one
 pub record Firmness : Type 0 where
   pub ashlar-read-header : (bytes : List ℕ) → Firm (λ r. r ≡ headerNumbers (readHeader bytes))
   pub ashlar-walk : (payload : List ℕ) → Firm (λ r. r ≡ walkNumbers (counted (walkOf payload)))
@@ -36,6 +43,14 @@ pub record Firmness : Type 0 where
       → Firm {A = AshlarPushed × Table × List ℕ × List ℕ} (λ o. Numbered (way t store a payload (length out)) t store out a payload (o .0) (o .1) (o .2) (o .3))
   pub ashlar-show : (pushed : AshlarPushed) (payload out : List ℕ) → Firm (λ r. r ≡ shownIn pushed (length payload) (length out))
   pub ashlar-sweep : (t : Table) (time : ℕ) → Firm {A = Counts × Table} (λ o. sweptAs (o .1) (o .0) ≡ swept t time)
+  pub ashlar-stations-fresh : Firm {A = Stations} (λ t′. t′ ≡ freshStations)
+  pub ashlar-station-event : (t : Stations) (station point : AshlarAddress) (joined : Bool)
+      → Firm {A = AshlarHeard × Stations} (λ o. (o .0 ≡ eventNumbers (answerTo t (eventWith station point joined))) × (o .1 ≡ tableAfter t (eventWith station point joined)))
+  pub ashlar-station-event-from : (t : Stations) (value : List ℕ)
+      → Firm {A = AshlarApplied × Stations} (λ o. (o .0 ≡ appliedNumbers (length value) (answerFrom t value)) × (o .1 ≡ tableFrom t value))
+  pub ashlar-station-at : (t : Stations) (station : AshlarAddress) → Firm (λ r. r ≡ whereNumbers (shownPlace (placeOf t (numberOf (addressIn station)))))
+  pub ashlar-station-count : (t : Stations) → Firm (λ r. r ≡ countOf t)
+  pub ashlar-station-row : (t : Stations) (n : ℕ) → Firm (λ r. r ≡ rowNumbers (listedRow (rowAt t n)))
 
 -- The part that an answer of `ashlar_show` names is the one that the table's own showing call returns.
 abbrev pub messageIn : AshlarShown → List ℕ → List ℕ → List ℕ

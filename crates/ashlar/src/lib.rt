@@ -4,6 +4,15 @@ use framing::HeaderRead;
 use kinds::KindSize;
 use pushing::Arrival;
 use pushing::Pushed;
+use records::AssociationState;
+use records::ClientAssociation;
+use records::MacAddr;
+use stations::Answered;
+use stations::Applied;
+use stations::Heard;
+use stations::Listed;
+use stations::Stations;
+use stations::Where;
 use sweeping::Counts;
 use table::Table;
 use walking::Tlv;
@@ -20,6 +29,11 @@ ghost use Rattle.pushing.specs.Push.{pushedOf, way};
 ghost use Rattle.sweeping.specs.Sweep.{swept, sweptAs};
 ghost use Rattle.pushing.specs.Made.{Made};
 ghost use Rattle.ashlar.specs.Numbers.{headerNumbers, walkNumbers, kindNumbers, foundNumbers, namedAs, pushNumbers, withinOf, shownIn, Numbered};
+ghost use Rattle.stations.specs.Addresses.{numberOf};
+ghost use Rattle.stations.specs.Whereabouts.{isJoined};
+ghost use Rattle.stations.specs.Rows.{freshStations, placeOf, answerTo, tableAfter, rowAt, countOf, shown, listed as rowListed};
+ghost use Rattle.stations.specs.Events.{answeredOf, answerFrom, tableFrom};
+ghost use Rattle.ashlar.specs.Stations.{addressIn, addressFor, noAddress, eventWith, heardAs, heardNumbers, refusedAs, eventNumbers, appliedNumbers, whereNumbers, rowNumbers};
 
 // The header of a CMDU, its fields in their order, but for the shortfall: how many bytes are missing, where it is refused. `last` is bit 7 of `flags`.
 #[repr(C)]
@@ -290,4 +304,232 @@ pub extern "C" fn ashlar_sweep(t: &mut Table, time: u64) -> Counts
     ensures { λ r. ⌜ sweptAs (now (t .exit)) r ≡ swept (now (t .entry)) time ⌝ }
 {
     reassembler::sweep(t, time)
+}
+
+// An address, its six bytes in their order: in C, an array of them.
+#[repr(C)]
+pub struct AshlarAddress {
+    pub b0: u8,
+    pub b1: u8,
+    pub b2: u8,
+    pub b3: u8,
+    pub b4: u8,
+    pub b5: u8,
+}
+
+// What an event did: 1 placed, 2 moved, 3 the same, 4 removed, 5 stale; 0 where it is refused. With 2 goes the access point at which the station was.
+#[repr(C)]
+pub struct AshlarHeard {
+    pub from: AshlarAddress,
+    pub answer: u8,
+    pub refusal: u8,
+}
+
+// The same for an event that was read from a value: how many bytes of it the event took, and how many are behind these.
+#[repr(C)]
+pub struct AshlarApplied {
+    pub consumed: usize,
+    pub rest: usize,
+    pub heard: AshlarHeard,
+}
+
+// The access point at which a station is, if it is held.
+#[repr(C)]
+pub struct AshlarAt {
+    pub point: AshlarAddress,
+    pub held: bool,
+}
+
+// A row of the table, if it holds a station.
+#[repr(C)]
+pub struct AshlarRow {
+    pub station: AshlarAddress,
+    pub point: AshlarAddress,
+    pub held: bool,
+}
+
+fn address_in(a: AshlarAddress) -> MacAddr
+    ensures { λ r. ⌜ r ≡ addressIn a ⌝ }
+{
+    MacAddr {
+        b0: a.b0,
+        b1: a.b1,
+        b2: a.b2,
+        b3: a.b3,
+        b4: a.b4,
+        b5: a.b5,
+    }
+}
+
+fn address_for(m: MacAddr) -> AshlarAddress
+    ensures { λ r. ⌜ r ≡ addressFor m ⌝ }
+{
+    AshlarAddress {
+        b0: m.b0,
+        b1: m.b1,
+        b2: m.b2,
+        b3: m.b3,
+        b4: m.b4,
+        b5: m.b5,
+    }
+}
+
+fn no_address() -> AshlarAddress
+    ensures { λ r. ⌜ r ≡ noAddress ⌝ }
+{
+    AshlarAddress {
+        b0: 0,
+        b1: 0,
+        b2: 0,
+        b3: 0,
+        b4: 0,
+        b5: 0,
+    }
+}
+
+// An answer that tells no access point.
+fn heard_as(answer: u8) -> AshlarHeard
+    ensures { λ r. ⌜ r ≡ heardAs answer ⌝ }
+{
+    AshlarHeard {
+        from: no_address(),
+        answer,
+        refusal: 0,
+    }
+}
+
+fn heard_numbers(heard: Heard) -> AshlarHeard
+    ensures { λ r. ⌜ r ≡ heardNumbers heard ⌝ }
+{
+    match heard {
+        Heard::Placed => heard_as(1),
+        Heard::Moved { from } => AshlarHeard {
+            from: address_for(from),
+            answer: 2,
+            refusal: 0,
+        },
+        Heard::Same => heard_as(3),
+        Heard::Removed => heard_as(4),
+        Heard::Stale => heard_as(5),
+    }
+}
+
+fn refused_as(refusal: u8) -> AshlarHeard
+    ensures { λ r. ⌜ r ≡ refusedAs refusal ⌝ }
+{
+    AshlarHeard {
+        from: no_address(),
+        answer: 0,
+        refusal,
+    }
+}
+
+fn event_numbers(answered: Answered) -> AshlarHeard
+    ensures { λ r. ⌜ r ≡ eventNumbers (answeredOf answered) ⌝ }
+{
+    match answered {
+        Answered::Heard(heard) => heard_numbers(heard),
+        Answered::Refused(refusal) => refused_as(numbers::number_of(refusal)),
+    }
+}
+
+fn state_of(joined: bool) -> AssociationState
+    ensures { λ r. ⌜ isJoined r ≡ joined ⌝ }
+{
+    if joined {
+        return AssociationState::JoinedBss;
+    }
+    AssociationState::LeftBss
+}
+
+// The table holds no station any more, whatever it held: made in place, since 2,048 bytes by value would lie on a caller's stack.
+#[no_mangle]
+pub extern "C" fn ashlar_stations_fresh(t: &mut Stations)
+    ensures { λ r. ⌜ now (t .exit) ≡ freshStations ⌝ }
+{
+    *t = stations::fresh();
+}
+
+// A station joined an access point, or left it.
+#[no_mangle]
+pub extern "C" fn ashlar_station_event(
+    t: &mut Stations,
+    station: AshlarAddress,
+    point: AshlarAddress,
+    joined: bool,
+) -> AshlarHeard
+    ensures { λ r. ⌜ (r ≡ eventNumbers (answerTo (now (t .entry)) (eventWith station point joined)))
+        × (now (t .exit) ≡ tableAfter (now (t .entry)) (eventWith station point joined)) ⌝ }
+{
+    let e = ClientAssociation {
+        sta_mac: address_in(station),
+        ap_mac: address_in(point),
+        association_state: state_of(joined),
+    };
+    let answered = stations::event(t, e);
+    event_numbers(answered)
+}
+
+// The same, read from a TLV's value of kind 0x92. A value that does not read alters nothing.
+#[no_mangle]
+pub extern "C" fn ashlar_station_event_from(t: &mut Stations, value: &[u8]) -> AshlarApplied
+    ensures { λ r. ⌜ (r ≡ appliedNumbers (length (now (value .entry))) (answerFrom (now (t .entry)) (now (value .entry))))
+        × (now (t .exit) ≡ tableFrom (now (t .entry)) (now (value .entry))) ⌝ }
+{
+    match stations::event_from(t, value) {
+        Applied::Heard { heard, consumed } => AshlarApplied {
+            consumed,
+            rest: value.len() - consumed,
+            heard: heard_numbers(heard),
+        },
+        Applied::Refused(refusal) => AshlarApplied {
+            consumed: 0,
+            rest: 0,
+            heard: refused_as(numbers::number_of(refusal)),
+        },
+    }
+}
+
+// Where a station is.
+#[no_mangle]
+pub extern "C" fn ashlar_station_at(t: &Stations, station: AshlarAddress) -> AshlarAt
+    ensures { λ r. ⌜ r ≡ whereNumbers (shown (placeOf (now (t .entry)) (numberOf (addressIn station)))) ⌝ }
+{
+    match stations::where_is(t, address_in(station)) {
+        Where::At(place) => AshlarAt {
+            point: address_for(place),
+            held: true,
+        },
+        Where::Nowhere => AshlarAt {
+            point: no_address(),
+            held: false,
+        },
+    }
+}
+
+// How many stations are held.
+#[no_mangle]
+pub extern "C" fn ashlar_station_count(t: &Stations) -> usize
+    ensures { λ r. ⌜ r ≡ countOf (now (t .entry)) ⌝ }
+{
+    stations::count(t)
+}
+
+// The station in row n and its access point. With each n below 128 a caller lists them all.
+#[no_mangle]
+pub extern "C" fn ashlar_station_row(t: &Stations, n: usize) -> AshlarRow
+    ensures { λ r. ⌜ r ≡ rowNumbers (rowListed (rowAt (now (t .entry)) n)) ⌝ }
+{
+    match stations::row(t, n) {
+        Listed::Held { station, point } => AshlarRow {
+            station: address_for(station),
+            point: address_for(point),
+            held: true,
+        },
+        Listed::Free => AshlarRow {
+            station: no_address(),
+            point: no_address(),
+            held: false,
+        },
+    }
 }

@@ -35,8 +35,9 @@ fn reserved(number: u8) -> Code {
     }
 }
 
-fn put_address(m: MacAddr, text: &mut Text, used: usize) -> usize {
-    show::put_shown(text, used, b' ', &[m.b0, m.b1, m.b2, m.b3, m.b4, m.b5])
+// An address behind the byte that sets it off.
+pub(crate) fn put_address(m: MacAddr, before: u8, text: &mut Text, used: usize) -> usize {
+    show::put_shown(text, used, before, &[m.b0, m.b1, m.b2, m.b3, m.b4, m.b5])
 }
 
 fn put_code(code: Code, text: &mut Text, used: usize) -> usize {
@@ -82,7 +83,7 @@ fn code_of_profile(profile: MultiApProfile) -> Code {
 
 fn put_neighbor(neighbor: NeighborMac, text: &mut Text, used: usize) -> usize {
     match neighbor {
-        NeighborMac::Address(address) => put_address(address, text, used),
+        NeighborMac::Address(address) => put_address(address, b' ', text, used),
         NeighborMac::None => show::put(text, used, b" -"),
     }
 }
@@ -105,8 +106,8 @@ fn put_association(client: ClientAssociation, text: &mut Text, used: usize) -> u
     let station = client.sta_mac;
     let access_point = client.ap_mac;
     let state = client.association_state;
-    let a = put_address(station, text, used);
-    let b = put_address(access_point, text, a);
+    let a = put_address(station, b' ', text, used);
+    let b = put_address(access_point, b' ', text, a);
     show::put_next(text, b, number_of_state(state))
 }
 
@@ -166,13 +167,14 @@ fn put_numbers(record: Record, text: &mut Text, used: usize) -> usize {
 pub(crate) fn put_record(record: Record, text: &mut Text, used: usize) -> usize {
     match record {
         Record::EndOfMessage => used,
-        Record::AlMacAddress(address) => put_address(address, text, used),
-        Record::MacAddress(address) => put_address(address, text, used),
+        Record::AlMacAddress(address) => put_address(address, b' ', text, used),
+        Record::MacAddress(address) => put_address(address, b' ', text, used),
         _ => put_numbers(record, text, used),
     }
 }
 
-fn address_in(line: &[u8], n: usize) -> MacAddr {
+// The address in field n.
+pub(crate) fn address_in(line: &[u8], n: usize) -> MacAddr {
     let s = parse::field(line, n);
     MacAddr {
         b0: parse::pair(s, 0),

@@ -1,5 +1,6 @@
 // Answers the commands on standard input, a line each, through the library's public calls (oracle/COMMANDS.md). It is held against the original
 // by oracle/run, and against a kept list of the original's answers whenever it is checked.
+mod events;
 mod fields;
 mod parse;
 mod payloads;
@@ -10,6 +11,7 @@ mod singles;
 use libc::STDIN_FILENO;
 use pushes::Served;
 use show::Text;
+use stations::Stations;
 use table::Table;
 ghost use Prim.Native.Nat.{_≤_};
 ghost use Rattle.pushing.specs.Made.{Made};
@@ -66,13 +68,14 @@ fn is_of_table(letter: u8) -> bool {
     }
 }
 
-// One line answered, with the table as it is then.
+// One line answered, with the table of fragments as it is then.
 fn turn(
     t: Table,
     line: &[u8],
     bytes: &[u8],
     out: &mut Bytes,
     store: &mut Store,
+    held: &mut Stations,
     text: &mut Text,
     before: usize,
 ) -> Served
@@ -80,8 +83,15 @@ fn turn(
     ensures { λ r. ⌜ Made (r .table) ⌝ }
 {
     let used = show::with_room(text, before);
-    if is_of_table(parse::byte_at(line, 0)) {
+    let letter = parse::byte_at(line, 0);
+    if is_of_table(letter) {
         return pushes::answer(t, line, bytes, out, store, text, used);
+    }
+    if events::is_of_stations(letter) {
+        return Served {
+            table: t,
+            used: events::answer(held, line, bytes, text, used),
+        };
     }
     Served {
         table: t,
@@ -97,6 +107,7 @@ fn answered(
     data: &mut Bytes,
     out: &mut Bytes,
     store: &mut Store,
+    held: &mut Stations,
     text: &mut Text,
 ) -> State
     requires { ⌜ Made (s .table) ⌝ }
@@ -112,6 +123,7 @@ fn answered(
         parse::part(data, 0, n),
         out,
         store,
+        held,
         text,
         s.used,
     );
@@ -161,6 +173,7 @@ fn step(
     data: &mut Bytes,
     out: &mut Bytes,
     store: &mut Store,
+    held: &mut Stations,
     text: &mut Text,
 ) -> State
     requires { ⌜ Made (s .table) ⌝ }
@@ -168,17 +181,24 @@ fn step(
 {
     let end = parse::line_end(input, s.at, s.have);
     if end < s.have || (s.ended && s.at < s.have) {
-        return answered(s, end, input, data, out, store, text);
+        return answered(s, end, input, data, out, store, held, text);
     }
     supplied(s, input, text)
 }
 
 // Answers line by line until the input ends. A proved loop has to end, and nothing says that an input does: so it counts its turns.
-fn serve(input: &mut Input, data: &mut Bytes, out: &mut Bytes, store: &mut Store, text: &mut Text) {
+fn serve(
+    input: &mut Input,
+    data: &mut Bytes,
+    out: &mut Bytes,
+    store: &mut Store,
+    held: &mut Stations,
+    text: &mut Text,
+) {
     let mut s = start();
     let mut turns = u64::MAX;
     while turns > 0 {
-        s = step(s, input, data, out, store, text);
+        s = step(s, input, data, out, store, held, text);
         if s.done {
             return;
         }
@@ -206,6 +226,14 @@ fn main() {
     let mut data = [0u8; 66048];
     let mut out = [0u8; 66048];
     let mut store = [0u8; 47744];
+    let mut held = stations::fresh();
     let mut text = [0u8; 65536];
-    serve(&mut input, &mut data, &mut out, &mut store, &mut text);
+    serve(
+        &mut input,
+        &mut data,
+        &mut out,
+        &mut store,
+        &mut held,
+        &mut text,
+    );
 }

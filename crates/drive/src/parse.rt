@@ -197,7 +197,7 @@ fn decode(s: &[u8], data: &mut [u8]) -> usize {
 // Which field of a line has its bytes. Where a letter asks for none it makes no difference.
 fn field_of_bytes(letter: u8) -> usize {
     match letter {
-        b't' | b'h' | b'k' | b'g' => 1,
+        b't' | b'h' | b'k' | b'g' | b'J' => 1,
         b'r' | b'a' | b'd' | b'D' => 2,
         b'w' | b's' | b'e' | b'l' => 3,
         _ => 8,

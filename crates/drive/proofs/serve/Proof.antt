@@ -5,10 +5,10 @@ use Rattle.drive.proofs.serve.Statement.{statement}
 use Rattle.drive.proofs.serve.Tie as tie
 
 abbrev Inv-loop : tie.InvT-loop
-Inv-loop input₀ data₀ out₀ store₀ text₀ s₀ turns₀ input «data» out store text s turns = Made (s .table)
+Inv-loop input₀ data₀ out₀ store₀ held₀ text₀ s₀ turns₀ input «data» out store held text s turns = Made (s .table)
 
 abbrev μ-loop : tie.MeasureT-loop
-μ-loop input₀ data₀ out₀ store₀ text₀ s₀ turns₀ input «data» out store text s turns = turns
+μ-loop input₀ data₀ out₀ store₀ held₀ text₀ s₀ turns₀ input «data» out store held text s turns = turns
 
 pub serve-spec : {M : Type 1} → statement M
 serve-spec =
