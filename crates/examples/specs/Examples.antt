@@ -1,10 +1,10 @@
--- Document 01, "Examples to check": the rows that are "proved together as one table". A row is an equation between what a definition gives and what
--- the document says.
+-- Document 01, "Examples to check": the rows that are "proved together as one table", and document 02's. A row is an equation between what a definition gives
+-- and what the document says.
 use mathlib.Core.Path.{_≡_}
 use mathlib.Core.Bool.{true, false, cond}
 use mathlib.Core.List.{List, [], _∷_, _++_}
 use Prim.Native.Nat.{ℕ, zero, suc, _+_, _≤_}
-use lib.ListN.{length, replicate}
+use lib.ListN.{length, drop, replicate}
 use Rattle.numbers.specs.Numbers.{Answer, gives, refuses}
 use Rattle.framing.specs.Tlv.{readTlv, valueIn}
 use Rattle.walking.specs.Walk.{walkOf, counted}
@@ -33,6 +33,10 @@ association last = replicate 6 0x02 ++ (replicate 6 0x0A ++ (last ∷ []))
 
 abbrev pub associated : AssociationState → Record
 associated state = Record.ClientAssociation (record { «sta_mac» = address 0x02; «ap_mac» = address 0x0A; «association_state» = state })
+
+-- a topology query as it leaves an Ethernet bridge: version 0, type 2, id 1, fragment number 0, marked last; the end marker; and so many zero bytes
+abbrev pub padded : ℕ → List ℕ
+padded zeros = (0x00 ∷ 0x00 ∷ 0x00 ∷ 0x02 ∷ 0x00 ∷ 0x01 ∷ 0x00 ∷ 0x80 ∷ []) ++ ((0x00 ∷ 0x00 ∷ 0x00 ∷ []) ++ replicate zeros 0x00)
 
 -- "MiB, prioritization, no onboarding, separation, 2 VIDs"
 abbrev pub able : Record
@@ -158,7 +162,14 @@ pub record Examples : Type 0 where
   pub read : readTlv (0x01 ∷ 0x00 ∷ 0x02 ∷ 0xAA ∷ 0xBB ∷ 0xCC ∷ []) ≡ gives (record { tlv-type = 1; value-length = 2; consumed = 5 })
   pub value : valueIn (readTlv (0x01 ∷ 0x00 ∷ 0x02 ∷ 0xAA ∷ 0xBB ∷ 0xCC ∷ [])) (0x01 ∷ 0x00 ∷ 0x02 ∷ 0xAA ∷ 0xBB ∷ 0xCC ∷ []) ≡ 0xAA ∷ 0xBB ∷ []
   -- "An empty payload has none."
-  pub no-tlvs : counted (walkOf []) ≡ gives 0
+  pub no-tlvs : counted (walkOf []) ≡ gives (record { count = 0; padding = 0 })
+  -- document 02, 2026-03: "8 header bytes and a 3-byte end marker [..] padded by an Ethernet bridge to 46, and 35 zero bytes": one TLV, and its padding
+  pub padded-to : length (padded 35) ≡ 46
+  pub padded-walk : counted (walkOf (drop 8 (padded 35))) ≡ gives (record { count = 1; padding = 35 })
+  pub unpadded-walk : counted (walkOf (drop 8 (padded 0))) ≡ gives (record { count = 1; padding = 0 })
+  -- "the `end 7` example stands": the marker is the last of seven bytes; and a TLV of type 0 with a length is none
+  pub end-7 : counted (walkOf (0x01 ∷ 0x00 ∷ 0x01 ∷ 0x7F ∷ 0x00 ∷ 0x00 ∷ 0x00 ∷ [])) ≡ gives (record { count = 2; padding = 0 })
+  pub type-0-with-a-length : counted (walkOf (0x00 ∷ 0x00 ∷ 0x01 ∷ 0x7F ∷ 0x01 ∷ 0x00 ∷ 0x00 ∷ [])) ≡ gives (record { count = 2; padding = 0 })
   -- "The 21 kinds": there are so many, and these they are
   pub the-21 : codesBelow 256 ≡ 0xB7 ∷ 0xB4 ∷ 0xB3 ∷ 0x92 ∷ 0x83 ∷ 0x80 ∷ 30 ∷ 26 ∷ 24 ∷ 23 ∷ 16 ∷ 15 ∷ 13 ∷ 12 ∷ 8 ∷ 7 ∷ 6 ∷ 4 ∷ 2 ∷ 1 ∷ 0 ∷ []
   -- "association byte 80, 00, and 81 (refused)"

@@ -7,6 +7,7 @@ use Rattle.finding.proofs.Firm.{found-one, placed-one, searched-one}
 use Rattle.finding.proofs.First.{is-first, none-there}
 use Rattle.finding.proofs.All.{every-one}
 use Rattle.finding.proofs.OfWalk as walk
+use Rattle.finding.proofs.Padded.{not-in-padding}
 
 pub firmness : Firmness
 firmness = record {
@@ -25,4 +26,9 @@ pub going-on : GoingOn
 going-on = every-one
 
 pub over-a-walk : OverAWalk
-over-a-walk = record { found-is-tlv = walk.found-is-tlv; in-filled-list = walk.in-filled-list; without-list = walk.without-list }
+over-a-walk = record {
+  found-is-tlv = walk.found-is-tlv;
+  in-filled-list = walk.in-filled-list;
+  without-list = walk.without-list;
+  not-in-padding = not-in-padding;
+}

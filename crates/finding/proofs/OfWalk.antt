@@ -13,7 +13,7 @@ use Rattle.framing.specs.Tlv.{TlvRead, valueIn}
 use Rattle.records.specs.declared.Record.{Record}
 use Rattle.kinds.specs.Kinds.{isKind, Typed, readKind}
 use Rattle.walking.specs.declared.Tlv.{Tlv}
-use Rattle.walking.specs.Walk.{walkOf, filled, noTlv}
+use Rattle.walking.specs.Walk.{Counted, walkOf, filled, noTlv}
 use Rattle.walking.proofs.Chained.{of-walk, stands}
 use Rattle.finding.specs.Finding.{Hit, readsAs, findFrom, firstOf, findInPayload}
 use Rattle.finding.specs.Claims.{tlvAs}
@@ -48,14 +48,14 @@ module _ (p : List ℕ) where
   by-kind code us h true e = unchanged code p 0 (walkOf p .tlvs) us h e
   by-kind code us h false e = e
 
-  pub in-filled-list : (code n : ℕ) (ys : List Tlv) (h : Hit) → gives h ≡ findFrom code (walkOf p .tlvs) p 0 → gives h ≡ findFrom code (filled (gives n) (walkOf p .tlvs) ys) p 0
+  pub in-filled-list : (code : ℕ) (c : Counted) (ys : List Tlv) (h : Hit) → gives h ≡ findFrom code (walkOf p .tlvs) p 0 → gives h ≡ findFrom code (filled (gives c) (walkOf p .tlvs) ys) p 0
   unfolding findFrom
-  in-filled-list code n ys h e = by-kind code (drop n ys) h (isKind code) e
+  in-filled-list code c ys h e = by-kind code (drop (c .count) ys) h (isKind code) e
 
   -- without a list the answer is the one over the walk's list, if a walk gets through the payload
-  pub without-list : (code from end : ℕ) → walkOf p .end ≡ gives end → findInPayload code p from ≡ findFrom code (walkOf p .tlvs) p from
+  pub without-list : (code from padding : ℕ) → walkOf p .end ≡ gives padding → findInPayload code p from ≡ findFrom code (walkOf p .tlvs) p from
   unfolding findInPayload findFrom
-  without-list code from end e = rw e (twice (isKind code))
+  without-list code from padding e = rw e (twice (isKind code))
     where
       twice : (b : Bool) → cond b (cond b (firstOf code p from (drop from (walkOf p .tlvs))) (refuses 16 [])) (refuses 16 []) ≡ cond b (firstOf code p from (drop from (walkOf p .tlvs))) (refuses 16 [])
       twice true = refl

@@ -12,9 +12,9 @@ use Rattle.numbers.specs.Numbers.{Answer, gives, refuses, isGiven}
 use Rattle.records.specs.declared.Record.{Record}
 use Rattle.kinds.specs.Kinds.{isKind, Typed}
 use Rattle.walking.specs.declared.Tlv.{Tlv}
-use Rattle.walking.specs.Walk.{Ahead, ended, passed, stepAt, Walk, walkBy, walkFrom, walkOf, counted}
+use Rattle.walking.specs.Walk.{Ahead, ended, passed, last, Counted, stepAt, Walk, walkBy, walkFrom, walkOf, counted}
 use Rattle.walking.proofs.Stepping.{passes, turn, begun}
-use Rattle.walking.proofs.Listed as Counted
+use Rattle.walking.proofs.Listed as Counts
 use Rattle.finding.specs.Finding.{Hit, readsAs, thereOr, firstOf, findFrom, findInPayload}
 use Rattle.finding.proofs.Passing.{first-nil, first-cons, or-behind}
 
@@ -81,14 +81,20 @@ module _ (code : ℕ) (p : List ℕ) (from at place : ℕ) (w : Searching code p
   abbrev on : ℕ → Walk
   on next = walkFrom (w .most - 1) p next
 
-  by-step : (a : Answer Ahead) → a ≡ stepAt p at → rest code p from place (walkBy at a on .tlvs) ≡ firstOf code p from (drop from (walkOf p .tlvs))
-  by-step a e = ap (λ (x : Answer Ahead). rest code p from place (walkBy at x on .tlvs)) e ∙ sym (ap (λ (v : Walk). rest code p from place (v .tlvs)) (turn (w .most) p at (w .enough))) ∙ w .will
+  by-step : (a : Answer Ahead) → a ≡ stepAt p at → rest code p from place (walkBy (length p) a on .tlvs) ≡ firstOf code p from (drop from (walkOf p .tlvs))
+  by-step a e = ap (λ (x : Answer Ahead). rest code p from place (walkBy (length p) x on .tlvs)) e ∙ sym (ap (λ (v : Walk). rest code p from place (v .tlvs)) (turn (w .most) p at (w .enough))) ∙ w .will
 
   pub ends : gives ended ≡ stepAt p at → refuses 15 [] ≡ firstOf code p from (drop from (walkOf p .tlvs))
   ends e = sym (rest-nil code p from place) ∙ by-step (gives ended) e
 
   pub stops : (n : ℕ) (vs : List ℕ) → refuses n vs ≡ stepAt p at → refuses 15 [] ≡ firstOf code p from (drop from (walkOf p .tlvs))
   stops n vs e = sym (rest-nil code p from place) ∙ by-step (refuses n vs) e
+
+  -- at the marker the look is the answer: behind it nothing is found
+  pub at-marker : (t : Tlv) (end : ℕ) → gives (last t end) ≡ stepAt p at → (a : Answer Hit) → SaysFrom code p t place from a → a ≡ firstOf code p from (drop from (walkOf p .tlvs))
+  at-marker t end e a says =
+      says ∙ ap (λ (x : Answer Hit). cond (ltb place from) x (thereOr (readsAs code p t) place t x)) (sym (rest-nil code p from (place + 1)))
+      ∙ sym (rest-cons code p from place t []) ∙ by-step (gives (last t end)) e
 
   module _ (t : Tlv) (next : ℕ) (e : gives (passed t next) ≡ stepAt p at) (a : Answer Hit) (says : SaysFrom code p t place from a) where
     abbrev behind : Answer Hit
@@ -119,8 +125,8 @@ module _ (code : ℕ) (p : List ℕ) (from : ℕ) where
 
   pub unwalked : isKind code ≡ true → (n : ℕ) (vs : List ℕ) → refuses n vs ≡ counted (walkOf p) → refuses n vs ≡ findInPayload code p from
   unfolding findInPayload
-  unwalked e n vs c = rw e (Counted.stops (walkOf p .end) (length (walkOf p .tlvs)) n vs c _)
+  unwalked e n vs c = rw (e, Counts.ended-by (walkOf p) n vs c)
 
-  pub walked : isKind code ≡ true → (n : ℕ) → gives n ≡ counted (walkOf p) → (a : Answer Hit) → a ≡ firstOf code p from (drop from (walkOf p .tlvs)) → a ≡ findInPayload code p from
+  pub walked : isKind code ≡ true → (n : Counted) → gives n ≡ counted (walkOf p) → (a : Answer Hit) → a ≡ firstOf code p from (drop from (walkOf p .tlvs)) → a ≡ findInPayload code p from
   unfolding findInPayload findFrom
-  walked e n c a f = f ∙ rw e (Counted.follows (walkOf p .end) (length (walkOf p .tlvs)) n c (firstOf code p from (drop from (walkOf p .tlvs))))
+  walked e n c a f = f ∙ rw (e, Counts.ended-with (walkOf p) n c .0)

@@ -1,17 +1,17 @@
 -- What is claimed of finding, beside what the calls promise; proofs/Claims.antt proves it.
 use mathlib.Core.Path.{_≡_}
 use mathlib.Core.Bool.{Bool, true, false, cond}
-use mathlib.Core.List.{List, [], _∷_}
+use mathlib.Core.List.{List, [], _∷_, _++_}
 use Prim.Native.Nat.{ℕ, zero, suc, _+_, _≤_, _<_}
 use lib.Dec.{eqb}
-use lib.ListN.{length, getD, drop}
+use lib.ListN.{length, getD, take, drop}
 use Rattle.numbers.specs.Numbers.{Answer, gives, refuses, andThen, mapped, isGiven}
 use Rattle.numbers.specs.Firmness.{Firm}
 use Rattle.framing.specs.Tlv.{readTlv, valueIn}
 use Rattle.records.specs.declared.Record.{Record}
 use Rattle.kinds.specs.Kinds.{isKind, Typed, readKind}
 use Rattle.walking.specs.declared.Tlv.{Tlv}
-use Rattle.walking.specs.Walk.{walkOf, filled, noTlv}
+use Rattle.walking.specs.Walk.{isMarker, Counted, walkOf, filled, noTlv, offsetAt}
 use Rattle.finding.specs.Finding.{Hit, foundOf, placedOf, searchedOf, readsAs, findFrom, findInPayload}
 
 -- each public call by its name: any two answers that its contract allows are one
@@ -71,8 +71,11 @@ pub record OverAWalk : Type 0 where
   pub found-is-tlv : (payload : List ℕ) (code from : ℕ) (h : Hit) → gives h ≡ findFrom code (walkOf payload .tlvs) payload from
       → gives (h .reading) ≡ tlvAs code (drop (h .tlv .offset) payload)
   -- a list that is longer than the walk's, as `walk_into` leaves it, gives the same, if the payload has one
-  pub in-filled-list : (payload : List ℕ) (code n : ℕ) (lent : List Tlv) (h : Hit) → gives h ≡ findFrom code (walkOf payload .tlvs) payload 0
-      → gives h ≡ findFrom code (filled (gives n) (walkOf payload .tlvs) lent) payload 0
+  pub in-filled-list : (payload : List ℕ) (code : ℕ) (c : Counted) (lent : List Tlv) (h : Hit) → gives h ≡ findFrom code (walkOf payload .tlvs) payload 0
+      → gives h ≡ findFrom code (filled (gives c) (walkOf payload .tlvs) lent) payload 0
   -- without a list the answer is the one over the walk's list, if a walk gets through the payload
-  pub without-list : (payload : List ℕ) (code from end : ℕ) → walkOf payload .end ≡ gives end
+  pub without-list : (payload : List ℕ) (code from padding : ℕ) → walkOf payload .end ≡ gives padding
       → findInPayload code payload from ≡ findFrom code (walkOf payload .tlvs) payload from
+  -- 2026-03: padding "is not looked at": whatever else follows the marker, TLV number k of the walk, the answer is the same
+  pub not-in-padding : (payload : List ℕ) (k : ℕ) → k < length (walkOf payload .tlvs) → isMarker (getD (walkOf payload .tlvs) k noTlv) ≡ true → (other : List ℕ) (code from : ℕ)
+      → findInPayload code (take (offsetAt (walkOf payload .tlvs) k + 3) payload ++ other) from ≡ findInPayload code payload from

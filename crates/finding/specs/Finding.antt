@@ -60,11 +60,11 @@ firstOf code payload place (t ∷ ts) = thereOr (readsAs code payload t) place t
 unfoldable pub findFrom : ℕ → List Tlv → List ℕ → ℕ → Answer Hit
 findFrom code tlvs payload from = cond (isKind code) (firstOf code payload from (drop from tlvs)) (refuses 16 [])
 
--- the same over the TLVs of a payload: 16, then the walk's refusal with its offset
+-- the same over the TLVs of a payload, up to the marker: 16, then the walk's refusal with its offset
 abbrev pub searchedOf : Searched → Answer Hit
 searchedOf (Searched.Unwalked r at) = refuses (number r) (at ∷ values r)
 searchedOf (Searched.Answered f) = foundOf f
 
 unfoldable pub findInPayload : ℕ → List ℕ → ℕ → Answer Hit
 findInPayload code payload from =
-    cond (isKind code) (andThen (walkOf payload .end) (λ end. findFrom code (walkOf payload .tlvs) payload from)) (refuses 16 [])
+    cond (isKind code) (andThen (walkOf payload .end) (λ padding. findFrom code (walkOf payload .tlvs) payload from)) (refuses 16 [])

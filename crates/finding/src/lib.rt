@@ -238,7 +238,7 @@ fn look_from(t: Tlv, payload: &[u8], code: u8, place: usize, from: usize) -> Fou
     look(t, payload, code, place)
 }
 
-// The first readable TLV of the kind among those that a walk of the payload reads, from so many on.
+// The first readable TLV of the kind among those that a walk of the payload reads, from so many on. The marker is looked at like any other, and nothing behind it.
 fn search(payload: &[u8], code: u8, from: usize) -> Found
     ensures { λ r. ⌜ foundOf r ≡ firstOf code (now (payload .entry)) from (drop from (walkOf (now (payload .entry)) .tlvs)) ⌝ }
 {
@@ -257,6 +257,9 @@ fn search(payload: &[u8], code: u8, from: usize) -> Found
                 at = next;
                 place += 1;
             }
+            Stepped::Last { tlv, end: _ } => {
+                return look_from(tlv, payload, code, place, from);
+            }
             Stepped::Refused { refusal: _, at: _ } => {
                 return Found::Refused(Refusal::NotFound);
             }
@@ -270,7 +273,10 @@ pub fn find_in_payload(payload: &[u8], code: u8, from: usize) -> Searched
 {
     if kinds::is_kind(code) {
         match walking::walk(payload) {
-            Walked::Count(_) => Searched::Answered(search(payload, code, from)),
+            Walked::Count {
+                count: _,
+                padding: _,
+            } => Searched::Answered(search(payload, code, from)),
             Walked::Refused { refusal, at } => Searched::Unwalked { refusal, at },
         }
     } else {

@@ -19,6 +19,10 @@ pub past : (s : List ℕ) (n : ℕ) → n ≡ declared s → 3 ≤ length s → 
 unfolding readTlv
 past s n e h l = rw e (simp (le-ltb (length s) 3 h, lt-ltb (length s - 3) (declared s) (rw e at l)))
 
+-- the same where the header's three bytes are among both that are compared
+pub past-end : (s : List ℕ) (n : ℕ) → n ≡ declared s → 3 ≤ length s → length s < 3 + n → refuses 2 ((3 + n - length s) ∷ []) ≡ readTlv s
+past-end s n e h l = let m : 3 + n - length s ≡ n - (length s - 3) = omega arith in rw m (past s n e h (omega arith))
+
 pub whole : (s : List ℕ) (n : ℕ) → n ≡ declared s → 3 ≤ length s → n ≤ length s - 3 → gives (record { tlv-type = getD s 0 0; value-length = n; consumed = 3 + n }) ≡ readTlv s
 unfolding readTlv
 whole s n e h l = rw e (simp (le-ltb (length s) 3 h, le-ltb (length s - 3) (declared s) (rw e at l)))

@@ -57,14 +57,14 @@ pub fn read_tlv(s: &[u8]) -> Read
         return Read::Refused(Refusal::TooFewBytes(3 - s.len()));
     }
     let length = wide(s[1]) * 256 + wide(s[2]);
-    let there = s.len() - 3;
-    if there < length {
-        return Read::Refused(Refusal::RunsPastEnd(length - there));
+    let consumed = 3 + length;
+    if s.len() < consumed {
+        return Read::Refused(Refusal::RunsPastEnd(consumed - s.len()));
     }
     Read::Whole {
         tlv_type: s[0],
         length,
-        consumed: 3 + length,
+        consumed,
     }
 }
 

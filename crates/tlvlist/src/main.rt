@@ -1,5 +1,5 @@
-// Lists the TLVs of the payload on standard input, a line for each: its type and the length of its value. Then `end` and where the payload
-// ends, or `bad`, the number of the refusal, the offset of the TLV that failed and how many bytes are missing.
+// Lists the TLVs of the payload on standard input, a line for each: its type and the length of its value. Then `end` and where the message
+// ends, behind its end marker or at the payload's end, or `bad`, the number of the refusal, the offset of the TLV that failed and how many bytes are missing.
 use libc::STDIN_FILENO;
 use libc::STDOUT_FILENO;
 use walking::Stepped;
@@ -101,6 +101,11 @@ fn list(payload: &[u8], text: &mut [u8]) -> usize
             Stepped::Tlv { tlv, next } => {
                 used = put_tlv(text, used, tlv);
                 at = next;
+            }
+            Stepped::Last { tlv, end } => {
+                used = put_tlv(text, used, tlv);
+                used = with_room(text, used);
+                return put_end(text, used, end);
             }
             Stepped::Refused { refusal, at } => {
                 let missing = numbers::carried_by(refusal);

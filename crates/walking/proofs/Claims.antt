@@ -2,8 +2,9 @@
 use lib.ListN.{length}
 use Rattle.numbers.proofs.Firm.{by-equation, by-telling, both}
 use Rattle.walking.specs.Walk.{steppedOf, stepAt, walkedOf, walkOf, counted, listed, filled}
-use Rattle.walking.specs.Claims.{Firmness, WalkWritten, WalkShortfall}
+use Rattle.walking.specs.Claims.{Firmness, WalkWritten, MarkerEnds, NoMarker, WalkShortfall}
 use Rattle.walking.proofs.Firm.{stepped-one, walked-one}
+use Rattle.walking.proofs.Marked as Marked
 use Rattle.walking.proofs.Shortfall.{exact}
 use Rattle.walking.proofs.Written as Written
 
@@ -16,6 +17,12 @@ firmness = record {
 
 pub walk-written : WalkWritten
 walk-written = Written.walk-written
+
+pub marker-ends : MarkerEnds
+marker-ends = Marked.marker-ends
+
+pub no-marker : NoMarker
+no-marker = Marked.no-marker
 
 pub walk-shortfall : WalkShortfall
 walk-shortfall = exact

@@ -6,7 +6,8 @@ use native.Mathlib.Omega.{arith}
 use Rattle.numbers.specs.Numbers.{Answer, refuses, number, values}
 use Rattle.numbers.specs.declared.Refusal.{Refusal}
 use Rattle.numbers.proofs.Firm.{firm-numbered, never}
-use Rattle.walking.specs.Walk.{steppedOf, walkedOf}
+use Rattle.numbers.proofs.Answers.{given}
+use Rattle.walking.specs.Walk.{Counted, steppedOf, walkedOf}
 use Rattle.walking.specs.declared.Stepped.{Stepped}
 use Rattle.walking.specs.declared.Stepped.the-variants as Stepped
 use Rattle.walking.specs.declared.Walked.{Walked}
@@ -17,9 +18,13 @@ with-offset : {A : Type 0} (r r′ : Refusal) (at at′ : ℕ) → _≡_ {A = An
 with-offset r r′ at at′ e = (firm-numbered r r′ (cc) (cc), cc)
 
 pub walked-one : (a b : Walked) → walkedOf a ≡ walkedOf b → a ≡ b
-walked-one (Walked.Count n) (Walked.Count m) e = ap Walked.Count (cc)
-walked-one (Walked.Count n) (Walked.Refused r at) e = never _ _ _ e
-walked-one (Walked.Refused r at) (Walked.Count n) e = never _ _ _ (sym e)
+walked-one (Walked.Count n k) (Walked.Count m l) e =
+    let o = given _ _ e in
+    let i : n ≡ m = ap (λ (c : Counted). c .count) o in
+    let j : k ≡ l = ap (λ (c : Counted). c .padding) o in
+    rw (i, j)
+walked-one (Walked.Count n k) (Walked.Refused r at) e = never _ _ _ e
+walked-one (Walked.Refused r at) (Walked.Count n k) e = never _ _ _ (sym e)
 walked-one (Walked.Refused r at) (Walked.Refused r′ at′) e = let o = with-offset r r′ at at′ e in rw (o .0, o .1)
 
 pub stepped-one : (a b : Stepped) → steppedOf a ≡ steppedOf b → a ≡ b
@@ -30,8 +35,18 @@ stepped-one (Stepped.Tlv t n) (Stepped.Tlv t′ n′) e =
     let i : t ≡ t′ = cc in
     let j : n ≡ n′ = cc in
     rw (i, j)
+stepped-one Stepped.End (Stepped.Last t n) e = let z : _≡_ {A = ℕ} 0 1 = cc in absurd (omega arith)
+stepped-one (Stepped.Last t n) Stepped.End e = let z : _≡_ {A = ℕ} 0 1 = cc in absurd (omega arith)
+stepped-one (Stepped.Tlv t n) (Stepped.Last t′ n′) e = let z : _≡_ {A = ℕ} 0 1 = cc in absurd (omega arith)
+stepped-one (Stepped.Last t n) (Stepped.Tlv t′ n′) e = let z : _≡_ {A = ℕ} 0 1 = cc in absurd (omega arith)
+stepped-one (Stepped.Last t n) (Stepped.Last t′ n′) e =
+    let i : t ≡ t′ = cc in
+    let j : n ≡ n′ = cc in
+    rw (i, j)
 stepped-one Stepped.End (Stepped.Refused r at) e = never _ _ _ e
 stepped-one (Stepped.Refused r at) Stepped.End e = never _ _ _ (sym e)
 stepped-one (Stepped.Tlv t n) (Stepped.Refused r at) e = never _ _ _ e
 stepped-one (Stepped.Refused r at) (Stepped.Tlv t n) e = never _ _ _ (sym e)
+stepped-one (Stepped.Last t n) (Stepped.Refused r at) e = never _ _ _ e
+stepped-one (Stepped.Refused r at) (Stepped.Last t n) e = never _ _ _ (sym e)
 stepped-one (Stepped.Refused r at) (Stepped.Refused r′ at′) e = let o = with-offset r r′ at at′ e in rw (o .0, o .1)

@@ -5,6 +5,7 @@ pub mod Elem
 pub mod Filled
 pub mod Firm
 pub mod Listed
+pub mod Marked
 pub mod Shortfall
 pub mod Stepping
 pub mod Walking

@@ -7,31 +7,28 @@ use native.Mathlib.Omega.{arith}
 use lib.Dec.{ltb}
 use lib.ListN.{length, drop, length-append}
 use lib.Seq.{drop-append-le}
-use borrow.Author.Tests.{lt-ltb, ltb-true}
-use Rattle.numbers.specs.Numbers.{Answer, gives, refuses, andThen}
+use borrow.Author.Tests.{ltb-true}
+use Rattle.numbers.specs.Numbers.{Answer, gives, refuses, mapped}
 use Rattle.numbers.proofs.Firm.{never}
 use Rattle.framing.specs.Tlv.{TlvRead, readTlv}
-use Rattle.framing.specs.Claims.{numberIn, Missing}
+use Rattle.framing.specs.Claims.{numberIn}
 use Rattle.framing.proofs.Reading.{reads}
 use Rattle.framing.proofs.Shortfall.{longer, numbered, of-tlv}
 use Rattle.walking.specs.declared.Tlv.{Tlv}
-use Rattle.walking.specs.Walk.{Ahead, ended, passed, stepBy, stepAt, Walk, walkBy, walkFrom, walkOf, counted}
+use Rattle.walking.specs.Walk.{isMarker, Ahead, ended, passed, last, stepBy, stepAt, Walk, walkBy, walkFrom, walkOf, counted}
 use Rattle.walking.specs.Claims.{refusedAt, MissingAt}
-use Rattle.walking.proofs.Stepping.{passes, by-reading, turn, begun}
+use Rattle.walking.proofs.Listed.{ended-by}
+use Rattle.walking.proofs.Stepping.{passes, by-reading, steps, steps-same, turn}
 
 -- a TLV that reads takes its header at least
 consumes : (s : List ℕ) (t : TlvRead) → gives t ≡ readTlv s → 3 ≤ t .consumed
 consumes s t e = omega (arith, reads s t e .all)
 
 -- a count's refusal is its walk's
-ends-so : (a : Answer ℕ) (m : ℕ) → refusedAt (andThen a (λ _. gives m)) ≡ refusedAt a
-ends-so (gives e) m = refl
-ends-so (refuses n []) m = refl
-ends-so (refuses n (at ∷ vs)) m = refl
-
-ended-so : (a : Answer ℕ) (m n : ℕ) (vs : List ℕ) → andThen a (λ _. gives m) ≡ refuses n vs → a ≡ refuses n vs
-ended-so (gives e) m n vs h = never _ _ _ h
-ended-so (refuses k ws) m n vs h = h
+ends-so : {B : Type 0} (a : Answer ℕ) (f : ℕ → B) → refusedAt (mapped f a) ≡ refusedAt a
+ends-so (gives e) f = refl
+ends-so (refuses n []) f = refl
+ends-so (refuses n (at ∷ vs)) f = refl
 
 -- what a step that is refused says: a TLV was to be read there, and was refused
 record Fails (p : List ℕ) (at n : ℕ) (vs : List ℕ) : Type 0 where
@@ -60,9 +57,7 @@ stays : (p more : List ℕ) (a : ℕ) (t : Tlv) (next : ℕ) → gives (passed t
 stays p more a t next e =
     let o = passes p a t next e in
     let d : readTlv (drop a p ++ more) ≡ readTlv (drop a (p ++ more)) = ap readTlv (sym (drop-append-le a p more (omega (arith, o .behind, o .inside)))) in
-    let s = by-reading (p ++ more) a (omega (arith, o .behind, o .inside, length-append p more)) _ (longer (drop a p) more _ (o .reads-as) ∙ d) in
-    let n : next ≡ a + (3 + t .length) = omega (arith, o .behind) in
-    ap (λ (k : ℕ). gives (passed t k)) n ∙ ap (λ (k : ℕ). gives (passed (record { «tlv_type» = t .«tlv_type»; length = t .length; offset = k }) (a + (3 + t .length)))) (o .starts) ∙ s
+    steps-same p a false t next (steps p a false t next e) (p ++ more) (omega (arith, o .behind, o .inside, length-append p more)) (longer (drop a p) more _ (o .reads-as) ∙ d)
 
 -- where a walk is refused, the walk with more behind the payload comes to as well
 record Reached (p more : List ℕ) (n at k : ℕ) (w : Answer ℕ) : Type 0 where
@@ -77,13 +72,14 @@ module _ (p more : List ℕ) (n at k : ℕ) where
   reaches zero a e most′ h = never _ _ _ e
   reaches (suc most) a e most′ h = go (reaches most) (stepAt p a) refl e
     where
-      go : ((b : ℕ) → walkFrom most p b .end ≡ refuses n (at ∷ k ∷ []) → (m : ℕ) → length (p ++ more) - b ≤ m → Reached p more n at k (walkFrom m (p ++ more) b .end)) → (x : Answer Ahead) → x ≡ stepAt p a → walkBy a x (λ next. walkFrom most p next) .end ≡ refuses n (at ∷ k ∷ []) → Reached p more n at k (walkFrom most′ (p ++ more) a .end)
+      go : ((b : ℕ) → walkFrom most p b .end ≡ refuses n (at ∷ k ∷ []) → (m : ℕ) → length (p ++ more) - b ≤ m → Reached p more n at k (walkFrom m (p ++ more) b .end)) → (x : Answer Ahead) → x ≡ stepAt p a → walkBy (length p) x (λ next. walkFrom most p next) .end ≡ refuses n (at ∷ k ∷ []) → Reached p more n at k (walkFrom most′ (p ++ more) a .end)
       go later (gives ended) f e = never _ _ _ e
+      go later (gives (last t end)) f e = never _ _ _ e
       go later (gives (passed t next)) f e =
           let o = passes p a t next f in
           let r = later next e (most′ - 1) (omega (arith, o .behind)) in
           let s : walkFrom most′ (p ++ more) a .end ≡ walkFrom (most′ - 1) (p ++ more) next .end
-          = ap (λ (w : Walk). w .end) (turn most′ (p ++ more) a h ∙ ap (λ (x : Answer Ahead). walkBy a x (λ m. walkFrom (most′ - 1) (p ++ more) m)) (sym (stays p more a t next f))) in
+          = ap (λ (w : Walk). w .end) (turn most′ (p ++ more) a h ∙ ap (λ (x : Answer Ahead). walkBy (length (p ++ more)) x (λ m. walkFrom (most′ - 1) (p ++ more) m)) (sym (stays p more a t next f))) in
           record { fails-there = r .fails-there; most = r .most; enough = r .enough; same = s ∙ r .same }
       go later (refuses m vs) f e =
           let x = fails p a m vs f in
@@ -99,8 +95,9 @@ unfolding walkFrom
 not-before zero p a n at h e = let z : 0 ≡ n = ap (λ (x : ℕ × ℕ). x .0) e in absurd (omega arith)
 not-before (suc most) p a n at h e = go (λ b. not-before most p b n at h) (stepAt p a) refl e
   where
-    go : ((b : ℕ) → refusedAt (walkFrom most p b .end) ≡ (n, at) → b ≤ at) → (x : Answer Ahead) → x ≡ stepAt p a → refusedAt (walkBy a x (λ next. walkFrom most p next) .end) ≡ (n, at) → a ≤ at
+    go : ((b : ℕ) → refusedAt (walkFrom most p b .end) ≡ (n, at) → b ≤ at) → (x : Answer Ahead) → x ≡ stepAt p a → refusedAt (walkBy (length p) x (λ next. walkFrom most p next) .end) ≡ (n, at) → a ≤ at
     go later (gives ended) f e = let z : 0 ≡ n = ap (λ (x : ℕ × ℕ). x .0) e in absurd (omega arith)
+    go later (gives (last t end)) f e = let z : 0 ≡ n = ap (λ (x : ℕ × ℕ). x .0) e in absurd (omega arith)
     go later (gives (passed t next)) f e = omega (arith, passes p a t next f .behind, later next e)
     go later (refuses m vs) f e =
         let x = fails p a m vs f in
@@ -111,7 +108,7 @@ module _ (p : List ℕ) (n at missing : ℕ) (e : counted (walkOf p) ≡ refuses
   module _ (more : List ℕ) where
     reached : Reached p more n at missing (walkOf (p ++ more) .end)
     unfolding walkOf
-    reached = reaches p more n at missing (length p) 0 (ended-so _ _ _ _ e) (length (p ++ more)) (omega arith)
+    reached = reaches p more n at missing (length p) 0 (ended-by (walkOf p) _ _ (sym e)) (length (p ++ more)) (omega arith)
 
     there : Fails p at n (at ∷ missing ∷ [])
     there = fails p at n _ (reached .fails-there)
@@ -120,12 +117,12 @@ module _ (p : List ℕ) (n at missing : ℕ) (e : counted (walkOf p) ≡ refuses
     short = there .reads ∙ ap (refuses n) (sym (behind-same _ _ _ _ (there .is)))
 
     -- the walk with more behind it ends as what it finds at `at` says
-    ends-by : (a : Answer TlvRead) → a ≡ readTlv (drop at p ++ more) → refusedAt (counted (walkOf (p ++ more))) ≡ refusedAt (walkBy at (stepBy at a) (λ next. walkFrom (reached .most - 1) (p ++ more) next) .end)
+    ends-by : (a : Answer TlvRead) → a ≡ readTlv (drop at p ++ more) → refusedAt (counted (walkOf (p ++ more))) ≡ refusedAt (walkBy (length (p ++ more)) (stepBy at a) (λ next. walkFrom (reached .most - 1) (p ++ more) next) .end)
     ends-by a f =
         let d : readTlv (drop at p ++ more) ≡ readTlv (drop at (p ++ more)) = ap readTlv (sym (drop-append-le at p more (omega (arith, there .inside)))) in
         let s = by-reading (p ++ more) at (omega (arith, there .inside, length-append p more)) a (f ∙ d) in
         ends-so (walkOf (p ++ more) .end) _
-        ∙ ap refusedAt (reached .same ∙ ap (λ (w : Walk). w .end) (turn (reached .most) (p ++ more) at (reached .enough) ∙ ap (λ (x : Answer Ahead). walkBy at x (λ next. walkFrom (reached .most - 1) (p ++ more) next)) (sym s)))
+        ∙ ap refusedAt (reached .same ∙ ap (λ (w : Walk). w .end) (turn (reached .most) (p ++ more) at (reached .enough) ∙ ap (λ (x : Answer Ahead). walkBy (length (p ++ more)) x (λ next. walkFrom (reached .most - 1) (p ++ more) next)) (sym s)))
 
     again : length more < missing → refusedAt (counted (walkOf (p ++ more))) ≡ (n, at)
     again l = go (readTlv (drop at p ++ more)) refl
@@ -134,13 +131,18 @@ module _ (p : List ℕ) (n at missing : ℕ) (e : counted (walkOf p) ≡ refuses
         go (gives r) f = let z : 0 ≡ n = ap numberIn f ∙ of-tlv (drop at p) n missing short .again more l in absurd (omega (arith, numbered (drop at p) n _ short))
         go (refuses m vs) f = let z : m ≡ n = ap numberIn f ∙ of-tlv (drop at p) n missing short .again more l in ends-by (refuses m vs) f ∙ rw z
 
+    -- behind a TLV that is there the walk is not refused at `at` any more
+    not-there : (b : Bool) (t : Tlv) (next : ℕ) → at < next → refusedAt (walkBy (length (p ++ more)) (gives (cond b (last t next) (passed t next))) (λ k. walkFrom (reached .most - 1) (p ++ more) k) .end) ≡ (n, at) → ⊥
+    not-there true t next l h = let z : 0 ≡ n = ap (λ (x : ℕ × ℕ). x .0) h in omega (arith, numbered (drop at p) n _ short)
+    not-there false t next l h = omega (arith, not-before (reached .most - 1) (p ++ more) next n at (numbered (drop at p) n _ short) h)
+
     no-longer : length more ≡ missing → refusedAt (counted (walkOf (p ++ more))) ≡ (n, at) → ⊥
     no-longer l h = go (readTlv (drop at p ++ more)) refl
       where
         go : (a : Answer TlvRead) → a ≡ readTlv (drop at p ++ more) → ⊥
         go (gives r) f =
-            let b = not-before (reached .most - 1) (p ++ more) (at + r .consumed) n at (numbered (drop at p) n _ short) (sym (ends-by (gives r) f) ∙ h) in
-            omega (arith, consumes (drop at p ++ more) r f)
+            let t : Tlv = record { «tlv_type» = r .tlv-type; length = r .value-length; offset = at } in
+            not-there (isMarker t) t (at + r .consumed) (omega (arith, consumes (drop at p ++ more) r f)) (sym (ends-by (gives r) f) ∙ h)
         go (refuses m vs) f =
             let z : m ≡ n = ap (λ (x : ℕ × ℕ). x .0) (sym (ends-by (refuses m vs) f) ∙ h) in
             of-tlv (drop at p) n missing short .no-longer more l (sym (ap numberIn f) ∙ z)

@@ -4,14 +4,14 @@ use mathlib.Core.List.{List}
 use Prim.Native.Nat.{ℕ, suc, _+_, _-_, _≤_}
 use native.Mathlib.Omega.{arith}
 use lib.ListN.{length}
-use Rattle.numbers.specs.Numbers.{Answer, gives, refuses, andThen}
+use Rattle.numbers.specs.Numbers.{Answer, gives, refuses, mapped}
 use Rattle.walking.specs.declared.Tlv.{Tlv}
-use Rattle.walking.specs.Walk.{Ahead, ended, passed, stepAt, Walk, walkBy, walkFrom, walkOf, counted}
+use Rattle.walking.specs.Walk.{Ahead, ended, passed, last, Counted, stepAt, Walk, walkBy, walkFrom, walkOf, counted}
 use Rattle.walking.proofs.Stepping.{passes, turn}
 
 -- the answer of a walk w that had passed k TLVs before it
-abbrev countedFrom : ℕ → Walk → Answer ℕ
-countedFrom k w = andThen (w .end) (λ _. gives (k + length (w .tlvs)))
+abbrev countedFrom : ℕ → Walk → Answer Counted
+countedFrom k w = mapped (λ padding. record { count = k + length (w .tlvs); padding = padding }) (w .end)
 
 pub record Walking (p : List ℕ) (at k : ℕ) : Type 0 where
   pub within : at ≤ length p
@@ -27,7 +27,7 @@ begins p = record {
   few = omega arith;
   most = length p;
   enough = omega arith;
-  will = ap (λ (n : ℕ). andThen (walkFrom (length p) p 0 .end) (λ _. gives n)) (omega arith);
+  will = ap (λ (n : ℕ). mapped (λ (k : ℕ). record { count = n; padding = k }) (walkFrom (length p) p 0 .end)) (omega arith);
 }
 
 module _ (p : List ℕ) (at k : ℕ) (w : Walking p at k) where
@@ -35,11 +35,14 @@ module _ (p : List ℕ) (at k : ℕ) (w : Walking p at k) where
   on next = walkFrom (w .most - 1) p next
 
   -- what the step at `at` finds, the walk answers by
-  by-step : (a : Answer Ahead) → a ≡ stepAt p at → countedFrom k (walkBy at a on) ≡ counted (walkOf p)
-  by-step a e = ap (λ (x : Answer Ahead). countedFrom k (walkBy at x on)) e ∙ sym (ap (countedFrom k) (turn (w .most) p at (w .enough))) ∙ w .will
+  by-step : (a : Answer Ahead) → a ≡ stepAt p at → countedFrom k (walkBy (length p) a on) ≡ counted (walkOf p)
+  by-step a e = ap (λ (x : Answer Ahead). countedFrom k (walkBy (length p) x on)) e ∙ sym (ap (countedFrom k) (turn (w .most) p at (w .enough))) ∙ w .will
 
-  pub ends : gives ended ≡ stepAt p at → gives k ≡ counted (walkOf p)
-  ends e = let n : k ≡ k + 0 = omega arith in ap gives n ∙ by-step (gives ended) e
+  pub ends : gives ended ≡ stepAt p at → gives (record { count = k; padding = 0 }) ≡ counted (walkOf p)
+  ends e = let n : k ≡ k + 0 = omega arith in ap (λ (m : ℕ). gives (record { count = m; padding = 0 })) n ∙ by-step (gives ended) e
+
+  pub ends-at : (t : Tlv) (end : ℕ) → gives (last t end) ≡ stepAt p at → gives (record { count = k + 1; padding = length p - end }) ≡ counted (walkOf p)
+  ends-at t end e = by-step (gives (last t end)) e
 
   pub stops : (n : ℕ) (vs : List ℕ) → refuses n vs ≡ stepAt p at → refuses n vs ≡ counted (walkOf p)
   stops n vs e = by-step (refuses n vs) e
@@ -53,5 +56,5 @@ module _ (p : List ℕ) (at k : ℕ) (w : Walking p at k) where
         few = omega (arith, o .behind, w .few);
         most = w .most - 1;
         enough = omega (arith, o .behind, w .enough);
-        will = ap (λ (m : ℕ). andThen (on next .end) (λ _. gives m)) n ∙ by-step (gives (passed t next)) e;
+        will = ap (λ (m : ℕ). mapped (λ (l : ℕ). record { count = m; padding = l }) (on next .end)) n ∙ by-step (gives (passed t next)) e;
       }

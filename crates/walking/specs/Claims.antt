@@ -1,15 +1,16 @@
 -- What is claimed of this crate's calls; proofs/Claims.antt proves it.
 use mathlib.Core.Path.{_≡_}
+use mathlib.Core.Bool.{true, false}
 use mathlib.Core.List.{List, [], _∷_, _++_}
-use Prim.Native.Nat.{ℕ, _+_, _<_}
-use lib.ListN.{length, take, drop}
+use Prim.Native.Nat.{ℕ, _+_, _-_, _<_, _≤_}
+use lib.ListN.{length, take, drop, getD}
 use Rattle.numbers.specs.Numbers.{Answer, gives, refuses}
 use Rattle.numbers.specs.Firmness.{Firm}
 use Rattle.framing.specs.Tlv.{tlvBytes}
 use Rattle.framing.specs.Claims.{Bytes}
 use Rattle.walking.specs.declared.Tlv.{Tlv}
 use Rattle.walking.specs.declared.Walked.{Walked}
-use Rattle.walking.specs.Walk.{steppedOf, stepAt, walkedOf, walkOf, counted, listed, filled}
+use Rattle.walking.specs.Walk.{isMarker, steppedOf, stepAt, walkedOf, walkOf, counted, noTlv, offsetAt, listed, filled}
 
 -- each public call by its name: any two outcomes that its contract allows are one
 pub record Firmness : Type 0 where
@@ -26,9 +27,22 @@ abbrev pub written : List ℕ → List Tlv → List ℕ
 written p [] = []
 written p (t ∷ ts) = tlvOf p t ++ written p ts
 
--- The TLVs of a walk that succeeds, written again, are the payload, byte for byte, and it ends at the payload's end.
+-- The TLVs of a walk that succeeds, written one behind the other, and then the padding, the payload's last bytes, are the payload, byte for byte.
 abbrev pub WalkWritten : Type 0
-WalkWritten = (p : List ℕ) → Bytes p → (end : ℕ) → walkOf p .end ≡ gives end → (written p (walkOf p .tlvs) ≡ p) × (end ≡ length p)
+WalkWritten = (p : List ℕ) → Bytes p → (padding : ℕ) → walkOf p .end ≡ gives padding → (written p (walkOf p .tlvs) ++ drop (length p - padding) p ≡ p) × (padding ≤ length p)
+
+-- 2026-03: "The message ends with the first TLV of type 0 and length 0; what follows is padding, is not looked at, and its length is given." A marker among the TLVs of a walk is their
+-- last, and whatever else follows it, more bytes or fewer, a walk has the same TLVs and gives how many bytes follow.
+pub record Ends (p : List ℕ) (tlvs : List Tlv) (k : ℕ) : Type 0 where
+  pub is-last : k + 1 ≡ length tlvs
+  pub not-looked-at : (other : List ℕ) → walkOf (take (offsetAt tlvs k + 3) p ++ other) ≡ record { tlvs = tlvs; end = gives (length other) }
+
+abbrev pub MarkerEnds : Type 0
+MarkerEnds = (p : List ℕ) (k : ℕ) → k < length (walkOf p .tlvs) → isMarker (getD (walkOf p .tlvs) k noTlv) ≡ true → Ends p (walkOf p .tlvs) k
+
+-- "A payload without that marker is walked to its end as before, padding 0."
+abbrev pub NoMarker : Type 0
+NoMarker = (p : List ℕ) (padding : ℕ) → walkOf p .end ≡ gives padding → ((k : ℕ) → k < length (walkOf p .tlvs) → isMarker (getD (walkOf p .tlvs) k noTlv) ≡ false) → padding ≡ 0
 
 -- 2026-01: "the bytes that must be added before that same number would no longer be given", of a walk at the same offset: the number and the offset of a refusal, 0 and 0 where there is none
 abbrev pub refusedAt : {A : Type 0} → Answer A → ℕ × ℕ

@@ -1,11 +1,12 @@
-// The walk over a payload's TLVs, counted and, in a second form, listed in a slice that the caller lends.
+// The walk over a payload's TLVs, counted and, in a second form, listed in a slice that the caller lends. It ends with the end marker, the first TLV of
+// type 0 and length 0: what follows that is padding and not looked at.
 use framing::Read;
 use numbers::Refusal;
 ghost use mathlib.Core.Path.{_≡_};
 ghost use mathlib.Core.List.{_++_};
 ghost use Prim.Native.Nat.{_<_, _≤_};
 ghost use lib.ListN.{length, take, drop};
-ghost use Rattle.walking.specs.Walk.{steppedOf, stepAt, walkedOf, walkOf, counted, listed, filled, offsetAt};
+ghost use Rattle.walking.specs.Walk.{isMarker, steppedOf, stepAt, walkedOf, walkOf, counted, listed, filled, offsetAt};
 ghost use Rattle.walking.specs.PrivateSteps.{Plan, Fillable, tlvBy, nextTo};
 
 // A TLV of a payload, as a walk lists it: its type, the length of its value, and the offset of its type byte.
@@ -16,17 +17,30 @@ pub struct Tlv {
     pub offset: usize,
 }
 
-// How many TLVs a payload has, or the refusal with the offset of the TLV that failed; of a list too short, of the first without a place.
+// How many TLVs a payload has and how many bytes of padding follow them, or the refusal with the offset of the TLV that failed; of a list too short, of the
+// first without a place.
 pub enum Walked {
-    Count(usize),
+    Count { count: usize, padding: usize },
     Refused { refusal: Refusal, at: usize },
 }
 
-// What a step of the walk finds: the payload's end, or a TLV and where the next step is taken, or the refusal with the offset of the TLV that failed.
+// What a step of the walk finds: the payload's end; a TLV and where the next step is taken; the marker, which is the message's last TLV, and where the message
+// ends; or the refusal with the offset of the TLV that failed.
 pub enum Stepped {
     End,
     Tlv { tlv: Tlv, next: usize },
+    Last { tlv: Tlv, end: usize },
     Refused { refusal: Refusal, at: usize },
+}
+
+// Is this TLV the marker that ends a message?
+fn is_marker(t: Tlv) -> bool
+    ensures { λ r. ⌜ r ≡ isMarker t ⌝ }
+{
+    if t.tlv_type == 0 {
+        return t.length == 0;
+    }
+    false
 }
 
 // One step of the walk, at the offset `at`. Whoever goes over a payload's TLVs goes by this step, from 0 on: where a walk ends is said here alone.
@@ -47,6 +61,10 @@ pub fn step(payload: &[u8], at: usize) -> Stepped
                 length: length as u16,
                 offset: at,
             };
+            // The marker has no value: the message ends behind its three bytes.
+            if is_marker(tlv) {
+                return Stepped::Last { tlv, end: at + 3 };
+            }
             Stepped::Tlv {
                 tlv,
                 next: at + consumed,
@@ -56,7 +74,7 @@ pub fn step(payload: &[u8], at: usize) -> Stepped
     }
 }
 
-// The TLVs of a payload, counted.
+// The TLVs of a payload, counted, and the length of the padding.
 pub fn walk(payload: &[u8]) -> Walked
     ensures { λ r. ⌜ walkedOf r ≡ counted (walkOf (now (payload .entry))) ⌝ }
 {
@@ -65,11 +83,17 @@ pub fn walk(payload: &[u8]) -> Walked
     loop {
         match step(payload, at) {
             Stepped::End => {
-                return Walked::Count(count);
+                return Walked::Count { count, padding: 0 };
             }
             Stepped::Tlv { tlv: _, next } => {
                 at = next;
                 count += 1;
+            }
+            Stepped::Last { tlv: _, end } => {
+                return Walked::Count {
+                    count: count + 1,
+                    padding: payload.len() - end,
+                };
             }
             Stepped::Refused { refusal, at } => {
                 return Walked::Refused { refusal, at };
@@ -90,6 +114,7 @@ fn tlv_at(payload: &[u8], at: usize) -> Tlv
     match step(payload, at) {
         Stepped::End => none,
         Stepped::Tlv { tlv, next: _ } => tlv,
+        Stepped::Last { tlv, end: _ } => tlv,
         Stepped::Refused { refusal: _, at: _ } => none,
     }
 }
@@ -128,7 +153,7 @@ fn plan(payload: &[u8], room: usize) -> Planned
 {
     let first = tlv_at(payload, 0);
     match walk(payload) {
-        Walked::Count(count) => {
+        Walked::Count { count, padding } => {
             if room < count {
                 let at = offset_of(payload, room);
                 let answer = Walked::Refused {
@@ -142,7 +167,7 @@ fn plan(payload: &[u8], room: usize) -> Planned
                 };
             }
             let entries = count;
-            let answer = Walked::Count(count);
+            let answer = Walked::Count { count, padding };
             Planned {
                 count: entries,
                 first,

@@ -6,7 +6,7 @@ use borrow.Author.Needs.{needs}
 use lib.ListN.{length}
 use Rattle.walking.specs.Walk.{steppedOf}
 use Rattle.walking.proofs.Stepping.{passes}
-use Rattle.finding.proofs.Searching.{Searching, begins, ends, stops, goes-on, found}
+use Rattle.finding.proofs.Searching.{Searching, begins, ends, stops, at-marker, goes-on, found}
 use Rattle.finding.proofs.search.Statement.{statement}
 use Rattle.finding.proofs.search.Tie as tie
 
@@ -53,11 +53,20 @@ loop-less c =
 loop-again : tie.Need-loop-again Inv-loop μ-loop
 loop-again c = goes-on _ _ _ _ _ (c .before .before .before .before .before .before .before .loop .inv) _ _ (ap steppedOf (sym (c .before .before .before .before .tlv .given .1)) ∙ c .before .before .before .before .before .before .step .ensures) _ (c .before .before .look-from .ensures) (sym (c .before .is-hit .ensures) ∙ c .if1 .left)
 
+enum-known-tlv-2 : tie.Need-enum-known-tlv-2 Inv-loop μ-loop
+enum-known-tlv-2 c = search needs
+
+look-from-requires-2 : tie.Need-look-from-requires-2 Inv-loop μ-loop
+look-from-requires-2 c κs = search needs
+
+returns-3 : tie.Need-returns-3 Inv-loop μ-loop
+returns-3 c = at-marker _ _ _ _ _ (c .before .before .before .before .before .loop .inv) _ _ (ap steppedOf (sym (c .before .before .tlv2 .given .1)) ∙ c .before .before .before .before .step .ensures) _ (c .look-from2 .ensures)
+
 enum-told-2 : tie.Need-enum-told-2 Inv-loop μ-loop
 enum-told-2 c = search needs
 
-returns-3 : tie.Need-returns-3 Inv-loop μ-loop
-returns-3 c = stops _ _ _ _ _ (c .before .before .before .loop .inv) _ _ (ap steppedOf (sym (c .enum-told2 .given .1)) ∙ c .before .before .step .ensures)
+returns-4 : tie.Need-returns-4 Inv-loop μ-loop
+returns-4 c = stops _ _ _ _ _ (c .before .before .before .loop .inv) _ _ (ap steppedOf (sym (c .enum-told2 .given .1)) ∙ c .before .before .step .ensures)
 
 pub search-spec : {M : Type 1} → statement M
 search-spec =
@@ -76,5 +85,8 @@ search-spec =
     add-place
     loop-less
     loop-again
+    enum-known-tlv-2
+    look-from-requires-2
+    returns-3
     enum-told-2
-    returns-3)
+    returns-4)

@@ -48,6 +48,24 @@ loop-less c = let o = passes _ _ _ _ (ap steppedOf (sym (c .before .before .befo
 loop-again : tie.Need-loop-again Inv-loop μ-loop
 loop-again c = ((passes _ _ _ _ (ap steppedOf (sym (c .before .before .before .before .before .tlv .given .1)) ∙ c .before .before .before .before .before .before .before .step .ensures)) .inside, search needs, search needs)
 
+enum-known-tlv-2 : tie.Need-enum-known-tlv-2 Inv-loop μ-loop
+enum-known-tlv-2 c = search needs
+
+put-tlv-requires-2 : tie.Need-put-tlv-requires-2 Inv-loop μ-loop
+put-tlv-requires-2 c κs = search needs
+
+with-room-requires-2 : tie.Need-with-room-requires-2 Inv-loop μ-loop
+with-room-requires-2 c κs = search needs
+
+put-end-requires-2 : tie.Need-put-end-requires-2 Inv-loop μ-loop
+put-end-requires-2 c κs = search needs
+
+same-length-2 : tie.Need-same-length-2 Inv-loop μ-loop
+same-length-2 c = search needs
+
+returns-2 : tie.Need-returns-2 Inv-loop μ-loop
+returns-2 c = search needs
+
 enum-known-refusal : tie.Need-enum-known-refusal Inv-loop μ-loop
 enum-known-refusal c = search needs
 
@@ -60,11 +78,11 @@ number-of-requires c κs = search needs
 put-bad-requires : tie.Need-put-bad-requires Inv-loop μ-loop
 put-bad-requires c κs = search needs
 
-same-length-2 : tie.Need-same-length-2 Inv-loop μ-loop
-same-length-2 c = search needs
+same-length-3 : tie.Need-same-length-3 Inv-loop μ-loop
+same-length-3 c = search needs
 
-returns-2 : tie.Need-returns-2 Inv-loop μ-loop
-returns-2 c = search needs
+returns-3 : tie.Need-returns-3 Inv-loop μ-loop
+returns-3 c = search needs
 
 pub list-spec : {M : Type 1} → statement M
 list-spec =
@@ -83,9 +101,15 @@ list-spec =
     put-tlv-requires
     loop-less
     loop-again
+    enum-known-tlv-2
+    put-tlv-requires-2
+    with-room-requires-2
+    put-end-requires-2
+    same-length-2
+    returns-2
     enum-known-refusal
     carried-by-requires
     number-of-requires
     put-bad-requires
-    same-length-2
-    returns-2)
+    same-length-3
+    returns-3)

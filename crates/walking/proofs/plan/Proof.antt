@@ -4,7 +4,7 @@ use native.Mathlib.Omega.{arith}
 use Rattle.walking.specs.Walk.{walkedOf, walkOf}
 use Rattle.walking.specs.PrivateSteps.{fills}
 use Rattle.walking.proofs.Filled.{is-first}
-use Rattle.walking.proofs.Listed.{refused, is-count, too-short, enough}
+use Rattle.walking.proofs.Listed.{ended-with, refused, too-short, enough}
 use borrow.Author.Needs.{needs}
 use Rattle.walking.proofs.plan.Statement.{statement}
 use Rattle.walking.proofs.plan.Tie as tie
@@ -19,7 +19,7 @@ enum-known-count : tie.Need-enum-known-count
 enum-known-count c = search needs
 
 offset-of-requires : tie.Need-offset-of-requires
-offset-of-requires c κs = omega (arith, is-count (walkOf (c .before .before .before .before .before .before .before .args .payload .now)) _ (ap walkedOf (sym (c .before .before .count .given .1)) ∙ c .before .before .before .before .walk .ensures))
+offset-of-requires c κs = omega (arith, ended-with (walkOf (c .before .before .before .before .before .before .before .args .payload .now)) _ (ap walkedOf (sym (c .before .before .count .given .1)) ∙ c .before .before .before .before .walk .ensures) .1)
 
 returns : tie.Need-returns
 returns c =

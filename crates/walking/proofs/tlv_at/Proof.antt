@@ -15,6 +15,9 @@ enum-told c = search needs
 enum-known-tlv : tie.Need-enum-known-tlv
 enum-known-tlv c = search needs
 
+enum-known-tlv-2 : tie.Need-enum-known-tlv-2
+enum-known-tlv-2 c = search needs
+
 enum-told-2 : tie.Need-enum-told-2
 enum-told-2 c = search needs
 
@@ -25,7 +28,21 @@ returns-2 : tie.Need-returns-2
 returns-2 c = ap tlvBy (ap steppedOf (sym (c .before .tlv .given .1)) ∙ c .before .before .before .step .ensures)
 
 returns-3 : tie.Need-returns-3
-returns-3 c = ap tlvBy (ap steppedOf (sym (c .enum-told2 .given .1)) ∙ c .before .before .step .ensures)
+returns-3 c = ap tlvBy (ap steppedOf (sym (c .before .tlv2 .given .1)) ∙ c .before .before .before .step .ensures)
+
+returns-4 : tie.Need-returns-4
+returns-4 c = ap tlvBy (ap steppedOf (sym (c .enum-told2 .given .1)) ∙ c .before .before .step .ensures)
 
 pub tlv-at-spec : {M : Type 1} → statement M
-tlv-at-spec = tie.close (tie.spec step-requires enum-told enum-known-tlv enum-told-2 returns returns-2 returns-3)
+tlv-at-spec =
+    tie.close
+    (tie.spec
+    step-requires
+    enum-told
+    enum-known-tlv
+    enum-known-tlv-2
+    enum-told-2
+    returns
+    returns-2
+    returns-3
+    returns-4)

@@ -5,8 +5,8 @@ use borrow.Author.Needs.{needs}
 use native.Mathlib.Omega.{arith}
 use lib.ListN.{length}
 use Rattle.walking.specs.Walk.{steppedOf}
-use Rattle.walking.proofs.Stepping.{passes}
-use Rattle.walking.proofs.Walking.{Walking, begins, ends, stops, goes-on}
+use Rattle.walking.proofs.Stepping.{passes, lasts}
+use Rattle.walking.proofs.Walking.{Walking, begins, ends, ends-at, stops, goes-on}
 use Rattle.walking.proofs.walk.Statement.{statement}
 use Rattle.walking.proofs.walk.Tie as tie
 
@@ -44,11 +44,25 @@ loop-less c =
 loop-again : tie.Need-loop-again Inv-loop μ-loop
 loop-again c = goes-on _ _ _ (c .before .before .before .before .loop .inv) _ _ (ap steppedOf (sym (c .before .next .given .1)) ∙ c .before .before .before .step .ensures)
 
+enum-known-end : tie.Need-enum-known-end Inv-loop μ-loop
+enum-known-end c = search needs
+
+add-t9 : tie.Need-add-t9 Inv-loop μ-loop
+add-t9 c =
+    let o = lasts _ _ _ _ (ap steppedOf (sym (c .before .end .given .1)) ∙ c .before .before .before .step .ensures) in
+    omega (arith, o .behind, o .inside, c .before .before .before .before .loop .inv .few)
+
+sub-t11 : tie.Need-sub-t11 Inv-loop μ-loop
+sub-t11 c = (lasts _ _ _ _ (ap steppedOf (sym (c .before .end .given .1)) ∙ c .before .before .before .step .ensures)) .inside
+
+returns-2 : tie.Need-returns-2 Inv-loop μ-loop
+returns-2 c = ends-at _ _ _ (c .before .before .before .before .loop .inv) _ _ (ap steppedOf (sym (c .before .end .given .1)) ∙ c .before .before .before .step .ensures)
+
 enum-known-refusal : tie.Need-enum-known-refusal Inv-loop μ-loop
 enum-known-refusal c = search needs
 
-returns-2 : tie.Need-returns-2 Inv-loop μ-loop
-returns-2 c = stops _ _ _ (c .before .before .before .before .loop .inv) _ _ (ap steppedOf (sym (c .before .refusal .given .1)) ∙ c .before .before .before .step .ensures)
+returns-3 : tie.Need-returns-3 Inv-loop μ-loop
+returns-3 c = stops _ _ _ (c .before .before .before .before .loop .inv) _ _ (ap steppedOf (sym (c .before .refusal .given .1)) ∙ c .before .before .before .step .ensures)
 
 pub walk-spec : {M : Type 1} → statement M
 walk-spec =
@@ -64,5 +78,9 @@ walk-spec =
     add-count
     loop-less
     loop-again
+    enum-known-end
+    add-t9
+    sub-t11
+    returns-2
     enum-known-refusal
-    returns-2)
+    returns-3)

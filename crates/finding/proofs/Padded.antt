@@ -1,0 +1,82 @@
+-- What follows the marker is not searched: records that lie inside the message read the same, whatever follows it.
+use mathlib.Core.Path.{_≡_, refl, sym, ap, _∙_, subst}
+use mathlib.Core.Bool.{Bool, true, false, cond}
+use mathlib.Core.List.{List, [], _∷_, _++_}
+use Prim.Native.Nat.{ℕ, suc, _+_, _<_, _≤_}
+use native.Mathlib.Omega.{arith}
+use lib.ListN.{length, take, drop, getD, length-append, length-drop, take-append-drop}
+use lib.Seq.{take-append-le, drop-append-le, getD-drop}
+use borrow.Author.Tests.{le-leb}
+use Rattle.numbers.specs.Numbers.{Answer, gives, refuses}
+use Rattle.records.specs.declared.Record.{Record}
+use Rattle.kinds.specs.Kinds.{isKind, Typed}
+use Rattle.walking.specs.declared.Tlv.{Tlv}
+use Rattle.walking.specs.Walk.{isMarker, Walk, walkOf, noTlv, offsetAt}
+use Rattle.walking.specs.Claims.{Ends}
+use Rattle.walking.proofs.Chained.{of-walk, stands}
+use Rattle.walking.proofs.Claims.{marker-ends}
+use Rattle.finding.specs.Finding.{readsAs, valueOf, thereOr, firstOf, findFrom, findInPayload}
+use Rattle.finding.proofs.Passing.{first-nil, first-cons}
+
+-- every one of these records lies inside so many bytes
+abbrev Inside : ℕ → List Tlv → Type 0
+Inside size ts = (i : ℕ) → i < length ts → getD ts i noTlv .offset + 3 + getD ts i noTlv .length ≤ size
+
+inside-drop : (size from : ℕ) (ts : List Tlv) → Inside size ts → Inside size (drop from ts)
+inside-drop size from ts h i l =
+    subst (λ (t : Tlv). t .offset + 3 + t .length ≤ size) (sym (getD-drop from ts i noTlv)) (h (from + i) (omega (arith, length-drop from ts)))
+
+module _ (code : ℕ) (message other : List ℕ) where
+  reads-same : (t : Tlv) → t .offset + 3 + t .length ≤ length message → readsAs code (message ++ other) t ≡ readsAs code message t
+  unfolding readsAs
+  reads-same t h =
+      let v : valueOf (message ++ other) t ≡ valueOf message t
+      = ap (take (t .length)) (drop-append-le (t .offset + 3) message other (omega arith)) ∙ take-append-le (t .length) (drop (t .offset + 3) message) other (omega (arith, length-drop (t .offset + 3) message)) in
+      let l = le-leb (t .offset + 3 + t .length) (length (message ++ other)) (omega (arith, length-append message other)) in
+      let l′ = le-leb (t .offset + 3 + t .length) (length message) h in
+      rw (v, l, l′)
+
+  first-same : (place : ℕ) (ts : List Tlv) → Inside (length message) ts → firstOf code (message ++ other) place ts ≡ firstOf code message place ts
+  first-same place [] h = first-nil code (message ++ other) place ∙ sym (first-nil code message place)
+  first-same place (t ∷ ts) h =
+      first-cons code (message ++ other) place t ts
+      ∙ ap (λ (x : Answer (Typed Record)). thereOr x place t (firstOf code (message ++ other) (place + 1) ts)) (reads-same t (h 0 (omega arith)))
+      ∙ ap (thereOr (readsAs code message t) place t) (first-same (place + 1) ts (λ i l. h (suc i) (omega arith)))
+      ∙ sym (first-cons code message place t ts)
+
+  -- the search through a message whose walk has these TLVs
+  searched : (from : ℕ) (w : Walk) → walkOf (message ++ other) ≡ w → (padding : ℕ) → w .end ≡ gives padding → Inside (length message) (w .tlvs)
+      → findInPayload code (message ++ other) from ≡ cond (isKind code) (firstOf code message from (drop from (w .tlvs))) (refuses 16 [])
+  unfolding findInPayload findFrom
+  searched from w e padding g h = rw (e, g, first-same from (drop from (w .tlvs)) (inside-drop (length message) from (w .tlvs) h)) (twice (isKind code))
+    where
+      twice : (b : Bool) → cond b (cond b (firstOf code message from (drop from (w .tlvs))) (refuses 16 [])) (refuses 16 []) ≡ cond b (firstOf code message from (drop from (w .tlvs))) (refuses 16 [])
+      twice true = refl
+      twice false = refl
+
+module _ (p : List ℕ) (k : ℕ) (l : k < length (walkOf p .tlvs)) (m : isMarker (getD (walkOf p .tlvs) k noTlv) ≡ true) where
+  abbrev ts : List Tlv
+  ts = walkOf p .tlvs
+
+  abbrev message : List ℕ
+  message = take (offsetAt ts k + 3) p
+
+  ends : Ends p ts k
+  ends = marker-ends p k l m
+
+  inside : Inside (length message) ts
+  inside i h =
+      let w = ends .not-looked-at [] in
+      let same : walkOf (message ++ []) .tlvs ≡ ts = ap (λ (v : Walk). v .tlvs) w in
+      let h′ : i < length (walkOf (message ++ []) .tlvs) = subst (λ (us : List Tlv). i < length us) (sym same) h in
+      let far = stands (message ++ []) (of-walk (message ++ [])) i h′ .inside in
+      let size : length (message ++ []) ≡ length message = omega (arith, length-append message []) in
+      subst (λ (us : List Tlv). getD us i noTlv .offset + 3 + getD us i noTlv .length ≤ length message) same (omega arith)
+
+  alone : (other : List ℕ) (code from : ℕ) → findInPayload code (message ++ other) from ≡ cond (isKind code) (firstOf code message from (drop from ts)) (refuses 16 [])
+  alone other code from = searched code message other from _ (ends .not-looked-at other) (length other) refl inside
+
+  pub not-in-padding : (other : List ℕ) (code from : ℕ) → findInPayload code (message ++ other) from ≡ findInPayload code p from
+  not-in-padding other code from =
+      alone other code from ∙ sym (alone (drop (offsetAt ts k + 3) p) code from)
+      ∙ ap (λ (q : List ℕ). findInPayload code q from) (take-append-drop (offsetAt ts k + 3) p)
