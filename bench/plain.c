@@ -10,13 +10,14 @@ AshlarHeader plain_read_header(const uint8_t *p, size_t n) {
 AshlarWalk plain_walk(const uint8_t *p, size_t n) {
     size_t at = 0, count = 0;
     while (at < n) {
-        if (n - at < 3) return (AshlarWalk){0, at, 3 - (n - at), 1};
+        if (n - at < 3) return (AshlarWalk){.at = at, .shortfall = 3 - (n - at), .refusal = 1};
         size_t length = (size_t)p[at + 1] << 8 | p[at + 2];
-        if (n - at - 3 < length) return (AshlarWalk){0, at, length - (n - at - 3), 2};
-        at += 3 + length;
+        if (n - at - 3 < length) return (AshlarWalk){.at = at, .shortfall = length - (n - at - 3), .refusal = 2};
         count++;
+        if (!p[at] && !length) return (AshlarWalk){.count = count, .padding = n - at - 3};
+        at += 3 + length;
     }
-    return (AshlarWalk){count, 0, 0, 0};
+    return (AshlarWalk){.count = count};
 }
 
 /* One pass checks and one fills, since a refusal leaves the list as lent. */
@@ -26,7 +27,7 @@ AshlarWalk plain_walk_into(AshlarTlv *list, size_t room, const uint8_t *p, size_
     size_t at = 0;
     if (room < w.count) {
         for (size_t i = 0; i < room; i++) at += 3 + ((size_t)p[at + 1] << 8 | p[at + 2]);
-        return (AshlarWalk){0, at, 0, 14};
+        return (AshlarWalk){.at = at, .refusal = 14};
     }
     for (size_t i = 0; i < w.count; i++) {
         uint16_t length = (uint16_t)(p[at + 1] << 8 | p[at + 2]);

@@ -54,12 +54,14 @@ int main(void) {
     for (ssize_t k; n < sizeof payload && (k = read(0, payload + n, sizeof payload - n)) > 0;) n += (size_t)k;
     unsigned bad = n > 47744 ? 12 : 0;
     size_t missing = 0;
-    while (!bad && at < n) {
+    int marker = 0;
+    while (!bad && !marker && at < n) {
         size_t length = n - at < 3 ? 0 : (size_t)payload[at + 1] << 8 | payload[at + 2];
         if (n - at < 3) bad = 1, missing = 3 - (n - at);
         else if (n - at - 3 < length) bad = 2, missing = length - (n - at - 3);
         else {
             put_line("", payload[at], " ", length);
+            marker = !payload[at] && !length;
             at += 3 + length;
         }
     }

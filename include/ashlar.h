@@ -1,8 +1,9 @@
 /* Ashlargale for C: messages of IEEE 1905.1 and Wi-Fi Multi-AP taken apart, and put together from fragments.
 
    What a frame carries (a CMDU) begins with a header of eight bytes, which ashlar_read_header reads. Behind it stands the payload.
-   The payload of a message is a row of TLVs: a type byte, the length of the value in two bytes, the higher one first, and the value. ashlar_walk counts them and
-   ashlar_walk_into lists them; ashlar_find looks in such a list for a TLV of one of 21 kinds, and ashlar_read_kind reads the value of one.
+   The payload of a message is a row of TLVs: a type byte, the length of the value in two bytes, the higher one first, and the value. The last one is the end marker, of
+   type 0 and without a value; what a bridge may have added behind it is padding. ashlar_walk counts the TLVs and ashlar_walk_into lists them; ashlar_find looks in such
+   a list for a TLV of one of 21 kinds, and ashlar_read_kind reads the value of one.
    A message longer than a frame comes in fragments, numbered from 0, the last one marked: ashlar_push keeps them in a table and joins them, ashlar_show says
    where the message lies, and ashlar_sweep drops what has waited for three seconds.
    Which access point is the phone on? Access points tell the controller which stations (phones, laptops) join and leave them, each time by a TLV of kind 0x92. A table of
@@ -123,9 +124,10 @@ typedef struct {
     uint8_t refusal;       /* an AshlarRefusal */
 } AshlarHeader;
 
-/* What a walk answers. */
+/* What a walk answers. It ends with the first TLV of type 0 and length 0, the message's end marker; without one, at the payload's end. */
 typedef struct {
-    size_t count;     /* how many TLVs the payload has; 0 where refused */
+    size_t count;     /* how many TLVs the message has, its marker among them; 0 where refused */
+    size_t padding;   /* how many bytes of the payload follow the marker: they are not looked at, and belong to no TLV; 0 without a marker, or where refused */
     size_t at;        /* where refused, the offset of the TLV that can't be read (1, 2) or has no element (14); else 0 */
     size_t shortfall; /* of 1 and 2, how many bytes are missing: with any fewer behind the payload the same is refused again, with any as many it isn't; else 0 */
     uint8_t refusal;  /* an AshlarRefusal */
@@ -261,10 +263,10 @@ typedef struct {
 /* The header of a CMDU, which is the first eight of the bytes; what stands behind these is not looked at. Refusals: 1. */
 AshlarHeader ashlar_read_header(const uint8_t *bytes, size_t bytes_length);
 
-/* The TLVs of a payload, counted. Refusals: 1, 2. */
+/* The TLVs of a payload up to its end marker, counted, and the length of the padding behind it. Refusals: 1, 2. */
 AshlarWalk ashlar_walk(const uint8_t *payload, size_t payload_length);
 
-/* The TLVs of a payload, counted, and listed in the first elements of `list`, which has `list_length`; the others stay as they are. Refusals: 1, 2, 14. */
+/* The same TLVs, listed too in the first elements of `list`, which has `list_length`; the others stay as they are. Refusals: 1, 2, 14. */
 AshlarWalk ashlar_walk_into(AshlarTlv *list, size_t list_length, const uint8_t *payload, size_t payload_length);
 
 /* The value of a TLV, read as the kind with this code. Refusals: 3, 4, 5, 16. */

@@ -58,21 +58,6 @@ def single_fragment_checked(words, original, ours, before):
     return last not in (None, (0, 0))
 
 
-def walk_ends_at_marker(words, original, ours, before):
-    """The original's own walk is the walk to the end of what stands up to and including the first end marker."""
-    if words[0] != "g":
-        return False
-    data, at = model.to_bytes(words[1]), 0
-    while True:
-        try:
-            kind, length, used = model.read_tlv(data, at)
-        except model.Refused:
-            return False
-        at += used
-        if (kind, length) == (0, 0):
-            return at < len(data) and original == model.listed(model.walk(data[:at]))
-
-
 def sweep_of_number_255(words, original, ours, before):
     if words[0] != "v" or not original.startswith("swept") or not ours.startswith("swept"):
         return False
@@ -167,7 +152,6 @@ EXPLAINED = {
     "write-above-65535": write_above_65535,
     "record-never-read": record_never_read,
     "single-fragment-checked": single_fragment_checked,
-    "walk-ends-at-marker": walk_ends_at_marker,
     "sweep-of-number-255": sweep_of_number_255,
     "table-full": table_full,
     "payload-above-1492": payload_above_1492,

@@ -1,8 +1,8 @@
 #!/usr/bin/env python3
 """Document 01 as a program: answers the commands of COMMANDS.md, with the document's numbers behind `no`.
 
-Usage: oracle/model.py [LEVEL] < COMMANDS. LEVEL is the last request of document 02 that counts for the kinds of 2026-04, 2026-08 and 2026-13. The stations of 2026-02 are
-here at any level; of them this is the only opinion beside the library's, since the original has none.
+Usage: oracle/model.py [LEVEL] < COMMANDS. LEVEL is the last request of document 02 that counts for the kinds of 2026-04, 2026-08 and 2026-13; the shortfall of 2026-01, the stations
+of 2026-02 and the end marker of 2026-03 are here at any level. Of the stations this is the only opinion beside the library's, since the original has none.
 It shakes out the driver and the language, and stands beside the proved library as a second opinion on the numbers, which the original doesn't have.
 It follows document 01's text and the readings of its open points, as plainly as it goes. The generator takes its layouts from here.
 """
@@ -84,7 +84,7 @@ def read_tlv(data, at=0):
 
 
 def walk(data):
-    """Type, offset and length of each TLV, to the end."""
+    """Type, offset and length of each TLV, up to the end marker, or to the end."""
     found, at = [], 0
     while at < len(data):
         try:
@@ -94,6 +94,8 @@ def walk(data):
             raise Refused(number, at, shortfall)
         found.append((kind, at, length))
         at += consumed
+        if kind == length == 0:
+            break
     return found
 
 
@@ -473,11 +475,12 @@ class Stations:
 
 # --- commands ---
 
-def listed(tlvs):
+def listed(tlvs, size):
+    padding = size - sum(3 + length for _, _, length in tlvs)
     if len(tlvs) <= 16:
-        return " ".join(["ok %d" % len(tlvs)] + ["%d:%d:%d" % tlv for tlv in tlvs])
+        return " ".join(["ok %d %d" % (len(tlvs), padding)] + ["%d:%d:%d" % tlv for tlv in tlvs])
     data = b"".join(bytes([k]) + at.to_bytes(4, "big") + n.to_bytes(2, "big") for k, at, n in tlvs)
-    return "ok %d %s" % (len(tlvs), checksum(data))
+    return "ok %d %d %s" % (len(tlvs), padding, checksum(data))
 
 
 def answer(table, stations, line):
@@ -509,7 +512,7 @@ def answer(table, stations, line):
     if command == "h":
         return "ok %d %d %d %d %d %d %d" % header(data)
     if command in ("k", "g"):
-        return listed(walk(data))
+        return listed(walk(data), len(data))
     kind = int(words[1])
     if command == "r":
         used = consumed(kind, data)

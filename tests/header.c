@@ -66,7 +66,7 @@ static bool waits(size_t size) {
 static void walks(void) {
     AshlarTlv list[4];
     AshlarWalk w = ashlar_walk(row, 267);
-    check("ashlar_walk: count", w.count == 3 && w.at == 0 && w.shortfall == 0 && w.refusal == ASHLAR_OK);
+    check("ashlar_walk: count", w.count == 3 && w.padding == 0 && w.at == 0 && w.shortfall == 0 && w.refusal == ASHLAR_OK);
     w = ashlar_walk(row, 269);
     check("ashlar_walk: 1, at and shortfall", w.count == 0 && w.at == 267 && w.shortfall == 1 && w.refusal == ASHLAR_TOO_FEW_BYTES);
     refusals |= 1u << w.refusal;
@@ -87,14 +87,40 @@ static void walks(void) {
     w = ashlar_walk_into(list, 2, row, 274);
     check("ashlar_walk_into: 2 before 14", w.at == 267 && w.shortfall == 5 && w.refusal == ASHLAR_RUNS_PAST_END);
     w = ashlar_walk_into(list, 4, row, 267);
-    check("ashlar_walk_into: count", w.count == 3 && w.at == 0 && w.shortfall == 0 && w.refusal == ASHLAR_OK);
+    check("ashlar_walk_into: count", w.count == 3 && w.padding == 0 && w.at == 0 && w.shortfall == 0 && w.refusal == ASHLAR_OK);
     check("AshlarTlv: tlv_type", list[0].tlv_type == 0x92 && list[1].tlv_type == 7 && list[2].tlv_type == 0x83 && list[3].tlv_type == 0xEE);
     check("AshlarTlv: length", list[0].length == 2 && list[1].length == 0 && list[2].length == 256 && list[3].length == 0xEEEE);
     check("AshlarTlv: offset", list[0].offset == 0 && list[1].offset == 5 && list[2].offset == 8 && list[3].offset == (size_t)0xEEEEEEEEEEEEEEEE);
 
+    static const uint8_t small[9] = {1, 0, 0, 1, 0, 0, 1, 0, 0};
     AshlarTlv most[ASHLAR_TLVS(9)];
-    w = ashlar_walk_into(most, ASHLAR_TLVS(9), store, 9);
+    w = ashlar_walk_into(most, ASHLAR_TLVS(9), small, 9);
     check("ASHLAR_TLVS: as many as a payload can have", w.count == ASHLAR_TLVS(9) && w.refusal == ASHLAR_OK);
+}
+
+/* a TLV of type 0 with a length, one of type 1, the end marker, and nine bytes of padding: a role that would read, and then no TLV */
+static const uint8_t padded[20] = {0, 0, 1, 9, 1, 0, 1, 5, 0, 0, 0, 13, 0, 1, 0, 0xFF, 0xFF, 0xFF, 1, 0};
+
+static void paddings(void) {
+    AshlarTlv list[3];
+    bool good = true;
+    for (size_t size = 11; size <= sizeof padded; size++) {
+        AshlarWalk w = ashlar_walk(padded, size);
+        good &= w.count == 3 && w.padding == size - 11 && w.at == 0 && w.shortfall == 0 && w.refusal == ASHLAR_OK;
+    }
+    check("ashlar_walk: the marker is counted, and what follows it is padding", good);
+    memset(list, 0xEE, sizeof list);
+    AshlarWalk w = ashlar_walk_into(list, 3, padded, sizeof padded);
+    check("ashlar_walk_into: a list that has room up to the marker, and the padding", w.count == 3 && w.padding == 9 && w.refusal == ASHLAR_OK);
+    check("ashlar_walk_into: the marker is listed last", list[0].tlv_type == 0 && list[0].length == 1 && list[2].tlv_type == 0 && list[2].length == 0 && list[2].offset == 8);
+    AshlarTlv one[1];
+    w = ashlar_walk_into(one, 1, padded + 8, sizeof padded - 8);
+    check("ashlar_walk_into: a list of one element and a marker", w.count == 1 && w.padding == 9 && w.refusal == ASHLAR_OK && one[0].tlv_type == 0 && one[0].offset == 0);
+    w = ashlar_walk_into(list, 2, padded, sizeof padded);
+    check("ashlar_walk_into: 14 for the marker, and no padding", w.count == 0 && w.padding == 0 && w.at == 8 && w.refusal == ASHLAR_LIST_TOO_SHORT);
+    check("ashlar_find: a kind that stands only in the padding is not found", ashlar_find(list, 3, padded, sizeof padded, ASHLAR_SEARCHED_ROLE, 0).refusal == ASHLAR_NOT_FOUND);
+    w = ashlar_walk(padded, 10);
+    check("ashlar_walk: a marker that is cut", w.count == 0 && w.padding == 0 && w.at == 8 && w.shortfall == 1 && w.refusal == ASHLAR_TOO_FEW_BYTES);
 }
 
 /* ---- Reading and finding ---- */
@@ -387,7 +413,7 @@ static void crowd(void) {
 
 int main(void) {
     for (size_t i = 0; i < sizeof payload; i++) payload[i] = (uint8_t)(i + 1);
-    headings(), walks(), reads(), finds(), fields(), pushes(), limits(), sweeps(), moves(), values(), crowd();
+    headings(), walks(), paddings(), reads(), finds(), fields(), pushes(), limits(), sweeps(), moves(), values(), crowd();
     check("every refusal that a call can give came: 1 to 5 and 10 to 17", (refusals & ~1u) == 0x3FC3E);
     check("every answer of push came: 0 to 7", answers == 0xFF);
     check("every answer of an event came: 0 to 5", events == 0x3F);

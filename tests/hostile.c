@@ -94,7 +94,7 @@ static void read_header(void) {
     told(READ_HEADER, a.refusal, same_header(a, plain_read_header(p, n)));
 }
 
-static bool same_walk(AshlarWalk a, AshlarWalk b) { return a.count == b.count && a.at == b.at && a.shortfall == b.shortfall && a.refusal == b.refusal; }
+static bool same_walk(AshlarWalk a, AshlarWalk b) { return a.count == b.count && a.padding == b.padding && a.at == b.at && a.shortfall == b.shortfall && a.refusal == b.refusal; }
 
 static void walk(void) {
     size_t n = below(4) ? below(64) : below(3000);

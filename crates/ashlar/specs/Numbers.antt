@@ -7,6 +7,7 @@ use lib.Dec.{eqb, leb}
 use lib.ListN.{getD}
 use Rattle.numbers.specs.Numbers.{Answer, gives, refuses}
 use Rattle.framing.specs.declared.CmduHeader.{CmduHeader}
+use Rattle.walking.specs.Walk.{Counted}
 use Rattle.kinds.specs.Kinds.{Contents, one, list, Typed}
 use Rattle.table.specs.declared.Table.{Table}
 use Rattle.pushing.specs.declared.Arrival.{Arrival}
@@ -36,9 +37,9 @@ headerNumbers (refuses n vs) =
     record { shortfall = getD vs 0 0; version = 0; reserved = 0; «message_type» = 0; «message_id» = 0; number = 0; flags = 0; last = false; refusal = n }
 
 -- a walk's refusal gives the offset of the TLV that failed, first of its values, and of 1 and 2 the shortfall, the second; 14 has none
-abbrev pub walkNumbers : Answer ℕ → AshlarWalk
-walkNumbers (gives n) = record { count = n; at = 0; shortfall = 0; refusal = 0 }
-walkNumbers (refuses n vs) = record { count = 0; at = getD vs 0 0; shortfall = getD vs 1 0; refusal = n }
+abbrev pub walkNumbers : Answer Counted → AshlarWalk
+walkNumbers (gives c) = record { count = c .count; padding = c .padding; at = 0; shortfall = 0; refusal = 0 }
+walkNumbers (refuses n vs) = record { count = 0; padding = 0; at = getD vs 0 0; shortfall = getD vs 1 0; refusal = n }
 
 -- a record is the first bytes of its value, as many as were consumed; of a list, how many entries its own level has
 abbrev pub contentsNumbers : {R : Type 0} → Contents R → ℕ → ℕ → AshlarKind

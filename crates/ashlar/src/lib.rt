@@ -49,10 +49,11 @@ pub struct AshlarHeader {
     pub refusal: u8,
 }
 
-// How many TLVs a payload has; where one is refused, its offset, and how many bytes are missing.
+// How many TLVs a payload has, and how many bytes of padding follow them; where one is refused, its offset, and how many bytes are missing.
 #[repr(C)]
 pub struct AshlarWalk {
     pub count: usize,
+    pub padding: usize,
     pub at: usize,
     pub shortfall: usize,
     pub refusal: u8,
@@ -126,14 +127,16 @@ fn walk_numbers(walked: Walked) -> AshlarWalk
     ensures { λ r. ⌜ r ≡ walkNumbers (walkedOf walked) ⌝ }
 {
     match walked {
-        Walked::Count(count) => AshlarWalk {
+        Walked::Count { count, padding } => AshlarWalk {
             count,
+            padding,
             at: 0,
             shortfall: 0,
             refusal: 0,
         },
         Walked::Refused { refusal, at } => AshlarWalk {
             count: 0,
+            padding: 0,
             at,
             shortfall: numbers::carried_by(refusal),
             refusal: numbers::number_of(refusal),
@@ -141,7 +144,7 @@ fn walk_numbers(walked: Walked) -> AshlarWalk
     }
 }
 
-// The TLVs of a payload, counted.
+// The TLVs of a payload up to its end marker, counted, and the length of the padding behind them.
 #[no_mangle]
 pub extern "C" fn ashlar_walk(payload: &[u8]) -> AshlarWalk
     ensures { λ r. ⌜ r ≡ walkNumbers (counted (walkOf (now (payload .entry)))) ⌝ }

@@ -15,14 +15,18 @@ use words::{Bad, Fields, LONGEST_LINE, bytes, checksum, number, shown, six, word
 
 const NO: &str = "no";
 
-/// TLVs from the start until no byte is left: each with its offset; or the offset of the one that doesn't read.
+/// TLVs from the start up to the end marker, or until no byte is left: each with its offset; or the offset of the one that doesn't read.
 fn walk(payload: &[u8]) -> Result<Vec<(usize, TLV)>, usize> {
     let mut found = Vec::new();
     let mut rest = payload;
     while !rest.is_empty() {
         let offset = payload.len() - rest.len();
         let (behind, tlv) = TLV::parse(rest).map_err(|_| offset)?;
+        let marker = tlv.tlv_type == 0 && tlv.tlv_length == 0;
         found.push((offset, tlv));
+        if marker {
+            break;
+        }
         rest = behind;
     }
     Ok(found)
@@ -68,8 +72,10 @@ fn header(input: &[u8]) -> String {
     }
 }
 
-fn listed(tlvs: &[(usize, TLV)]) -> String {
-    let mut text = format!("ok {}", tlvs.len());
+/// What follows the last TLV of so many bytes is padding.
+fn listed(tlvs: &[(usize, TLV)], size: usize) -> String {
+    let end = tlvs.last().map_or(0, |(offset, tlv)| offset + tlv.total_size());
+    let mut text = format!("ok {} {}", tlvs.len(), size - end);
     if tlvs.len() <= 16 {
         for (offset, tlv) in tlvs {
             text += &format!(" {}:{offset}:{}", tlv.tlv_type, tlv.tlv_length);
@@ -88,7 +94,7 @@ fn listed(tlvs: &[(usize, TLV)]) -> String {
 fn walked(payload: &[u8]) -> String {
     match walk(payload) {
         Err(offset) => format!("no - {offset}"),
-        Ok(tlvs) => listed(&tlvs),
+        Ok(tlvs) => listed(&tlvs, payload.len()),
     }
 }
 
@@ -113,7 +119,7 @@ fn get_tlvs(payload: &[u8]) -> String {
         placed.push((offset, tlv));
         offset += size;
     }
-    listed(&placed)
+    listed(&placed, payload.len())
 }
 
 struct Read<'a>(&'a [u8]);

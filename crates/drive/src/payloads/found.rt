@@ -81,7 +81,10 @@ pub(crate) fn put_hit(hit: Hit, payload: &[u8], text: &mut Text, used: usize) ->
 // d: the payload walked, then found in it: so a walk's refusal comes before that of an unknown kind.
 pub(crate) fn first(payload: &[u8], code: u8, text: &mut Text, used: usize) -> usize {
     match walking::walk(payload) {
-        Walked::Count(_) => put_hit(first_from(payload, code, 0), payload, text, used),
+        Walked::Count {
+            count: _,
+            padding: _,
+        } => put_hit(first_from(payload, code, 0), payload, text, used),
         Walked::Refused { refusal, at } => show::put_refused_at(text, used, refusal, at),
     }
 }

@@ -6,7 +6,7 @@ use crate::show::Text;
 use walking::Tlv;
 use walking::Walked;
 
-// The TLVs of a payload from one on, 40 at most, and where those end.
+// The TLVs of a payload from one on, 40 at most, and where the next one stands: at the payload's end, padding and all, if there is none.
 struct Part {
     tlvs: [Tlv; 40],
     count: usize,
@@ -19,7 +19,7 @@ fn part_of(bytes: &[u8]) -> Part {
     let tlvs = listed.tlvs;
     let walked = listed.walked;
     match walked {
-        Walked::Count(count) => Part {
+        Walked::Count { count, padding: _ } => Part {
             tlvs,
             count,
             end: bytes.len(),
@@ -98,20 +98,21 @@ fn sum_all(data: &[u8], count: usize) -> u64 {
     sum
 }
 
-// How many TLVs there are, and each of a few, or the checksum over many.
-fn put_all(data: &[u8], count: usize, text: &mut Text, used: usize) -> usize {
+// How many TLVs there are, how long the padding is, and each TLV of a few, or the checksum over many.
+fn put_all(data: &[u8], count: usize, padding: usize, text: &mut Text, used: usize) -> usize {
     let a = show::put_ok(text, used);
     let b = show::put_next(text, a, count as u64);
+    let c = show::put_next(text, b, padding as u64);
     if count <= 16 {
-        return put_part(first_part(data), text, b);
+        return put_part(first_part(data), text, c);
     }
-    show::put_sum(text, b, b' ', sum_all(data, count))
+    show::put_sum(text, c, b' ', sum_all(data, count))
 }
 
-// k, g: a payload walked to its end, counted and listed.
+// k, g: a payload walked to its message's end, counted and listed.
 pub(crate) fn walk(data: &[u8], text: &mut Text, used: usize) -> usize {
     match walking::walk(data) {
-        Walked::Count(count) => put_all(data, count, text, used),
+        Walked::Count { count, padding } => put_all(data, count, padding, text, used),
         Walked::Refused { refusal, at } => show::put_refused_at(text, used, refusal, at),
     }
 }
