@@ -4,7 +4,7 @@ use mathlib.Core.List.{List, [], _∷_}
 use Prim.Native.Nat.{ℕ}
 use lib.ListN.{getD}
 use Rattle.numbers.specs.declared.Refusal.{Refusal}
-use Rattle.numbers.specs.declared.Refusal.the-variants.{TooFewBytes, RunsPastEnd, CutShort, LeftOver, BadValue, NoEntry, NoRoom, ValueTooLong, NeverRead, TableFull, StoreTooSmall, PayloadTooLong, OutputTooSmall, ListTooShort, NotFound, UnknownKind, NoStationRoom}
+use Rattle.numbers.specs.declared.Refusal.the-variants.{TooFewBytes, RunsPastEnd, CutShort, LeftOver, BadValue, NoEntry, NoRoom, ValueTooLong, NeverRead, TableFull, StoreTooSmall, PayloadTooLong, OutputTooSmall, ListTooShort, NotFound, UnknownKind, NoStationRoom, NotText}
 
 -- What a call answers in document 01's words: what it gives, or the number of its refusal with the values that stand beside it.
 pub data Answer (A : Type 0) : Type 0 where
@@ -44,6 +44,7 @@ numbered ListTooShort = (14, [])
 numbered NotFound = (15, [])
 numbered UnknownKind = (16, [])
 numbered NoStationRoom = (17, [])
+numbered NotText = (18, [])
 
 abbrev pub number : Refusal → ℕ
 number r = numbered r .0

@@ -38,6 +38,8 @@ pub enum Refusal {
     UnknownKind,
     // 17: a join of an unknown station with 128 held
     NoStationRoom,
+    // 18: a text that isn't UTF-8
+    NotText,
 }
 
 // Document 01's number of a refusal.
@@ -62,6 +64,7 @@ pub fn number_of(refusal: Refusal) -> u8
         Refusal::NotFound => 15,
         Refusal::UnknownKind => 16,
         Refusal::NoStationRoom => 17,
+        Refusal::NotText => 18,
     }
 }
 
@@ -87,5 +90,6 @@ pub fn carried_by(refusal: Refusal) -> usize
         Refusal::NotFound => 0,
         Refusal::UnknownKind => 0,
         Refusal::NoStationRoom => 0,
+        Refusal::NotText => 0,
     }
 }

@@ -1,0 +1,63 @@
+-- The radios of the value that was read, where its kind has any.
+use borrow.Author.Needs.{needs}
+use Rattle.texts.proofs.access.count_in.Statement.{statement}
+use Rattle.texts.proofs.access.count_in.Tie as tie
+use mathlib.Core.Path.{_≡_, sym, ap, _∙_}
+use Rattle.numbers.proofs.Answers.{follows}
+use Rattle.texts.specs.Reading.{wholeOf}
+use Rattle.numbers.specs.Numbers.{gives}
+use Rattle.layouts.specs.Access.{numbersOf}
+use Rattle.texts.specs.Access.{countIn}
+use Rattle.texts.specs.PrivatePieces.{rowKind}
+use Rattle.texts.proofs.Whole.{Outlined, outlined-of, not-read}
+use Rattle.texts.proofs.Asked.{count-all, count-under, count-none}
+
+read-row-requires : tie.Need-read-row-requires
+read-row-requires c κs = search needs
+
+enum-known-n : tie.Need-enum-known-n
+enum-known-n c = search needs
+
+-- the value that was read
+whole : (c : tie.After-n) →
+    let a = c .before .before .before .before .args in
+    let g = c .n .given .0 in
+    Outlined (wholeOf (rowKind (a .row)) (a .s .now)) (record { list = record { many = g .0; first = g .1 .0 }; end = g .1 .1 .0 })
+whole c = outlined-of _ _ (sym (rw (c .n .given .1) at (c .before .before .read-row .ensures)))
+
+returns : tie.Need-returns
+returns c =
+    let k = c .before .before .before .before in
+    let a = k .before .before .before .before .args in
+    let p = a .path in
+    let w = whole k in
+    sym (follows _ _ _ (w .is) ∙ count-all (p .depth) (p .i0) (p .i1) (p .i2) (w .value) (a .row .radios) (c .before .before .if1 .taken) (c .if2 .taken) ∙ ap (λ m. gives (m .many)) (w .list))
+
+enum-known-r : tie.Need-enum-known-r
+enum-known-r c = search needs
+
+returns-2 : tie.Need-returns-2
+returns-2 c =
+    let k = c .before .before .before .before in
+    let a = k .before .before .before .before .args in
+    let p = a .path in
+    let w = whole k in
+    sym (follows _ _ _ (w .is) ∙ count-under (p .depth) (p .i0) (p .i1) (p .i2) (w .value) (a .row .radios) (c .before .before .if1 .taken) (c .if2 .left))
+
+returns-3 : tie.Need-returns-3
+returns-3 c =
+    let k = c .before .before in
+    let a = k .before .before .before .before .args in
+    let p = a .path in
+    let w = whole k in
+    sym (follows _ _ _ (w .is) ∙ count-none (p .depth) (p .i0) (p .i1) (p .i2) (w .value) (a .row .radios) (c .if1 .left))
+
+returns-4 : tie.Need-returns-4
+returns-4 c =
+    let a = c .before .before .before .before .before .args in
+    not-read (rowKind (a .row)) (a .s .now) (λ v. countIn (a .row .radios) (numbersOf (a .path)) v) _ _ (sym (rw (c .before .r .given .1) at (c .before .before .before .read-row .ensures)))
+
+pub count-in-spec : {M : Type 1} → statement M
+count-in-spec =
+    tie.close
+    (tie.spec read-row-requires enum-known-n returns enum-known-r returns-2 returns-3 returns-4)

@@ -1,0 +1,39 @@
+-- The row of the code is asked, or its refusal is passed on.
+use borrow.Author.Needs.{needs}
+use Rattle.texts.proofs.locate.Statement.{statement}
+use Rattle.texts.proofs.locate.Tie as tie
+use mathlib.Core.Path.{_≡_, sym, _∙_}
+use Rattle.numbers.specs.Numbers.{gives}
+use Rattle.numbers.proofs.Answers.{follows, stops}
+use Rattle.texts.specs.Texts.{textKind}
+use Rattle.texts.specs.Access.{ofText, locateRadio}
+use Rattle.texts.specs.PrivatePieces.{rowKind}
+
+row-of-requires : tie.Need-row-of-requires
+row-of-requires c κs = search needs
+
+enum-known-row : tie.Need-enum-known-row
+enum-known-row c = search needs
+
+-- the row that was found
+has : (c : tie.After-row) → textKind (c .before .before .before .before .args .code) ≡ gives (rowKind (c .row .given .0 .0))
+has c = sym (rw (c .row .given .1) at (c .before .before .row-of .ensures))
+
+radio-in-requires : tie.Need-radio-in-requires
+radio-in-requires c κs = search needs
+
+enum-known-r : tie.Need-enum-known-r
+enum-known-r c = search needs
+
+returns : tie.Need-returns
+unfolding ofText locateRadio
+returns c = c .radio-in .ensures ∙ sym (follows _ _ _ (has (c .before .before)))
+
+returns-2 : tie.Need-returns-2
+unfolding ofText locateRadio
+returns-2 c = sym (stops _ _ _ _ (sym (rw (c .before .r .given .1) at (c .before .before .before .row-of .ensures))))
+
+pub locate-spec : {M : Type 1} → statement M
+locate-spec =
+    tie.close
+    (tie.spec row-of-requires enum-known-row radio-in-requires enum-known-r returns returns-2)

@@ -1,0 +1,81 @@
+-- What is awaited of the bytes from i on decides over all.
+use Rattle.texts.proofs.utf8.is_utf8.Statement.{statement}
+use Rattle.texts.proofs.utf8.is_utf8.Tie as tie
+use borrow.Author.Needs.{needs}
+use mathlib.Core.Path.{_≡_, sym, _∙_}
+use mathlib.Core.Option.{some}
+use Prim.Native.Nat.{_-_, _≤_}
+use native.Mathlib.Omega.{arith}
+use lib.ListN.{length, getD, drop}
+use Rattle.texts.specs.Utf8.{onward, passes, isUtf8}
+use Rattle.texts.specs.PrivateUtf8.{awaits}
+use Rattle.texts.proofs.Grammar.{goes-on, goes-off, comes-to-end}
+
+abbrev Inv-loop : tie.InvT-loop
+Inv-loop s awaited₀ i₀ awaited i = (i ≤ length s) × (isUtf8 s ≡ passes (awaits awaited) (drop i s))
+
+abbrev μ-loop : tie.MeasureT-loop
+μ-loop s awaited₀ i₀ awaited i = length s - i
+
+past-ascii-requires : tie.Need-past-ascii-requires Inv-loop μ-loop
+past-ascii-requires c κs = search needs
+
+loop-holds : tie.Need-loop-holds Inv-loop μ-loop
+loop-holds c = c .past-ascii .ensures
+
+shared-slice-read-step : tie.Need-shared-slice-read-step Inv-loop μ-loop
+shared-slice-read-step c = search needs
+
+step-requires : tie.Need-step-requires Inv-loop μ-loop
+step-requires c κs = search needs
+
+enum-known-next : tie.Need-enum-known-next Inv-loop μ-loop
+enum-known-next c = search needs
+
+enum-told : tie.Need-enum-told Inv-loop μ-loop
+enum-told c = search needs
+
+returns : tie.Need-returns Inv-loop μ-loop
+returns c =
+    let l = c .before .before .before .before .before in
+    let s = l .before .before .before .args .s .now in
+    let e = sym (rw (c .enum-told .given .1) at (c .before .before .step .ensures)) in
+    sym (l .loop .inv .1 ∙ goes-off (awaits (l .loop .awaited)) s (l .loop .i) (omega arith) e)
+
+add-i : tie.Need-add-i Inv-loop μ-loop
+add-i c = search needs
+
+loop-less : tie.Need-loop-less Inv-loop μ-loop
+loop-less c = search needs
+
+loop-again : tie.Need-loop-again Inv-loop μ-loop
+loop-again c =
+    let l = c .before .before .before .before .before .before in
+    let s = l .before .before .before .args .s .now in
+    let e = sym (rw (c .before .next .given .1) at (c .before .before .before .step .ensures)) in
+    (omega arith, l .loop .inv .1 ∙ goes-on (awaits (l .loop .awaited)) (awaits (c .before .next .given .0 .0)) s (l .loop .i) (omega arith) e)
+
+returns-2 : tie.Need-returns-2 Inv-loop μ-loop
+returns-2 c =
+    let l = c .before .before in
+    let s = l .before .before .before .args .s .now in
+    let w = l .loop .awaited in
+    sym (l .loop .inv .1 ∙ comes-to-end (w .left) (w .low) (w .high) s (l .loop .i) (omega arith))
+
+pub is-utf8-spec : {M : Type 1} → statement M
+is-utf8-spec =
+    tie.close
+    (tie.spec
+    Inv-loop
+    μ-loop
+    past-ascii-requires
+    loop-holds
+    shared-slice-read-step
+    step-requires
+    enum-known-next
+    enum-told
+    returns
+    add-i
+    loop-less
+    loop-again
+    returns-2)

@@ -1,0 +1,50 @@
+-- Access by numbers: a radio of a value as an entry, and each text as its own part. "16, 3, 18" and then 6: the whole value has to read.
+use mathlib.Core.Bool.{Bool, true, false}
+use mathlib.Core.List.{List, [], _∷_}
+use Prim.Native.Nat.{ℕ, zero, suc}
+use Rattle.numbers.specs.Numbers.{Answer, gives, refuses, andThen, mapped}
+use Rattle.layouts.specs.Access.{Span}
+use Rattle.texts.specs.Texts.{TextKind, textKind}
+use Rattle.texts.specs.Reading.{Held, Laid, wholeOf}
+
+-- number i of these, from 0; 6 where there is none
+abbrev pub numbered : List Held → ℕ → Answer Held
+numbered [] i = refuses 6 []
+numbered (h ∷ hs) zero = gives h
+numbered (h ∷ hs) (suc i) = numbered hs i
+
+-- a piece from its start to its end
+abbrev pub wholeSpan : Held → Span
+wholeSpan h = record { start = h .start; end = h .end }
+
+abbrev pub textSpan : Held → Span
+textSpan h = h .text
+
+-- what is asked of a value that reads
+unfoldable pub ofText : {A : Type 0} → ℕ → (TextKind → Laid → Answer A) → List ℕ → Answer A
+ofText code f s = andThen (textKind code) (λ k. andThen (wholeOf k s) (λ v. f k v))
+
+-- "the radios are entries": the radio with this number, its id and its string; without a number, and with a second one, no entry is asked for
+abbrev pub radioIn : List ℕ → Laid → Answer Span
+radioIn [] v = refuses 6 []
+radioIn (i ∷ []) v = mapped wholeSpan (numbered (v .radios .each) i)
+radioIn (i ∷ j ∷ is) v = refuses 6 []
+
+unfoldable pub locateRadio : ℕ → List ℕ → List ℕ → Answer Span
+locateRadio code is s = ofText code (λ k v. radioIn is v) s
+
+-- how many radios there are; a kind without them, and a radio, has no entries to count
+abbrev pub countIn : Bool → List ℕ → Laid → Answer ℕ
+countIn true [] v = gives (v .list .many)
+countIn true (i ∷ is) v = refuses 6 []
+countIn false is v = refuses 6 []
+
+unfoldable pub countRadios : ℕ → List ℕ → List ℕ → Answer ℕ
+countRadios code is s = ofText code (λ k v. countIn (k .radios) is v) s
+
+-- the value's own text with this number, and the text of the radio with this number
+unfoldable pub locateText : ℕ → ℕ → List ℕ → Answer Span
+locateText code i s = ofText code (λ k v. mapped textSpan (numbered (v .texts .each) i)) s
+
+unfoldable pub locateRadioText : ℕ → List ℕ → Answer Span
+locateRadioText i s = ofText 0xD4 (λ k v. mapped textSpan (numbered (v .radios .each) i)) s

@@ -1,0 +1,87 @@
+-- What is claimed of this crate's calls and definitions; proofs/Claims.antt proves it.
+use mathlib.Core.Path.{_≡_}
+use mathlib.Core.Bool.{true, false}
+use mathlib.Core.List.{List, [], _∷_}
+use Prim.Native.Nat.{ℕ, _+_, _<_, _≤_}
+use denote.Ref.{RefT, now}
+use lib.ListN.{length, take, drop}
+use Rattle.numbers.specs.Numbers.{Answer, gives, refuses}
+use Rattle.numbers.specs.Firmness.{Firm}
+use Rattle.numbers.specs.Parts.{behind}
+use Rattle.layouts.specs.declared.Path.{Path}
+use Rattle.layouts.specs.Reading.{Consumed, readingOf}
+use Rattle.layouts.specs.Access.{numbersOf, Span, locatedOf, partOf, startIn, countedOf}
+use Rattle.layouts.specs.Claims.{Shown}
+use Rattle.texts.specs.Utf8.{joined, Octets, isUtf8}
+use Rattle.texts.specs.Texts.{TextKind, textKind, isText}
+use Rattle.texts.specs.Reading.{readText}
+use Rattle.texts.specs.Access.{locateRadio, countRadios, locateText, locateRadioText}
+
+-- each public call by its name: any two answers that its contract allows are one. A part is its bytes and its place.
+abbrev pub FirmPart : Answer Span → RefT (List ℕ) → Type 0
+FirmPart x s = Firm {A = List ℕ × (ℕ × ℕ)} (λ r. (r .0 ≡ partOf x (now s)) × (r .1 ≡ behind (startIn x) s))
+
+pub record Firmness : Type 0 where
+  pub is-text : (code : ℕ) → Firm (λ r. r ≡ isText code)
+  pub read-value : (code : ℕ) (s : List ℕ) → Firm (λ r. readingOf r ≡ readText code s)
+  pub locate : (code : ℕ) (path : Path) (s : List ℕ) → Firm (λ r. locatedOf r ≡ locateRadio code (numbersOf path) s)
+  pub entry : (code : ℕ) (path : Path) (s : RefT (List ℕ)) → FirmPart (locateRadio code (numbersOf path) (now s)) s
+  pub count : (code : ℕ) (path : Path) (s : List ℕ) → Firm (λ r. countedOf r ≡ countRadios code (numbersOf path) s)
+  pub locate-text : (code number : ℕ) (s : List ℕ) → Firm (λ r. locatedOf r ≡ locateText code number s)
+  pub text : (code number : ℕ) (s : RefT (List ℕ)) → FirmPart (locateText code number (now s)) s
+  pub locate-radio-text : (number : ℕ) (s : List ℕ) → Firm (λ r. locatedOf r ≡ locateRadioText number s)
+  pub radio-text : (number : ℕ) (s : RefT (List ℕ)) → FirmPart (locateRadioText number (now s)) s
+
+-- what the test passes is exactly a sequence of RFC 3629's characters
+abbrev pub Exactly : Type 0
+Exactly = (s : List ℕ) → (isUtf8 s ≡ true → Octets s) × (Octets s → isUtf8 s ≡ true)
+
+-- where character n of a text starts, and so where the one before it ends
+abbrev pub startOf : {s : List ℕ} → Octets s → ℕ → ℕ
+startOf o n = length (joined (take n (o .list)))
+
+-- a text that is cut there is two texts
+abbrev pub Cut : Type 0
+Cut = (s : List ℕ) (o : Octets s) (n : ℕ) → (isUtf8 (take (startOf o n) s) ≡ true) × (isUtf8 (drop (startOf o n) s) ≡ true)
+
+-- a text that is found lies in the q bytes consumed, and is valid
+pub record Text (x : Answer Span) (s : List ℕ) (q : ℕ) : Type 0 where
+  pub shown : Shown x q
+  pub valid : isUtf8 (partOf x s) ≡ true
+
+-- what holds of every value of every kind that holds text
+pub record Values : Type 0 where
+  -- 16 for every other code
+  pub other-codes : (code : ℕ) (s : List ℕ) → isText code ≡ false →
+      (readText code s ≡ refuses 16 []) × ((is : List ℕ) → locateRadio code is s ≡ refuses 16 []) × ((is : List ℕ) → countRadios code is s ≡ refuses 16 [])
+      × ((i : ℕ) → locateText code i s ≡ refuses 16 [])
+  -- consumed never exceeds the length, and with the rest it is the length
+  pub consumed-within : (code : ℕ) (s : List ℕ) (r : Consumed) → readText code s ≡ gives r → (r .consumed ≤ length s) × (r .consumed + r .rest ≡ length s)
+  -- "`ControlUrl` (22, the whole value)": never a rest
+  pub no-rest : (s : List ℕ) (r : Consumed) → readText 22 s ≡ gives r → r .rest ≡ 0
+  -- a count is what reading says
+  pub own-count : (code : ℕ) (is s : List ℕ) (r : Consumed) (n : ℕ) → readText code s ≡ gives r → countRadios code is s ≡ gives n → n ≡ r .entries
+  -- every radio can be asked for, and has a text; and no other entry can
+  pub every-radio : (code : ℕ) (s : List ℕ) (r : Consumed) (i : ℕ) → readText code s ≡ gives r → i < r .entries → Shown (locateRadio code (i ∷ []) s) (r .consumed)
+  pub every-radio-text : (s : List ℕ) (r : Consumed) (i : ℕ) → readText 0xD4 s ≡ gives r → i < r .entries → Text (locateRadioText i s) s (r .consumed)
+  pub no-other : (code i : ℕ) (s : List ℕ) (r : Consumed) → readText code s ≡ gives r → r .entries ≤ i →
+      (locateRadio code (i ∷ []) s ≡ refuses 6 []) × (code ≡ 0xD4 → locateRadioText i s ≡ refuses 6 [])
+  pub one-number : (code i j : ℕ) (is s : List ℕ) (r : Consumed) → readText code s ≡ gives r → (locateRadio code [] s ≡ refuses 6 []) × (locateRadio code (i ∷ j ∷ is) s ≡ refuses 6 [])
+  -- the value's own texts: so many as the kind has, three, one and three; beyond the last, 6
+  pub every-text : (code : ℕ) (s : List ℕ) (k : TextKind) (r : Consumed) (i : ℕ) → textKind code ≡ gives k → readText code s ≡ gives r → i < k .many →
+      Text (locateText code i s) s (r .consumed)
+  pub beyond : (code : ℕ) (s : List ℕ) (k : TextKind) (r : Consumed) (i : ℕ) → textKind code ≡ gives k → readText code s ≡ gives r → k .many ≤ i → locateText code i s ≡ refuses 6 []
+
+-- what is read depends on the consumed bytes alone: they read the same, with no rest, and so does every radio and every text in them
+pub record Alone (code : ℕ) (s : List ℕ) (r : Consumed) : Type 0 where
+  pub reads : readText code (take (r .consumed) s) ≡ gives (record { consumed = r .consumed; rest = 0; entries = r .entries })
+  pub counts : (is : List ℕ) → countRadios code is (take (r .consumed) s) ≡ countRadios code is s
+  pub located : (is : List ℕ) → locateRadio code is (take (r .consumed) s) ≡ locateRadio code is s
+  pub parts : (is : List ℕ) → partOf (locateRadio code is (take (r .consumed) s)) (take (r .consumed) s) ≡ partOf (locateRadio code is s) s
+  pub texts : (i : ℕ) → locateText code i (take (r .consumed) s) ≡ locateText code i s
+  pub text-parts : (i : ℕ) → partOf (locateText code i (take (r .consumed) s)) (take (r .consumed) s) ≡ partOf (locateText code i s) s
+  pub radio-texts : code ≡ 0xD4 → (i : ℕ) → locateRadioText i (take (r .consumed) s) ≡ locateRadioText i s
+  pub radio-text-parts : code ≡ 0xD4 → (i : ℕ) → partOf (locateRadioText i (take (r .consumed) s)) (take (r .consumed) s) ≡ partOf (locateRadioText i s) s
+
+abbrev pub ConsumedAlone : Type 0
+ConsumedAlone = (code : ℕ) (s : List ℕ) (r : Consumed) → readText code s ≡ gives r → Alone code s r

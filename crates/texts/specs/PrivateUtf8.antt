@@ -1,0 +1,21 @@
+-- For private functions alone; no contract of a public call cites this file. What is awaited of a text, in the code's numbers.
+use mathlib.Core.List.{List, [], _∷_}
+use mathlib.Core.Option.{Option, none, some}
+use Prim.Native.Nat.{ℕ, zero, suc}
+use lib.ListN.{replicate}
+use Rattle.texts.specs.Utf8.{Range, _to_, tail}
+use Rattle.texts.specs.declared.utf8.Awaited.{Awaited}
+use Rattle.texts.specs.declared.utf8.After.{After}
+use Rattle.texts.specs.declared.utf8.After.the-variants.{Onward, Refused}
+
+-- so many bytes: the next one from `low` to `high`, and then tails
+abbrev pub ranges : ℕ → ℕ → ℕ → List Range
+ranges zero low high = []
+ranges (suc n) low high = low to high ∷ replicate n tail
+
+abbrev pub awaits : Awaited → List Range
+awaits w = ranges (w .left) (w .low) (w .high)
+
+abbrev pub stepTold : After → Option (List Range)
+stepTold (Onward w) = some (awaits w)
+stepTold Refused = none

@@ -1,0 +1,111 @@
+// Values that hold text, names and addresses of devices: UTF-8 by RFC 3629, the pieces that a text stands in, and a text and a radio asked for by its number.
+mod access;
+mod pieces;
+mod reading;
+mod rows;
+mod utf8;
+
+use layouts::Counted;
+use layouts::Located;
+use layouts::Path;
+use layouts::Reading;
+use reading::Laid;
+use rows::KindRow;
+ghost use mathlib.Core.Path.{_≡_};
+ghost use Rattle.numbers.specs.Parts.{behind};
+ghost use Rattle.layouts.specs.Reading.{readingOf};
+ghost use Rattle.layouts.specs.Access.{numbersOf, locatedOf, countedOf, partOf, startIn};
+ghost use Rattle.texts.specs.Texts.{isText};
+ghost use Rattle.texts.specs.Reading.{readText};
+ghost use Rattle.texts.specs.Access.{locateRadio, countRadios, locateText, locateRadioText};
+
+// Whether the kind with this code is one of these.
+pub fn is_text(code: u8) -> bool
+    ensures { λ r. ⌜ r ≡ isText code ⌝ }
+{
+    match rows::row_of(code) {
+        KindRow::Text(_) => true,
+        KindRow::Refused(_) => false,
+    }
+}
+
+// The value of the kind with this code at the start of s. Its entries are its radios.
+pub fn read_value(code: u8, s: &[u8]) -> Reading
+    ensures { λ r. ⌜ readingOf r ≡ readText code (now (s .entry)) ⌝ }
+{
+    match rows::row_of(code) {
+        KindRow::Text(row) => match reading::read_row(row, s) {
+            Laid::Of { n, first: _, end } => Reading::Value {
+                consumed: end,
+                rest: s.len() - end,
+                entries: n,
+            },
+            Laid::Refused(r) => Reading::Refused(r),
+        },
+        KindRow::Refused(r) => Reading::Refused(r),
+    }
+}
+
+// Where the radio with these numbers lies in the value s: it has one number. The whole value has to read.
+pub fn locate(code: u8, path: Path, s: &[u8]) -> Located
+    ensures { λ r. ⌜ locatedOf r ≡ locateRadio code (numbersOf path) (now (s .entry)) ⌝ }
+{
+    match rows::row_of(code) {
+        KindRow::Text(row) => access::radio_in(row, path, s),
+        KindRow::Refused(r) => Located::Refused(r),
+    }
+}
+
+// The radio with these numbers as its own part of s, its id and its string with the length; the empty start of s where `locate` refuses.
+pub fn entry(code: u8, path: Path, s: &[u8]) -> &[u8]
+    ensures { λ r. ⌜ now r ≡ partOf (locateRadio code (numbersOf path) (now (s .entry))) (now (s .entry)) ⌝ }
+    ensures place { λ r. ⌜ r .ptr ≡ behind (startIn (locateRadio code (numbersOf path) (now (s .entry)))) (s .entry) ⌝ }
+{
+    access::part(locate(code, path, s), s)
+}
+
+// How many radios the value s has, asked for without numbers. A kind without radios has no entries to count, and a radio has none.
+pub fn count(code: u8, path: Path, s: &[u8]) -> Counted
+    ensures { λ r. ⌜ countedOf r ≡ countRadios code (numbersOf path) (now (s .entry)) ⌝ }
+{
+    match rows::row_of(code) {
+        KindRow::Text(row) => access::count_in(row, path, s),
+        KindRow::Refused(r) => Counted::Refused(r),
+    }
+}
+
+// Where the text with this number lies in the value s, which has three, one and three of them besides those of its radios. The whole value has to read.
+pub fn locate_text(code: u8, number: usize, s: &[u8]) -> Located
+    ensures { λ r. ⌜ locatedOf r ≡ locateText code number (now (s .entry)) ⌝ }
+{
+    match rows::row_of(code) {
+        KindRow::Text(row) => access::text_in(row, number, s),
+        KindRow::Refused(r) => Located::Refused(r),
+    }
+}
+
+// That text as its own part of s; the empty start of s where `locate_text` refuses.
+pub fn text(code: u8, number: usize, s: &[u8]) -> &[u8]
+    ensures { λ r. ⌜ now r ≡ partOf (locateText code number (now (s .entry))) (now (s .entry)) ⌝ }
+    ensures place { λ r. ⌜ r .ptr ≡ behind (startIn (locateText code number (now (s .entry)))) (s .entry) ⌝ }
+{
+    access::part(locate_text(code, number, s), s)
+}
+
+// Where the text of the radio with this number lies in the value s of DeviceInventory. The whole value has to read.
+pub fn locate_radio_text(number: usize, s: &[u8]) -> Located
+    ensures { λ r. ⌜ locatedOf r ≡ locateRadioText number (now (s .entry)) ⌝ }
+{
+    match rows::row_of(0xD4) {
+        KindRow::Text(row) => access::radio_text_in(row, number, s),
+        KindRow::Refused(r) => Located::Refused(r),
+    }
+}
+
+// That text as its own part of s; the empty start of s where `locate_radio_text` refuses.
+pub fn radio_text(number: usize, s: &[u8]) -> &[u8]
+    ensures { λ r. ⌜ now r ≡ partOf (locateRadioText number (now (s .entry))) (now (s .entry)) ⌝ }
+    ensures place { λ r. ⌜ r .ptr ≡ behind (startIn (locateRadioText number (now (s .entry)))) (s .entry) ⌝ }
+{
+    access::part(locate_radio_text(number, s), s)
+}

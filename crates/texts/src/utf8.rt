@@ -1,0 +1,100 @@
+// UTF-8 by the grammar of RFC 3629, section 4: a byte at a time, with what is awaited of the next one.
+ghost use mathlib.Core.Path.{_≡_};
+ghost use Prim.Native.Nat.{_≤_};
+ghost use lib.ListN.{length, drop};
+ghost use Rattle.texts.specs.Utf8.{forms, begun, onward, passes, isUtf8};
+ghost use Rattle.texts.specs.PrivateUtf8.{ranges, awaits, stepTold};
+
+// Of a character that has begun, so many bytes are still to come: the next one from `low` to `high`, and then tails. None: a character may begin, or the text end.
+pub struct Awaited {
+    pub left: usize,
+    pub low: u8,
+    pub high: u8,
+}
+
+pub enum After {
+    Onward(Awaited),
+    Refused,
+}
+
+// Awaited are so many bytes, the next one from `low` to `high`.
+fn awaiting(left: usize, low: u8, high: u8) -> After
+    ensures { λ r. ⌜ r ≡ After.Onward (record { left = left; low = low; high = high }) ⌝ }
+{
+    After::Onward(Awaited { left, low, high })
+}
+
+// What the first byte of a character awaits: the grammar's forms, a line for each.
+fn begin(b: u8) -> After
+    ensures { λ r. ⌜ stepTold r ≡ begun forms b ⌝ }
+{
+    match b {
+        0x00..=0x7F => awaiting(0, 0x80, 0xBF),
+        0xC2..=0xDF => awaiting(1, 0x80, 0xBF),
+        0xE0 => awaiting(2, 0xA0, 0xBF),
+        0xE1..=0xEC => awaiting(2, 0x80, 0xBF),
+        0xED => awaiting(2, 0x80, 0x9F),
+        0xEE..=0xEF => awaiting(2, 0x80, 0xBF),
+        0xF0 => awaiting(3, 0x90, 0xBF),
+        0xF1..=0xF3 => awaiting(3, 0x80, 0xBF),
+        0xF4 => awaiting(3, 0x80, 0x8F),
+        _ => After::Refused,
+    }
+}
+
+// What is awaited behind the byte b.
+fn step(awaited: Awaited, b: u8) -> After
+    ensures { λ r. ⌜ stepTold r ≡ onward (awaits awaited) b ⌝ }
+{
+    if awaited.left == 0 {
+        return begin(b);
+    }
+    if b < awaited.low {
+        return After::Refused;
+    }
+    if awaited.high < b {
+        return After::Refused;
+    }
+    awaiting(awaited.left - 1, 0x80, 0xBF)
+}
+
+// Past bytes below 0x80, each of them a character, eight at a time: most texts are made of these.
+fn past_ascii(s: &[u8], from: usize) -> usize
+    requires { ⌜ from ≤ length (now s) ⌝ }
+    ensures { λ r. ⌜ (r ≤ length (now (s .entry))) × (isUtf8 (drop from (now (s .entry))) ≡ isUtf8 (drop r (now (s .entry)))) ⌝ }
+{
+    let mut i = from;
+    while 8 <= s.len() - i {
+        let four = s[i] | s[i + 1] | s[i + 2] | s[i + 3];
+        let next = s[i + 4] | s[i + 5] | s[i + 6] | s[i + 7];
+        if 0x80 <= four | next {
+            return i;
+        }
+        i += 8;
+    }
+    i
+}
+
+// Whether these bytes are characters, one behind the other.
+pub(crate) fn is_utf8(s: &[u8]) -> bool
+    ensures { λ r. ⌜ r ≡ isUtf8 (now (s .entry)) ⌝ }
+{
+    let mut awaited = Awaited {
+        left: 0,
+        low: 0x80,
+        high: 0xBF,
+    };
+    let mut i = past_ascii(s, 0);
+    while i < s.len() {
+        match step(awaited, s[i]) {
+            After::Onward(next) => {
+                awaited = next;
+            }
+            After::Refused => {
+                return false;
+            }
+        }
+        i += 1;
+    }
+    awaited.left == 0
+}
