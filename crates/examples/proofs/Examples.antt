@@ -6,12 +6,16 @@ use Rattle.records.specs.Reading.{empty, fixed, readRecord}
 use Rattle.layouts.specs.Layouts.{layoutOf, isList}
 use Rattle.layouts.specs.Reading.{countAt, listOf, entriesEnd, endOf, consumedTo, readAs, readValue}
 use Rattle.layouts.specs.Access.{childAt, findEntry, spanOf, ofValue, locateEntry}
-use Rattle.kinds.specs.Kinds.{readKind, locateKind}
+use Rattle.texts.specs.Utf8.{passes}
+use Rattle.texts.specs.Texts.{textKind, isText}
+use Rattle.texts.specs.Reading.{untilZero, pieceAt, piecesAt, radioList, laidOf, validOf, wholeOf, readText}
+use Rattle.texts.specs.Access.{ofText, locateRadio, locateText, locateRadioText}
+use Rattle.kinds.specs.Kinds.{readListed, locateListed, readKind, locateKind}
 use Rattle.orders.proofs.Examples.{stays-at-2999, goes-at-3000, zero-then-last-one, last-one-alone}
 use Rattle.examples.specs.Examples.{Examples}
 
 pub examples : Examples
-unfolding readTlv stepAt walkFrom walkOf empty fixed readRecord layoutOf isList countAt listOf entriesEnd endOf consumedTo readAs readValue childAt findEntry spanOf ofValue locateEntry readKind locateKind
+unfolding readTlv stepAt walkFrom walkOf empty fixed readRecord layoutOf isList countAt listOf entriesEnd endOf consumedTo readAs readValue childAt findEntry spanOf ofValue locateEntry passes textKind isText untilZero pieceAt piecesAt radioList laidOf validOf wholeOf readText ofText locateRadio locateText locateRadioText readListed locateListed readKind locateKind
 examples = record {
   empty = refl;
   two-bytes = refl;
@@ -25,7 +29,7 @@ examples = record {
   unpadded-walk = refl;
   end-7 = refl;
   type-0-with-a-length = refl;
-  the-21 = refl;
+  the-24 = refl;
   joined = refl;
   left = refl;
   neither = refl;
@@ -67,6 +71,24 @@ examples = record {
   l2-neighbours = refl;
   l2-left-over = refl;
   last-beyond = refl;
+  device-identification = refl;
+  model-name = refl;
+  no-name = refl;
+  all-64 = refl;
+  control-url = refl;
+  zero-in-a-url = refl;
+  device-inventory = refl;
+  second-string = refl;
+  last-radio = refl;
+  no-byte-of-it = refl;
+  last-chip = refl;
+  overlong-zero = refl;
+  overlong-three = refl;
+  surrogate = refl;
+  last-of-three = refl;
+  last-of-four = refl;
+  beyond-the-last = refl;
+  cut-wins = refl;
   stays = λ store p i more. stays-at-2999 store (i .long) p (i .lent) (i .small) more;
   goes = λ store p i more. goes-at-3000 store (i .long) p (i .lent) (i .small) more;
   completes = λ store p q i j z.

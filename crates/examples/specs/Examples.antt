@@ -3,7 +3,7 @@
 use mathlib.Core.Path.{_≡_}
 use mathlib.Core.Bool.{true, false, cond}
 use mathlib.Core.List.{List, [], _∷_, _++_}
-use Prim.Native.Nat.{ℕ, zero, suc, _+_, _≤_}
+use Prim.Native.Nat.{ℕ, zero, suc, _+_, _-_, _≤_}
 use lib.ListN.{length, drop, replicate}
 use Rattle.numbers.specs.Numbers.{Answer, gives, refuses}
 use Rattle.framing.specs.Tlv.{readTlv, valueIn}
@@ -18,6 +18,7 @@ use Rattle.records.specs.declared.AssociationState.{AssociationState}
 use Rattle.records.specs.declared.MultiApProfile.{MultiApProfile}
 use Rattle.records.specs.declared.ByteCounterUnits.{ByteCounterUnits}
 use Rattle.layouts.specs.Access.{partOf}
+use Rattle.texts.specs.Access.{locateText, locateRadioText}
 use Rattle.kinds.specs.Kinds.{isKind, one, list, Typed, readKind, locateKind}
 use Rattle.table.specs.Rows.{placeSize, storeSize}
 use Rattle.pushing.specs.Push.{waiting, joined as joinedAs, missing}
@@ -135,6 +136,24 @@ configured = 0x01 ∷ (mac 1 ++ (0x02 ∷ (mac 2 ++ (0x40 ∷ 0x00 ∷ (home ++ 
 abbrev pub beyond : List ℕ
 beyond = 0x01 ∷ (mac 1 ++ (0x00 ∷ 0x01 ∷ (mac 2 ++ (0x00 ∷ 0x02 ∷ (mac 3 ++ mac 4)))))
 
+-- Text, by document 02: a field of 64 bytes with a text, then a zero byte, and then what is not looked at; "é" in two bytes
+abbrev pub in-field : List ℕ → List ℕ
+in-field text = text ++ (0x00 ∷ replicate (63 - length text) 0xFF)
+
+abbrev pub e-acute : List ℕ
+e-acute = 0xC3 ∷ 0xA9 ∷ []
+
+-- three fields, the last one without a zero byte
+abbrev pub identification : List ℕ
+identification = in-field e-acute ++ (in-field [] ++ replicate 64 0x61)
+
+-- three strings and two radios, each its id and a string: here the names from above
+abbrev pub inventory : List ℕ
+inventory = home ++ (guest ++ (0x00 ∷ (0x02 ∷ (mac 1 ++ (guest ++ (mac 2 ++ home))))))
+
+abbrev pub text-of : ℕ → ℕ → List ℕ → List ℕ
+text-of code i value = partOf (locateText code i value) value
+
 -- a push that is let in: with a large enough store and a payload that fits a place
 pub record LetIn (store : List ℕ) (p : Push) : Type 0 where
   pub long : storeSize ≤ length store
@@ -170,8 +189,8 @@ pub record Examples : Type 0 where
   -- "the `end 7` example stands": the marker is the last of seven bytes; and a TLV of type 0 with a length is none
   pub end-7 : counted (walkOf (0x01 ∷ 0x00 ∷ 0x01 ∷ 0x7F ∷ 0x00 ∷ 0x00 ∷ 0x00 ∷ [])) ≡ gives (record { count = 2; padding = 0 })
   pub type-0-with-a-length : counted (walkOf (0x00 ∷ 0x00 ∷ 0x01 ∷ 0x7F ∷ 0x01 ∷ 0x00 ∷ 0x00 ∷ [])) ≡ gives (record { count = 2; padding = 0 })
-  -- "The 21 kinds": there are so many, and these they are
-  pub the-21 : codesBelow 256 ≡ 0xB7 ∷ 0xB4 ∷ 0xB3 ∷ 0x92 ∷ 0x83 ∷ 0x80 ∷ 30 ∷ 26 ∷ 24 ∷ 23 ∷ 16 ∷ 15 ∷ 13 ∷ 12 ∷ 8 ∷ 7 ∷ 6 ∷ 4 ∷ 2 ∷ 1 ∷ 0 ∷ []
+  -- "The 21 kinds", and three that hold text: there are so many, and these they are
+  pub the-24 : codesBelow 256 ≡ 0xD4 ∷ 0xB7 ∷ 0xB4 ∷ 0xB3 ∷ 0x92 ∷ 0x83 ∷ 0x80 ∷ 30 ∷ 26 ∷ 24 ∷ 23 ∷ 22 ∷ 21 ∷ 16 ∷ 15 ∷ 13 ∷ 12 ∷ 8 ∷ 7 ∷ 6 ∷ 4 ∷ 2 ∷ 1 ∷ 0 ∷ []
   -- "association byte 80, 00, and 81 (refused)"
   pub joined : readKind 0x92 (association 0x80) ≡ one-record (associated AssociationState.JoinedBss) 13 0
   pub left : readKind 0x92 (association 0x00) ≡ one-record (associated AssociationState.LeftBss) 13 0
@@ -220,6 +239,27 @@ pub record Examples : Type 0 where
   pub l2-neighbours : readKind 30 beyond ≡ a-list 1 29 0
   pub l2-left-over : readKind 30 (and-more beyond) ≡ refuses 4 []
   pub last-beyond : entry-of 30 (0 ∷ 0 ∷ 1 ∷ []) beyond ≡ mac 4
+  -- The kinds that hold text (document 02, 2026-04)
+  pub device-identification : readKind 21 (and-more identification) ≡ a-list 0 192 1
+  pub model-name : text-of 21 0 identification ≡ e-acute
+  pub no-name : text-of 21 1 identification ≡ []
+  pub all-64 : text-of 21 2 identification ≡ replicate 64 0x61
+  pub control-url : readKind 22 (and-more e-acute) ≡ a-list 0 3 0
+  pub zero-in-a-url : text-of 22 0 (0x00 ∷ e-acute) ≡ 0x00 ∷ e-acute
+  pub device-inventory : readKind 0xD4 (and-more inventory) ≡ a-list 2 36 1
+  pub second-string : text-of 0xD4 1 inventory ≡ 0x67 ∷ 0x75 ∷ 0x65 ∷ 0x73 ∷ 0x74 ∷ []
+  pub last-radio : entry-of 0xD4 (1 ∷ []) inventory ≡ mac 2 ++ home
+  pub no-byte-of-it : locateKind 0xD4 (1 ∷ 0 ∷ []) inventory ≡ refuses 6 []
+  pub last-chip : partOf (locateRadioText 1 inventory) inventory ≡ 0x68 ∷ 0x6F ∷ 0x6D ∷ 0x65 ∷ []
+  -- the boundaries of RFC 3629's grammar
+  pub overlong-zero : readKind 22 (0xC0 ∷ 0x80 ∷ []) ≡ refuses 18 []
+  pub overlong-three : readKind 22 (0xE0 ∷ 0x9F ∷ 0xBF ∷ []) ≡ refuses 18 []
+  pub surrogate : readKind 22 (0xED ∷ 0xA0 ∷ 0x80 ∷ []) ≡ refuses 18 []
+  pub last-of-three : readKind 22 (0xEF ∷ 0xBF ∷ 0xBF ∷ []) ≡ a-list 0 3 0
+  pub last-of-four : readKind 22 (0xF4 ∷ 0x8F ∷ 0xBF ∷ 0xBF ∷ []) ≡ a-list 0 4 0
+  pub beyond-the-last : readKind 22 (0xF4 ∷ 0x90 ∷ 0x80 ∷ 0x80 ∷ []) ≡ refuses 18 []
+  -- 3 wins over 18: a bad first string, and no second one
+  pub cut-wins : readKind 0xD4 (0x01 ∷ 0xFF ∷ []) ≡ refuses 3 []
   -- "elapsed 2,999 stays, 3,000 goes": one fragment, not marked last, and a sweep so many milliseconds later
   pub stays : (store : List ℕ) (p : Push) → LetIn store p → p .arrival .fragment .last ≡ false
       → (tells (after (start store) (push p)) (sweep (p .arrival .time + 2999)) ≡ dropped noneDropped)

@@ -1,4 +1,4 @@
--- No code is of a record and of a list: a test over the codes of the records.
+-- No code is of two families: a test over the codes of the records, and one over those of the kinds that hold text.
 use mathlib.Core.Path.{_≡_, refl, ap, _∙_}
 use mathlib.Core.Bool.{Bool, true, false, cond}
 use mathlib.Core.List.{List, [], _∷_}
@@ -9,29 +9,44 @@ use borrow.Author.Tests.{eqb-true}
 use Rattle.numbers.specs.Numbers.{gives, isGiven}
 use Rattle.records.specs.declared.Kind.{Kind}
 use Rattle.records.specs.Kinds.{kinds, codeOf}
-use Rattle.records.specs.Reading.{withCode}
+use Rattle.records.specs.Reading.{isRecord, withCode}
 use Rattle.layouts.specs.Layouts.{layoutOf, isList}
+use Rattle.texts.specs.Texts.{textKind, isText}
+use Rattle.texts.proofs.Claims.{of-three}
+use Rattle.kinds.specs.Kinds.{isListed}
 use Rattle.kinds.specs.Claims.{Apart}
 
-abbrev noLists : List Kind → Bool
-noLists [] = true
-noLists (k ∷ ks) = cond (isList (codeOf k)) false (noLists ks)
+abbrev noneListed : List Kind → Bool
+noneListed [] = true
+noneListed (k ∷ ks) = cond (isListed (codeOf k)) false (noneListed ks)
 
-tested : noLists kinds ≡ true
-unfolding isList layoutOf
+tested : noneListed kinds ≡ true
+unfolding isList layoutOf isText textKind
 tested = refl
 
-of-these : (code : ℕ) (ks : List Kind) → noLists ks ≡ true → isGiven (withCode code ks) ≡ true → isList code ≡ false
+of-these : (code : ℕ) (ks : List Kind) → noneListed ks ≡ true → isGiven (withCode code ks) ≡ true → isListed code ≡ false
 of-these code [] t e = let z : _≡_ {A = ℕ} 0 1 = cc in absurd (omega arith)
-of-these code (k ∷ ks) t e = by-list (isList (codeOf k)) refl t (of-these code ks)
+of-these code (k ∷ ks) t e = by-list (isListed (codeOf k)) refl t (of-these code ks)
   where
-    by-code : (b : Bool) → eqb code (codeOf k) ≡ b → isGiven (cond b (gives k) (withCode code ks)) ≡ true → isList (codeOf k) ≡ false → (isGiven (withCode code ks) ≡ true → isList code ≡ false) → isList code ≡ false
-    by-code true f e l on = ap isList (eqb-true code (codeOf k) f) ∙ l
+    by-code : (b : Bool) → eqb code (codeOf k) ≡ b → isGiven (cond b (gives k) (withCode code ks)) ≡ true → isListed (codeOf k) ≡ false → (isGiven (withCode code ks) ≡ true → isListed code ≡ false) →
+        isListed code ≡ false
+    by-code true f e l on = ap isListed (eqb-true code (codeOf k) f) ∙ l
     by-code false f e l on = on e
 
-    by-list : (b : Bool) → isList (codeOf k) ≡ b → cond b false (noLists ks) ≡ true → (noLists ks ≡ true → isGiven (withCode code ks) ≡ true → isList code ≡ false) → isList code ≡ false
+    by-list : (b : Bool) → isListed (codeOf k) ≡ b → cond b false (noneListed ks) ≡ true → (noneListed ks ≡ true → isGiven (withCode code ks) ≡ true → isListed code ≡ false) → isListed code ≡ false
     by-list true f t on = let z : _≡_ {A = ℕ} 0 1 = cc in absurd (omega arith)
     by-list false f t on = by-code (eqb code (codeOf k)) refl e f (on t)
 
+pub not-listed : (code : ℕ) → isRecord code ≡ true → isListed code ≡ false
+not-listed code = of-these code kinds tested
+
+neither : (a b : Bool) → cond a true b ≡ false → (a ≡ false) × (b ≡ false)
+neither true b e = let z : _≡_ {A = ℕ} 0 1 = cc in absurd (omega arith)
+neither false b e = (refl, e)
+
+text-apart : (code : ℕ) → isText code ≡ true → isList code ≡ false
+unfolding isList layoutOf
+text-apart = of-three (λ c. isList c ≡ false) refl refl refl
+
 pub apart : Apart
-apart code = of-these code kinds tested
+apart code = (λ r. neither (isList code) (isText code) (not-listed code r), text-apart code)

@@ -13,12 +13,11 @@ use Rattle.framing.specs.Tlv.{writeSize, tlvBytes, leaves}
 use Rattle.records.specs.declared.Record.{Record}
 use Rattle.records.specs.Reading.{Reading, isRecord, readRecord}
 use Rattle.records.proofs.Given.{isKnown, known, consumed-within as record-within}
-use Rattle.layouts.specs.Layouts.{isList}
-use Rattle.layouts.specs.Reading.{Consumed, readValue}
-use Rattle.layouts.specs.Access.{Span, locateEntry, countEntries, partOf, startIn}
-use Rattle.layouts.proofs.Claims.{values as list-values}
-use Rattle.kinds.specs.Kinds.{Typed, one, isKind, oneRecord, oneList, readKind, withoutRecord, noEntryIn, locateKind, countKind}
+use Rattle.layouts.specs.Reading.{Consumed}
+use Rattle.layouts.specs.Access.{Span, partOf, startIn}
+use Rattle.kinds.specs.Kinds.{Typed, one, isListed, readListed, locateListed, countListed, isKind, oneRecord, oneList, readKind, withoutRecord, noEntryIn, locateKind, countKind}
 use Rattle.kinds.specs.Writing.{writeKind, kindBytes}
+use Rattle.kinds.proofs.Families.{listed-within}
 
 -- what is measured of a record is what reading it gives, without the record
 pub record Measures (code : ℕ) (s : List ℕ) (n : ℕ) : Type 0 where
@@ -45,28 +44,28 @@ asked (gives a) n vs e = let i : n ≡ 6 = cc in let j : vs ≡ [] = cc in rw (i
 asked (refuses m us) n vs e = let i : n ≡ m = cc in let j : vs ≡ us = cc in rw (i, j)
 
 module _ (code : ℕ) (s : List ℕ) where
-  -- of a list kind
-  module _ (e : isList code ≡ true) where
-    pub list-reads : mapped oneList (readValue code s) ≡ readKind code s
+  -- of a kind with entries
+  module _ (e : isListed code ≡ true) where
+    pub list-reads : mapped oneList (readListed code s) ≡ readKind code s
     unfolding readKind
     list-reads = rw e
 
-    pub list-located : (is : List ℕ) → locateEntry code is s ≡ locateKind code is s
+    pub list-located : (is : List ℕ) → locateListed code is s ≡ locateKind code is s
     unfolding locateKind
     list-located is = rw e
 
-    pub list-part : (is : List ℕ) → partOf (locateEntry code is s) s ≡ partOf (locateKind code is s) s
+    pub list-part : (is : List ℕ) → partOf (locateListed code is s) s ≡ partOf (locateKind code is s) s
     list-part is = ap (λ (x : Answer Span). partOf x s) (list-located is)
 
-    pub list-start : (is : List ℕ) → startIn (locateEntry code is s) ≡ startIn (locateKind code is s)
+    pub list-start : (is : List ℕ) → startIn (locateListed code is s) ≡ startIn (locateKind code is s)
     list-start is = ap startIn (list-located is)
 
-    pub list-counted : (is : List ℕ) → countEntries code is s ≡ countKind code is s
+    pub list-counted : (is : List ℕ) → countListed code is s ≡ countKind code is s
     unfolding countKind
     list-counted is = rw e
 
   -- of any other
-  module _ (e : isList code ≡ false) where
+  module _ (e : isListed code ≡ false) where
     pub record-reads : mapped (oneRecord (length s)) (readRecord code s) ≡ readKind code s
     unfolding readKind
     record-reads = rw e
@@ -102,9 +101,9 @@ module _ (code : ℕ) (s : List ℕ) where
     pub inside : t .consumed ≤ length s
     pub all : t .consumed + t .rest ≡ length s
 
-  list-in : (x : Answer Consumed) → x ≡ readValue code s → (t : Typed Record) → gives t ≡ mapped oneList x → Within t
+  list-in : (x : Answer Consumed) → x ≡ readListed code s → (t : Typed Record) → gives t ≡ mapped oneList x → Within t
   list-in (gives c) e t g =
-      let h = list-values .consumed-within code s c (sym e) in
+      let h = listed-within code s c (sym e) in
       let is : t ≡ oneList c = given t (oneList c) g in
       rw is (record { inside = h .0; all = h .1 })
   list-in (refuses n vs) e t g = never _ _ _ g
@@ -118,21 +117,21 @@ module _ (code : ℕ) (s : List ℕ) where
 
   module _ (t : Typed Record) (e : gives t ≡ readKind code s) where
     pub within : Within t
-    within = by-list (isList code) refl
+    within = by-list (isListed code) refl
       where
-        by-list : (b : Bool) → isList code ≡ b → Within t
-        by-list true f = list-in (readValue code s) refl t (e ∙ sym (list-reads f))
+        by-list : (b : Bool) → isListed code ≡ b → Within t
+        by-list true f = list-in (readListed code s) refl t (e ∙ sym (list-reads f))
         by-list false f = record-in (readRecord code s) refl t (e ∙ sym (record-reads f))
 
     -- what reads is of a kind
     pub of-a-kind : true ≡ isKind code
-    of-a-kind = by-list (isList code) refl
+    of-a-kind = by-list (isListed code) refl
       where
         by-reading : (x : Answer Reading) → x ≡ readRecord code s → gives t ≡ mapped (oneRecord (length s)) x → true ≡ isRecord code
         by-reading (gives r) f g = is-record r f
         by-reading (refuses n vs) f g = never _ _ _ g
 
-        by-list : (b : Bool) → isList code ≡ b → true ≡ isKind code
+        by-list : (b : Bool) → isListed code ≡ b → true ≡ isKind code
         by-list true f = rw f
         by-list false f = rw f (by-reading (readRecord code s) refl (e ∙ sym (record-reads f)))
 

@@ -18,34 +18,36 @@ use Rattle.records.specs.Values.{bytesOf}
 use Rattle.records.specs.Reading.{Reading, readRecord}
 use Rattle.records.proofs.Given.{consumed-within}
 use Rattle.record_writing.proofs.Claims.{round-trips}
-use Rattle.layouts.specs.Layouts.{isList}
-use Rattle.layouts.specs.Reading.{Consumed, readValue}
+use Rattle.layouts.specs.Reading.{Consumed}
 use Rattle.layouts.specs.Access.{Span, partOf}
-use Rattle.layouts.proofs.Claims.{consumed-alone}
-use Rattle.kinds.specs.Kinds.{Typed, one, oneRecord, oneList, readKind, locateKind, countKind}
+use Rattle.texts.specs.Access.{locateText, locateRadioText}
+use Rattle.kinds.specs.Kinds.{Typed, one, isListed, readListed, oneRecord, oneList, readKind, locateKind, countKind}
 use Rattle.kinds.specs.Writing.{kindBytes}
 use Rattle.kinds.specs.Claims.{valueAt, Same, ReadsBack, RecordReadsBack}
-use Rattle.kinds.proofs.Apart.{apart}
+use Rattle.kinds.proofs.Apart.{not-listed}
+use Rattle.kinds.proofs.Families.{listed-alone, no-texts}
 use Rattle.kinds.proofs.Laws.{list-reads, list-located, list-part, list-counted, record-reads, is-record, no-entry, no-count, size, written-bytes}
 
 module _ (code : ℕ) (s : List ℕ) (bytes : Bytes s) (t : Typed Record) where
-  -- of a list kind
-  as-list : isList code ≡ true → (x : Answer Consumed) → x ≡ readValue code s → gives t ≡ mapped oneList x → Same code t s (take (t .consumed) s)
+  -- of a kind with entries
+  as-list : isListed code ≡ true → (x : Answer Consumed) → x ≡ readListed code s → gives t ≡ mapped oneList x → Same code t s (take (t .consumed) s)
   as-list f (gives c) e g =
       let i : t ≡ oneList c = given t (oneList c) g in
       let u : List ℕ = take (c .consumed) s in
-      let a = consumed-alone code s c (sym e) in
+      let a = listed-alone code s c (sym e) in
       rw i
       (record {
         reads = sym (list-reads code u f) ∙ ap (mapped oneList) (a .reads);
         places = λ is. sym (list-located code u f is) ∙ a .located is ∙ list-located code s f is;
         counts = λ is. sym (list-counted code u f is) ∙ a .counts is ∙ list-counted code s f is;
         entries = λ is. sym (list-part code u f is) ∙ a .parts is ∙ list-part code s f is;
+        texts = a .texts;
+        radio-texts = a .radio-texts;
       })
   as-list f (refuses n vs) e g = never _ _ _ g
 
   -- of a record, which has no entries
-  as-record : isList code ≡ false → (x : Answer Reading) → x ≡ readRecord code s → gives t ≡ mapped (oneRecord (length s)) x → Same code t s (take (t .consumed) s)
+  as-record : isListed code ≡ false → (x : Answer Reading) → x ≡ readRecord code s → gives t ≡ mapped (oneRecord (length s)) x → Same code t s (take (t .consumed) s)
   as-record f (gives r) e g =
       let i : t ≡ oneRecord (length s) r = given t (oneRecord (length s) r) g in
       let u : List ℕ = take (r .consumed) s in
@@ -58,6 +60,8 @@ module _ (code : ℕ) (s : List ℕ) (bytes : Bytes s) (t : Typed Record) where
         places = λ is. sym (six u a is) ∙ six s (sym e) is;
         counts = λ is. sym (none u a is) ∙ none s (sym e) is;
         entries = λ is. ap (λ (x : Answer Span). partOf x u) (sym (six u a is)) ∙ ap (λ (x : Answer Span). partOf x s) (six s (sym e) is);
+        texts = no-texts code f s u .0;
+        radio-texts = no-texts code f s u .1;
       })
     where
       six : (v : List ℕ) → readRecord code v ≡ gives r → (is : List ℕ) → refuses 6 [] ≡ locateKind code is v
@@ -69,10 +73,10 @@ module _ (code : ℕ) (s : List ℕ) (bytes : Bytes s) (t : Typed Record) where
 
   -- the consumed bytes alone are such a value
   alone : gives t ≡ readKind code s → Same code t s (take (t .consumed) s)
-  alone e = by-list (isList code) refl
+  alone e = by-list (isListed code) refl
     where
-      by-list : (b : Bool) → isList code ≡ b → Same code t s (take (t .consumed) s)
-      by-list true f = as-list f (readValue code s) refl (e ∙ sym (list-reads code s f))
+      by-list : (b : Bool) → isListed code ≡ b → Same code t s (take (t .consumed) s)
+      by-list true f = as-list f (readListed code s) refl (e ∙ sym (list-reads code s f))
       by-list false f = as-record f (readRecord code s) refl (e ∙ sym (record-reads code s f))
 
 pub reads-back : ReadsBack
@@ -92,6 +96,6 @@ record-reads-back r behind h =
     let b = round-trips .tlv-back r behind h in
     let l : length (valueAt w) ≡ length (bytesOf r) = ap length (ap (λ (x : Answer TlvRead). valueIn x w) (b .0) ∙ take-append-seam (bytesOf r) behind) in
     let z : length (valueAt w) - length (bytesOf r) ≡ 0 = omega (arith, l) in
-    sym (record-reads c (valueAt w) (apart c (sym (is-record c (valueAt w) _ (sym (b .1))))))
+    sym (record-reads c (valueAt w) (not-listed c (sym (is-record c (valueAt w) _ (sym (b .1))))))
     ∙ ap (mapped (oneRecord (length (valueAt w)))) (b .1)
     ∙ ap (λ (n : ℕ). gives (record { held = one r; consumed = length (bytesOf r); rest = n })) z

@@ -19,6 +19,8 @@ use Rattle.record_writing.specs.Writing.{readable}
 use Rattle.layouts.specs.Layouts.{isList}
 use Rattle.layouts.specs.declared.Path.{Path}
 use Rattle.layouts.specs.Access.{numbersOf, locatedOf, countedOf, partOf, startIn}
+use Rattle.texts.specs.Texts.{isText}
+use Rattle.texts.specs.Access.{locateText, locateRadioText}
 use Rattle.kinds.specs.Kinds.{Typed, one, isKind, kindReadOf, readKind, kindSizeOf, withoutRecord, locateKind, countKind}
 use Rattle.kinds.specs.Writing.{writeKind, kindBytes}
 
@@ -34,24 +36,26 @@ pub record Firmness : Type 0 where
   pub write-kind : (code : ℕ) (s out : List ℕ)
       → Firm {A = Written × List ℕ} (λ o. (writtenOf (o .0) ≡ writeKind code s (length out)) × (o .1 ≡ leaves (writeKind code s (length out)) (kindBytes code s) out))
 
--- no code is of a record and of a list
+-- no code is of two families: of a record, of a list, of a value that holds text
 abbrev pub Apart : Type 0
-Apart = (code : ℕ) → isRecord code ≡ true → isList code ≡ false
+Apart = (code : ℕ) → (isRecord code ≡ true → (isList code ≡ false) × (isText code ≡ false)) × (isText code ≡ true → isList code ≡ false)
 
 -- "answer, consumed and rest": what was consumed lies in the value, and the rest is what is left of it
 abbrev pub AllOfIt : Type 0
 AllOfIt = (code : ℕ) (s : List ℕ) (t : Typed Record) → readKind code s ≡ gives t → (t .consumed ≤ length s) × (t .consumed + t .rest ≡ length s)
 
--- Round trips, for all 21 kinds. The value of the TLV at the start of s:
+-- Round trips, for all 24 kinds. The value of the TLV at the start of s:
 abbrev pub valueAt : List ℕ → List ℕ
 valueAt s = valueIn (readTlv s) s
 
--- the value v reads as t did, with nothing behind it, and its entries at every level are those of the value s, byte for byte
+-- the value v reads as t did, with nothing behind it, and its entries at every level, its texts and those of its radios are those of the value s, byte for byte
 pub record Same (code : ℕ) (t : Typed Record) (s v : List ℕ) : Type 0 where
   pub reads : readKind code v ≡ gives (record { held = t .held; consumed = t .consumed; rest = 0 })
   pub places : (numbers : List ℕ) → locateKind code numbers v ≡ locateKind code numbers s
   pub counts : (numbers : List ℕ) → countKind code numbers v ≡ countKind code numbers s
   pub entries : (numbers : List ℕ) → partOf (locateKind code numbers v) v ≡ partOf (locateKind code numbers s) s
+  pub texts : (i : ℕ) → partOf (locateText code i v) v ≡ partOf (locateText code i s) s
+  pub radio-texts : code ≡ 0xD4 → (i : ℕ) → partOf (locateRadioText i v) v ≡ partOf (locateRadioText i s) s
 
 -- what is written from a value reads back, whatever stands behind it
 abbrev pub ReadsBack : Type 0

@@ -1,4 +1,4 @@
--- Reading a kind by its code (document 01, "The 21 kinds"): nine are lists, twelve are records, and any other code gives 16.
+-- Reading a kind by its code (document 01, "The 21 kinds", and document 02, 2026-04): nine are lists, three hold text, twelve are records, and any other code gives 16.
 use mathlib.Core.Bool.{Bool, true, cond}
 use mathlib.Core.List.{List, []}
 use Prim.Native.Nat.{ℕ, _-_}
@@ -10,16 +10,32 @@ use Rattle.records.specs.Reading.{isRecord}
 use Rattle.layouts.specs.Layouts.{isList}
 use Rattle.layouts.specs.Reading as layouts
 use Rattle.layouts.specs.Access as access
+use Rattle.texts.specs.Texts.{isText}
+use Rattle.texts.specs.Reading as texts
+use Rattle.texts.specs.Access.{locateRadio, countRadios}
 use Rattle.kinds.specs.declared.KindRead.{KindRead}
 use Rattle.kinds.specs.declared.KindRead.the-variants as KindRead
 use Rattle.kinds.specs.declared.KindSize.{KindSize}
 use Rattle.kinds.specs.declared.KindSize.the-variants as KindSize
 
--- a code among the 21
-abbrev pub isKind : ℕ → Bool
-isKind code = cond (isList code) true (isRecord code)
+-- a value with entries, of a list kind or of one that holds text: "All three are written as list kinds are; the radios are entries"
+abbrev pub isListed : ℕ → Bool
+isListed code = cond (isList code) true (isText code)
 
--- what a typed value holds: a record, told as an R, or a list of so many entries
+unfoldable pub readListed : ℕ → List ℕ → Answer layouts.Consumed
+readListed code s = cond (isText code) (texts.readText code s) (layouts.readValue code s)
+
+unfoldable pub locateListed : ℕ → List ℕ → List ℕ → Answer access.Span
+locateListed code numbers s = cond (isText code) (locateRadio code numbers s) (access.locateEntry code numbers s)
+
+unfoldable pub countListed : ℕ → List ℕ → List ℕ → Answer ℕ
+countListed code numbers s = cond (isText code) (countRadios code numbers s) (access.countEntries code numbers s)
+
+-- a code among the 24
+abbrev pub isKind : ℕ → Bool
+isKind code = cond (isListed code) true (isRecord code)
+
+-- what a typed value holds: a record, told as an R, or so many entries
 pub data Contents (R : Type 0) : Type 0 where
   one : R → Contents R
   list : ℕ → Contents R
@@ -36,7 +52,7 @@ kindReadOf (KindRead.Record r c n) = gives (record { held = one r; consumed = c;
 kindReadOf (KindRead.List n c m) = gives (record { held = list n; consumed = c; rest = m })
 kindReadOf (KindRead.Refused r) = told r
 
--- a record or a list that was read, of a value of so many bytes
+-- a record or entries that were read, of a value of so many bytes
 abbrev pub oneRecord : ℕ → records.Reading → Typed Record
 oneRecord size r = record { held = one (r .value); consumed = r .consumed; rest = size - r .consumed }
 
@@ -44,7 +60,7 @@ abbrev pub oneList : layouts.Consumed → Typed Record
 oneList c = record { held = list (c .entries); consumed = c .consumed; rest = c .rest }
 
 unfoldable pub readKind : ℕ → List ℕ → Answer (Typed Record)
-readKind code s = cond (isList code) (mapped oneList (layouts.readValue code s)) (mapped (oneRecord (length s)) (records.readRecord code s))
+readKind code s = cond (isListed code) (mapped oneList (readListed code s)) (mapped (oneRecord (length s)) (records.readRecord code s))
 
 -- measuring: the same without the record itself
 abbrev pub kindSizeOf : KindSize → Answer (Typed Unit)
@@ -64,7 +80,7 @@ abbrev pub noEntryIn : {A : Type 0} → ℕ → List ℕ → Answer A
 noEntryIn code s = andThen (records.readRecord code s) (λ r. refuses 6 [])
 
 unfoldable pub locateKind : ℕ → List ℕ → List ℕ → Answer access.Span
-locateKind code numbers s = cond (isList code) (access.locateEntry code numbers s) (noEntryIn code s)
+locateKind code numbers s = cond (isListed code) (locateListed code numbers s) (noEntryIn code s)
 
 unfoldable pub countKind : ℕ → List ℕ → List ℕ → Answer ℕ
-countKind code numbers s = cond (isList code) (access.countEntries code numbers s) (noEntryIn code s)
+countKind code numbers s = cond (isListed code) (countListed code numbers s) (noEntryIn code s)

@@ -1,5 +1,5 @@
 -- Writing from value bytes: "List kinds are written from lent value bytes that pass the same reading; the rest is not written." Value bytes of a record
--- kind are written in the same way. "on writing 16, 9, 3, 4, 5, 8, 7", of which 9 is a record's alone.
+-- kind are written in the same way. "on writing 16, 9, 3, 4, 5, 8, 7", of which 9 is a record's alone; 18 comes "after 3, on writing too" (2026-04).
 use mathlib.Core.List.{List, []}
 use Prim.Native.Nat.{ℕ}
 use lib.ListN.{take}

@@ -1,4 +1,6 @@
-// The 21 kinds by their codes: a value is read as a list or as a record, its entries are asked for, and value bytes that read are written as a TLV.
+// The 24 kinds by their codes: a value is read as a list, as text or as a record, its entries are asked for, and value bytes that read are written as a TLV.
+mod listed;
+
 use framing::Written;
 use layouts::Counted;
 use layouts::Located;
@@ -19,7 +21,7 @@ ghost use Rattle.records.specs.Reading.{readRecord};
 ghost use Rattle.kinds.specs.Kinds.{isKind, kindReadOf, oneRecord, readKind, kindSizeOf, withoutRecord, noEntryIn, locateKind, countKind};
 ghost use Rattle.kinds.specs.Writing.{writeKind, kindBytes};
 
-// What reading a typed value finds: a record, or how many entries a list kind's own list has; with the bytes that were consumed, and how many are left
+// What reading a typed value finds: a record, or how many entries a list kind's own list or a value that holds text has; with the bytes that were consumed, and how many are left
 // behind them.
 pub enum KindRead {
     Record {
@@ -49,11 +51,11 @@ pub enum KindSize {
     Refused(Refusal),
 }
 
-// Is the code among the 21?
+// Is the code among the 24?
 pub fn is_kind(code: u8) -> bool
     ensures { λ r. ⌜ r ≡ isKind code ⌝ }
 {
-    if layouts::is_list(code) {
+    if listed::is_listed(code) {
         return true;
     }
     records::is_record(code)
@@ -77,8 +79,8 @@ fn read_record(code: u8, s: &[u8]) -> KindRead
 pub fn read_kind(code: u8, s: &[u8]) -> KindRead
     ensures { λ r. ⌜ kindReadOf r ≡ readKind code (now (s .entry)) ⌝ }
 {
-    if layouts::is_list(code) {
-        let list = layouts::read_value(code, s);
+    if listed::is_listed(code) {
+        let list = listed::read_listed(code, s);
         match list {
             Reading::Value {
                 consumed,
@@ -113,8 +115,8 @@ fn measure_record(code: u8, s: &[u8]) -> KindSize
 pub fn measure(code: u8, s: &[u8]) -> KindSize
     ensures { λ r. ⌜ kindSizeOf r ≡ mapped withoutRecord (readKind code (now (s .entry))) ⌝ }
 {
-    if layouts::is_list(code) {
-        match layouts::read_value(code, s) {
+    if listed::is_listed(code) {
+        match listed::read_listed(code, s) {
             Reading::Value {
                 consumed,
                 rest,
@@ -148,8 +150,8 @@ fn no_entry_in(code: u8, s: &[u8]) -> Refusal
 pub fn locate(code: u8, path: Path, s: &[u8]) -> Located
     ensures { λ r. ⌜ locatedOf r ≡ locateKind code (numbersOf path) (now (s .entry)) ⌝ }
 {
-    if layouts::is_list(code) {
-        return layouts::locate(code, path, s);
+    if listed::is_listed(code) {
+        return listed::locate_listed(code, path, s);
     }
     Located::Refused(no_entry_in(code, s))
 }
@@ -159,8 +161,8 @@ pub fn entry(code: u8, path: Path, s: &[u8]) -> &[u8]
     ensures { λ r. ⌜ now r ≡ partOf (locateKind code (numbersOf path) (now (s .entry))) (now (s .entry)) ⌝ }
     ensures place { λ r. ⌜ r .ptr ≡ behind (startIn (locateKind code (numbersOf path) (now (s .entry)))) (s .entry) ⌝ }
 {
-    if layouts::is_list(code) {
-        return layouts::entry(code, path, s);
+    if listed::is_listed(code) {
+        return listed::entry_listed(code, path, s);
     }
     &s[0..0]
 }
@@ -169,8 +171,8 @@ pub fn entry(code: u8, path: Path, s: &[u8]) -> &[u8]
 pub fn count(code: u8, path: Path, s: &[u8]) -> Counted
     ensures { λ r. ⌜ countedOf r ≡ countKind code (numbersOf path) (now (s .entry)) ⌝ }
 {
-    if layouts::is_list(code) {
-        return layouts::count(code, path, s);
+    if listed::is_listed(code) {
+        return listed::count_listed(code, path, s);
     }
     Counted::Refused(no_entry_in(code, s))
 }

@@ -30,7 +30,7 @@ use Rattle.layouts.proofs.Local.{Agree, taken, end-local, list-alike, s
 use Rattle.layouts.proofs.Values.{Ended, ended, asked, answers}
 
 -- no two answers are told alike
-reading-told : (a b : Reading) → readingOf a ≡ readingOf b → a ≡ b
+pub reading-told : (a b : Reading) → readingOf a ≡ readingOf b → a ≡ b
 reading-told (Value c r n) (Value d t m) e = ap (λ v. Value (v .consumed) (v .rest) (v .entries)) (given _ _ e)
 reading-told (Value c r n) (Refused x) e = never _ _ _ e
 reading-told (Refused x) (Value c r n) e = never _ _ _ (sym e)
@@ -117,7 +117,7 @@ pub values : Values
 values = record { levels-3 = levels-3; consumed-within = consumed-within; own-count = own-count; every-entry = every-entry; no-other = no-other; no-numbers = no-numbers }
 
 -- a part of the first q bytes is the same part of all
-part-alone : (s : List ℕ) (p q e : ℕ) → p ≤ e → e ≤ q → q ≤ length s → take (e - p) (drop p (take q s)) ≡ take (e - p) (drop p s)
+pub part-alone : (s : List ℕ) (p q e : ℕ) → p ≤ e → e ≤ q → q ≤ length s → take (e - p) (drop p (take q s)) ≡ take (e - p) (drop p s)
 part-alone s p q e a b c =
     let n = length-take-le q s c in
     let m = length-drop p (take q s) in

@@ -11,16 +11,16 @@ use borrow.Author.Needs.{needs}
 use Rattle.kinds.proofs.entry.Statement.{statement}
 use Rattle.kinds.proofs.entry.Tie as tie
 
-is-list-requires : tie.Need-is-list-requires
-is-list-requires c κs = search needs
+is-listed-requires : tie.Need-is-listed-requires
+is-listed-requires c κs = search needs
 
-entry-requires : tie.Need-entry-requires
-entry-requires c κs = search needs
+entry-listed-requires : tie.Need-entry-listed-requires
+entry-listed-requires c κs = search needs
 
 returns : tie.Need-returns
 returns c =
-    let h = sym (c .before .before .is-list .ensures) ∙ c .before .if1 .taken in
-    (c .entry .ensures .0 ∙ list-part _ _ h _, c .entry .ensures .1 ∙ ap (λ (n : ℕ). behind n (c .before .before .before .before .args .s)) (list-start _ _ h _))
+    let h = sym (c .before .before .is-listed .ensures) ∙ c .before .if1 .taken in
+    (c .entry-listed .ensures .0 ∙ list-part _ _ h _, c .entry-listed .ensures .1 ∙ ap (λ (n : ℕ). behind n (c .before .before .before .before .args .s)) (list-start _ _ h _))
 
 sub-result : tie.Need-sub-result
 sub-result c = search needs
@@ -34,7 +34,7 @@ part-result-end c = search needs
 returns-2 : tie.Need-returns-2
 returns-2 c =
     let x = c .before .before .before .before .args in
-    let h = nothing (x .code) (x .s .now) (sym (c .before .before .is-list .ensures) ∙ c .before .if1 .left) (numbersOf (x .path)) in
+    let h = nothing (x .code) (x .s .now) (sym (c .before .before .is-listed .ensures) ∙ c .before .if1 .left) (numbersOf (x .path)) in
     let e : partOf (locateKind (x .code) (numbersOf (x .path)) (x .s .now)) (x .s .now) ≡ [] = sym (h .0) in
     (simp (e, sub-self), ap (λ (n : ℕ). behind n (x .s)) (h .1))
 
@@ -42,8 +42,8 @@ pub entry-spec : {M : Type 1} → statement M
 entry-spec =
     tie.close
     (tie.spec
-    is-list-requires
-    entry-requires
+    is-listed-requires
+    entry-listed-requires
     returns
     sub-result
     part-result-start

@@ -8,11 +8,11 @@ use borrow.Author.Needs.{needs}
 use Rattle.kinds.proofs.measure.Statement.{statement}
 use Rattle.kinds.proofs.measure.Tie as tie
 
-is-list-requires : tie.Need-is-list-requires
-is-list-requires c κs = search needs
+is-listed-requires : tie.Need-is-listed-requires
+is-listed-requires c κs = search needs
 
-read-value-requires : tie.Need-read-value-requires
-read-value-requires c κs = search needs
+read-listed-requires : tie.Need-read-listed-requires
+read-listed-requires c κs = search needs
 
 enum-known-consumed : tie.Need-enum-known-consumed
 enum-known-consumed c = search needs
@@ -24,20 +24,20 @@ measure-record-requires : tie.Need-measure-record-requires
 measure-record-requires c κs = search needs
 
 returns : tie.Need-returns
-returns c = ap (mapped withoutRecord) (ap (mapped oneList) (ap readingOf (sym (c .before .consumed .given .1)) ∙ c .before .before .before .read-value .ensures) ∙ list-reads _ _ (sym (c .before .before .before .before .before .is-list .ensures) ∙ c .before .before .before .before .if1 .taken))
+returns c = ap (mapped withoutRecord) (ap (mapped oneList) (ap readingOf (sym (c .before .consumed .given .1)) ∙ c .before .before .before .read-listed .ensures) ∙ list-reads _ _ (sym (c .before .before .before .before .before .is-listed .ensures) ∙ c .before .before .before .before .if1 .taken))
 
 returns-2 : tie.Need-returns-2
-returns-2 c = ap (mapped withoutRecord) (ap (mapped oneList) (ap readingOf (sym (c .before .refusal .given .1)) ∙ c .before .before .before .read-value .ensures) ∙ list-reads _ _ (sym (c .before .before .before .before .before .is-list .ensures) ∙ c .before .before .before .before .if1 .taken))
+returns-2 c = ap (mapped withoutRecord) (ap (mapped oneList) (ap readingOf (sym (c .before .refusal .given .1)) ∙ c .before .before .before .read-listed .ensures) ∙ list-reads _ _ (sym (c .before .before .before .before .before .is-listed .ensures) ∙ c .before .before .before .before .if1 .taken))
 
 returns-3 : tie.Need-returns-3
-returns-3 c = c .measure-record .ensures ∙ ap (mapped withoutRecord) (record-reads _ _ (sym (c .before .before .is-list .ensures) ∙ c .before .if1 .left))
+returns-3 c = c .measure-record .ensures ∙ ap (mapped withoutRecord) (record-reads _ _ (sym (c .before .before .is-listed .ensures) ∙ c .before .if1 .left))
 
 pub measure-spec : {M : Type 1} → statement M
 measure-spec =
     tie.close
     (tie.spec
-    is-list-requires
-    read-value-requires
+    is-listed-requires
+    read-listed-requires
     enum-known-consumed
     enum-known-refusal
     measure-record-requires
