@@ -87,6 +87,72 @@ static inline __attribute__((always_inline)) AshlarKind three(size_t head, size_
     return listed(entries, p, n);
 }
 
+/* ---- Texts ---- */
+
+/* how many bytes the character at p has, 0 where none is there: the first byte's length, and the least and the most that the second one may be */
+static size_t character(const uint8_t *p, size_t n) {
+    size_t size = p[0] < 0x80 ? 1 : p[0] < 0xC2 ? 0 : p[0] < 0xE0 ? 2 : p[0] < 0xF0 ? 3 : p[0] < 0xF5 ? 4 : 0;
+    uint8_t least = p[0] == 0xE0 ? 0xA0 : p[0] == 0xF0 ? 0x90 : 0x80, most = p[0] == 0xED ? 0x9F : p[0] == 0xF4 ? 0x8F : 0xBF;
+    if (size > n) return 0;
+    for (size_t i = 1; i < size; i++, least = 0x80, most = 0xBF)
+        if (p[i] < least || p[i] > most) return 0;
+    return size;
+}
+
+static bool is_utf8(const uint8_t *p, size_t n) {
+    while (n) {
+        uint64_t eight;
+        if (n >= 8 && (memcpy(&eight, p, 8), !(eight & 0x8080808080808080))) {
+            p += 8, n -= 8;
+            continue;
+        }
+        size_t size = character(p, n);
+        if (!size) return false;
+        p += size, n -= size;
+    }
+    return true;
+}
+
+/* a string with its length, behind so many bytes, that starts at p: its text, and where it ends */
+static bool string(size_t head, const uint8_t *v, size_t n, size_t *p, AshlarPart *text) {
+    if (n - *p < head + 1 || n - *p - head - 1 < v[*p + head]) return false;
+    *text = (AshlarPart){*p + head + 1, v[*p + head], 0};
+    *p = text->start + text->length;
+    return true;
+}
+
+static bool is_text(const uint8_t *v, AshlarPart part) { return is_utf8(v + part.start, part.length); }
+
+static AshlarKind inventory(const uint8_t *v, size_t n) {
+    size_t p = 0, q, radios;
+    AshlarPart text;
+    bool valid = true;
+    for (int i = 0; i < 3; i++) {
+        if (!string(0, v, n, &p, &text)) return refused(3);
+        valid &= is_text(v, text);
+    }
+    if (!counted(1, v, n, &p, &radios)) return refused(3);
+    for (q = 0; q < radios; q++) {
+        if (!string(6, v, n, &p, &text)) return refused(3);
+        valid &= is_text(v, text);
+    }
+    return valid ? listed(radios, p, n) : refused(18);
+}
+
+static AshlarPart field(size_t i, const uint8_t *v) {
+    const uint8_t *zero = memchr(v + 64 * i, 0, 64);
+    return (AshlarPart){64 * i, zero ? (size_t)(zero - v) - 64 * i : 64, 0};
+}
+
+static AshlarKind identification(const uint8_t *v, size_t n) {
+    if (n < 192) return refused(3);
+    for (size_t i = 0; i < 3; i++)
+        if (!is_text(v, field(i, v))) return refused(18);
+    return listed(0, 192, n);
+}
+
+static AshlarKind url(const uint8_t *v, size_t n) { return is_utf8(v, n) ? listed(0, n, n) : refused(18); }
+
 /* stands in the search itself too, which needs of it only whether it reads */
 static inline __attribute__((always_inline)) AshlarKind kind_in(uint8_t code, const uint8_t *v, size_t n) {
     switch (code) {
@@ -101,6 +167,9 @@ static inline __attribute__((always_inline)) AshlarKind kind_in(uint8_t code, co
     case 0x80: return n < 1 || n - 1 < v[0] ? refused(3) : listed(v[0], 1 + v[0], n);
     case 6: return to_end(6, 6, n);
     case 7: return to_end(6, 7, n);
+    case 21: return identification(v, n);
+    case 22: return url(v, n);
+    case 0xD4: return inventory(v, n);
     case 23: return two(6, 9, v, n);
     case 24: return two(22, 33, v, n);
     case 4: return two(0, 6, v, n);
@@ -118,10 +187,10 @@ AshlarKind plain_read_kind(uint8_t code, const uint8_t *v, size_t n) { return ki
 
 static bool is_kind(uint8_t code) {
     static const uint64_t known[4] = {
-        1ull << 0 | 1ull << 1 | 1ull << 2 | 1ull << 4 | 1ull << 6 | 1ull << 7 | 1ull << 8 | 1ull << 12 | 1ull << 13 | 1ull << 15 | 1ull << 16 | 1ull << 23 | 1ull << 24 | 1ull << 26 | 1ull << 30,
+        1ull << 0 | 1ull << 1 | 1ull << 2 | 1ull << 4 | 1ull << 6 | 1ull << 7 | 1ull << 8 | 1ull << 12 | 1ull << 13 | 1ull << 15 | 1ull << 16 | 1ull << 21 | 1ull << 22 | 1ull << 23 | 1ull << 24 | 1ull << 26 | 1ull << 30,
         0,
         1ull << 0 | 1ull << 3 | 1ull << 18 | 1ull << 51 | 1ull << 52 | 1ull << 55,
-        0,
+        1ull << 20,
     };
     return known[code / 64] >> code % 64 & 1;
 }
@@ -133,6 +202,39 @@ AshlarFound plain_find(const AshlarTlv *list, size_t count, const uint8_t *p, si
     }
     return (AshlarFound){.refusal = is_kind(code) ? 15 : 16};
 }
+
+static AshlarPart no_part(uint8_t number) { return (AshlarPart){0, 0, number}; }
+
+/* string number i of those that start at p, behind so many bytes each; the text alone, or the whole */
+static AshlarPart string_of(size_t i, size_t head, bool whole, const uint8_t *v, size_t n, size_t p) {
+    AshlarPart text;
+    size_t start;
+    do {
+        start = p;
+        string(head, v, n, &p, &text);
+    } while (i--);
+    return whole ? (AshlarPart){start, p - start, 0} : text;
+}
+
+AshlarPart plain_text(uint8_t code, size_t number, const uint8_t *v, size_t n) {
+    if (code != 21 && code != 22 && code != 0xD4) return no_part(16);
+    AshlarKind k = kind_in(code, v, n);
+    if (k.refusal) return no_part(k.refusal);
+    if (number >= (code == 22 ? 1 : 3)) return no_part(6);
+    return code == 21 ? field(number, v) : code == 22 ? (AshlarPart){0, n, 0} : string_of(number, 0, false, v, n, 0);
+}
+
+static AshlarPart radio(size_t number, bool whole, const uint8_t *v, size_t n) {
+    AshlarKind k = kind_in(0xD4, v, n);
+    if (k.refusal) return no_part(k.refusal);
+    if (number >= k.entries) return no_part(6);
+    AshlarPart third = string_of(2, 0, false, v, n, 0);
+    return string_of(number, 6, whole, v, n, third.start + third.length + 1);
+}
+
+AshlarPart plain_radio(size_t number, const uint8_t *v, size_t n) { return radio(number, true, v, n); }
+
+AshlarPart plain_radio_text(size_t number, const uint8_t *v, size_t n) { return radio(number, false, v, n); }
 
 AshlarTable plain_fresh(void) { return (AshlarTable){0}; }
 

@@ -46,6 +46,11 @@ static void operational_bss(void) {
     }
 }
 
+/* a URL of so many ASCII bytes */
+static void url(size_t n) {
+    while (size < n) byte((uint8_t)(' ' + size % 95));
+}
+
 static AshlarArrival piece(int key, int number, bool last) {
     return (AshlarArrival){0x020000000000u * 65536 + (unsigned)key, 1000, {2, 0, (uint8_t)number, last}};
 }
@@ -191,6 +196,7 @@ int main(int argc, char **argv) {
     else if (!strcmp(row, "walk")) tlvs(many, 1, 0, 0), walk(turns);
     else if (!strcmp(row, "ipv4")) ipv4(), read_kind(turns, 23);
     else if (!strcmp(row, "bss")) operational_bss(), read_kind(turns, 0x83);
+    else if (!strcmp(row, "url-1400")) url(1400), read_kind(turns, 22);
     else if (!strcmp(row, "find-none")) find(turns, 1);
     else if (!strcmp(row, "find-first")) find(turns, 2);
     else if (!strcmp(row, "push-1492")) complete(turns, 1492);

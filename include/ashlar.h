@@ -3,7 +3,8 @@
    What a frame carries (a CMDU) begins with a header of eight bytes, which ashlar_read_header reads. Behind it stands the payload.
    The payload of a message is a row of TLVs: a type byte, the length of the value in two bytes, the higher one first, and the value. The last one is the end marker, of
    type 0 and without a value; what a bridge may have added behind it is padding. ashlar_walk counts the TLVs and ashlar_walk_into lists them; ashlar_find looks in such
-   a list for a TLV of one of 21 kinds, and ashlar_read_kind reads the value of one.
+   a list for a TLV of one of 24 kinds, and ashlar_read_kind reads the value of one. Three of these kinds hold text, names and addresses of devices in UTF-8: ashlar_text says where
+   a text lies in such a value, ashlar_radio and ashlar_radio_text where a radio and its text lie in an inventory.
    A message longer than a frame comes in fragments, numbered from 0, the last one marked: ashlar_push keeps them in a table and joins them, ashlar_show says
    where the message lies, and ashlar_sweep drops what has waited for three seconds.
    Which access point is the phone on? Access points tell the controller which stations (phones, laptops) join and leave them, each time by a TLV of kind 0x92. A table of
@@ -51,7 +52,7 @@ extern "C" {
 
 /* ---- Refusals ---- */
 
-/* What a field `refusal` says. 6 to 9 are given by no call of this header: they belong to calls that reach single entries and write, and that C doesn't have. */
+/* What a field `refusal` says. 7 to 9 are given by no call of this header: they belong to calls that write, and that C doesn't have. */
 typedef enum {
     ASHLAR_OK = 0,                 /* Nothing is refused: the other fields hold the answer. */
     ASHLAR_TOO_FEW_BYTES = 1,      /* Fewer than three bytes are left where a TLV has to begin, `at` says where; or there are fewer than eight for a header. `shortfall` says
@@ -61,7 +62,7 @@ typedef enum {
     ASHLAR_CUT_SHORT = 3,          /* A value ends inside its kind's layout, as where a count promises more entries than there are: pass the TLV over. */
     ASHLAR_LEFT_OVER = 4,          /* A value has bytes behind its layout, in a kind that takes none (0, 6, 7, 30): pass the TLV over. */
     ASHLAR_BAD_VALUE = 5,          /* A role that is not 0, an association byte that is neither 0x80 nor 0, or profile 0: pass the TLV over. */
-    ASHLAR_NO_ENTRY = 6,           /* A list has no entry with the numbers asked for. Not given to C. */
+    ASHLAR_NO_ENTRY = 6,           /* A value has no text or radio with the number asked for. */
     ASHLAR_NO_ROOM = 7,            /* The lent room is smaller than what is to be written. Not given to C. */
     ASHLAR_VALUE_TOO_LONG = 8,     /* A value to be written has more than 65,535 bytes. Not given to C. */
     ASHLAR_NEVER_READ = 9,         /* A record to be written that no reading gives. Not given to C. */
@@ -72,12 +73,15 @@ typedef enum {
     ASHLAR_LIST_TOO_SHORT = 14,    /* The payload has more TLVs than the list has elements. `at` is the offset of the first TLV without one: come with a longer list. */
     ASHLAR_NOT_FOUND = 15,         /* No TLV of this kind that reads stands in the list, from the place asked for on. */
     ASHLAR_UNKNOWN_KIND = 16,      /* The code is none of AshlarCode. */
-    ASHLAR_NO_STATION_ROOM = 17    /* A station joined that is not held, and ASHLAR_STATIONS others are: it is told nowhere until one of these leaves and it joins again. */
+    ASHLAR_NO_STATION_ROOM = 17,   /* A station joined that is not held, and ASHLAR_STATIONS others are: it is told nowhere until one of these leaves and it joins again. */
+    ASHLAR_NOT_TEXT = 18           /* A text of a value is not valid UTF-8 (RFC 3629): pass the TLV over. */
 } AshlarRefusal;
 
 /* ---- Kinds ---- */
 
-/* The 21 kinds by the type byte of their TLVs. Those that are lists begin with a count in one byte (in 30, below the first level, in two) unless said otherwise. */
+/* The 24 kinds by the type byte of their TLVs. Those that are lists begin with a count in one byte (in 30, below the first level, in two) unless said otherwise.
+   A text is UTF-8, and its bytes are kept as they are: zeros in it, a byte order mark and characters of no meaning too. Only a field of 64 bytes ends at its first zero byte;
+   what stands behind that one is not looked at. */
 typedef enum {
     ASHLAR_END_OF_MESSAGE = 0,                /* no bytes */
     ASHLAR_AL_MAC_ADDRESS = 1,                /* an address of 6 bytes */
@@ -90,6 +94,8 @@ typedef enum {
     ASHLAR_SEARCHED_ROLE = 13,                /* 1 byte, 0 */
     ASHLAR_SUPPORTED_ROLE = 15,               /* 1 byte, 0 */
     ASHLAR_SUPPORTED_FREQ_BAND = 16,          /* 1 byte */
+    ASHLAR_DEVICE_IDENTIFICATION_TYPE = 21,   /* three texts, each in a field of 64 bytes: up to its first zero byte, or all 64. A name, a manufacturer and a model */
+    ASHLAR_CONTROL_URL = 22,                  /* one text, which is the whole value */
     ASHLAR_IPV4 = 23,                         /* a list of: an address, a list of 9 bytes each */
     ASHLAR_IPV6 = 24,                         /* a list of: 22 bytes, a list of 33 bytes each */
     ASHLAR_PROFILE_VERSION = 26,              /* 1 byte */
@@ -99,7 +105,8 @@ typedef enum {
     ASHLAR_CLIENT_ASSOCIATION = 0x92,         /* two addresses and a byte, 0x80 joined or 0 left */
     ASHLAR_MULTI_AP_PROFILE = 0xB3,           /* 1 byte, not 0 */
     ASHLAR_PROFILE_2_AP_CAPABILITY = 0xB4,    /* 4 bytes */
-    ASHLAR_BSS_CONFIGURATION_REPORT = 0xB7    /* a list of: an address, a list of: 8 bytes, a list of 1 byte each (a name) */
+    ASHLAR_BSS_CONFIGURATION_REPORT = 0xB7,   /* a list of: an address, a list of: 8 bytes, a list of 1 byte each (a name) */
+    ASHLAR_DEVICE_INVENTORY = 0xD4            /* three texts, each behind its length in one byte; then a list of radios: an id of 6 bytes, and a text behind its length in one byte */
 } AshlarCode;
 
 /* ---- Structs ---- */
@@ -135,10 +142,10 @@ typedef struct {
 
 /* What a value reads as. Where refused, all else is 0. */
 typedef struct {
-    size_t entries;  /* of a list, how many entries its outermost level has; else 0 */
+    size_t entries;  /* of a list, how many entries its outermost level has; of 0xD4, how many radios; else 0 */
     size_t consumed; /* how many bytes of the value its kind's layout takes, from the first on */
     size_t rest;     /* how many bytes are behind these: they belong to no field, and may be passed over */
-    bool is_list;    /* whether the kind is a list's */
+    bool is_list;    /* whether the kind is no record's: a list's, or one that holds text, of which 21 and 22 have no entries */
     uint8_t refusal; /* an AshlarRefusal */
 } AshlarKind;
 
@@ -147,6 +154,13 @@ typedef struct {
     size_t place;    /* the number of the TLV in the list, from 0; 0 where refused */
     uint8_t refusal; /* an AshlarRefusal */
 } AshlarFound;
+
+/* Where a part of a value lies: the `length` bytes that begin at value + start. Where refused, all else is 0. */
+typedef struct {
+    size_t start;    /* its first byte's place in the value, from 0; of an empty text, the place where it would begin */
+    size_t length;   /* how many bytes it has; of a text, no zero byte is added */
+    uint8_t refusal; /* an AshlarRefusal */
+} AshlarPart;
 
 /* The fragments that are held, but for their payloads. To be looked at only: what an element holds where it is not used means nothing.
    A row of `codes`, `firsts` and `used` is a message that waits; a row of the others is a place, with a fragment of it. */
@@ -269,12 +283,22 @@ AshlarWalk ashlar_walk(const uint8_t *payload, size_t payload_length);
 /* The same TLVs, listed too in the first elements of `list`, which has `list_length`; the others stay as they are. Refusals: 1, 2, 14. */
 AshlarWalk ashlar_walk_into(AshlarTlv *list, size_t list_length, const uint8_t *payload, size_t payload_length);
 
-/* The value of a TLV, read as the kind with this code. Refusals: 3, 4, 5, 16. */
+/* The value of a TLV, read as the kind with this code. Refusals: 3, 4, 5, 16, 18. A value that ends inside its layout is refused by 3, whatever its texts. */
 AshlarKind ashlar_read_kind(uint8_t code, const uint8_t *value, size_t value_length);
 
 /* The first TLV of the list, from the place `from` on, that has this code, lies inside the payload, and whose value reads: from 0 the first of all, from the place of an answer
    plus 1 the next one. Refusals: 15, 16. */
 AshlarFound ashlar_find(const AshlarTlv *list, size_t list_length, const uint8_t *payload, size_t payload_length, uint8_t code, size_t from);
+
+/* The text with this number, from 0, in a value of kind 21 or 0xD4, which have three, or 22, which has one. The value is read whole first. Refusals: 16, where the kind holds no
+   text, 3, 18, and then 6, where there is no such text. */
+AshlarPart ashlar_text(uint8_t code, size_t number, const uint8_t *value, size_t value_length);
+
+/* The radio with this number, from 0, in a value of kind 0xD4: its id of 6 bytes, the length of its text in one, and its text. Refusals: 3, 18, 6. */
+AshlarPart ashlar_radio(size_t number, const uint8_t *value, size_t value_length);
+
+/* The text of that radio. Refusals: 3, 18, 6. */
+AshlarPart ashlar_radio_text(size_t number, const uint8_t *value, size_t value_length);
 
 /* A table that holds nothing. */
 AshlarTable ashlar_fresh(void);

@@ -110,8 +110,8 @@ def reads(kind, value):
 
 def values_of(words):
     """The values of the asked kind in a command."""
-    kind, data = int(words[1]), model.to_bytes(words[-1])
-    if words[0] in "rsea":
+    kind, data = model.kind_asked(words), model.to_bytes(words[-1])
+    if words[0] in "rseauU":
         return kind, [data]
     records = [tuple(map(int, r.split(":"))) for r in words[2].split(",")] if words[0] == "l" and words[2] != "-" else []
     if words[0] in "dD":
@@ -120,7 +120,7 @@ def values_of(words):
 
 
 def text_not_utf8(words, original, ours, before):
-    if words[0] not in "rseadDl":
+    if words[0] not in "rseadDluU":
         return False
     kind, values = values_of(words)
     if kind not in model.TEXTS:
@@ -131,16 +131,19 @@ def text_not_utf8(words, original, ours, before):
 
 def text_trimmed(words, original, ours, before):
     # What was trimmed may fit where the value as read doesn't.
-    if words[0] not in "rseadDl" or not accepted(original) or not (accepted(ours) or words[0] == "s" and ours == "no 7"):
+    if words[0] not in "rseadDluU" or not accepted(original) or not (accepted(ours) or words[0] == "s" and ours == "no 7"):
         return False
     kind, values = values_of(words)
     if kind not in model.TEXTS:
         return False
-    if words[0] == "r":
+    if words[0] in "ruU":
         texts, _, ends, used = model.texts_of(kind, values[0])
         if kind == 21:
             texts = [values[0][at:at + 64] for at in (0, 64, 128)]
-        shown = [model.shown(kept_by_original(text, kind == 21)) for text in texts[:3]]
+        shown = [model.shown(kept_by_original(text, kind == 21)) for text in texts]
+        if words[0] != "r":
+            return original == "ok " + (shown[int(words[2])] if words[0] == "u" else shown[3 + int(words[1])])
+        shown = shown[:3]
         count = [str(len(ends))] if kind == 0xD4 else []
         return original == " ".join(["ok", str(used), str(len(values[0]) - used)] + shown + count)
     return any(reads(kind, v) and not texts_alike(kind, v) for v in values)

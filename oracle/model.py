@@ -1,8 +1,8 @@
 #!/usr/bin/env python3
 """Document 01 as a program: answers the commands of COMMANDS.md, with the document's numbers behind `no`.
 
-Usage: oracle/model.py [LEVEL] < COMMANDS. LEVEL is the last request of document 02 that counts for the kinds of 2026-04, 2026-08 and 2026-13; the shortfall of 2026-01, the stations
-of 2026-02 and the end marker of 2026-03 are here at any level. Of the stations this is the only opinion beside the library's, since the original has none.
+Usage: oracle/model.py [LEVEL] < COMMANDS. LEVEL is the last request of document 02 that counts for the kinds of 2026-04, 2026-08 and 2026-13, 4 without it; the shortfall of 2026-01,
+the stations of 2026-02 and the end marker of 2026-03 are here at any level. Of the stations this is the only opinion beside the library's, since the original has none.
 It shakes out the driver and the language, and stands beside the proved library as a second opinion on the numbers, which the original doesn't have.
 It follows document 01's text and the readings of its open points, as plainly as it goes. The generator takes its layouts from here.
 """
@@ -11,6 +11,8 @@ import sys
 
 STORE_PLACES, STORE_KEYS, PLACE = 32, 16, 1492
 MOST_STATIONS = 128
+# The last request of document 02 that counts, where none is named.
+LEVEL = 4
 EXPIRES = 3000
 # Of the command language: bytes of a line, and bytes that come out of one.
 LONGEST_LINE, MOST_BYTES = 32768, 66000
@@ -138,6 +140,7 @@ KINDS, RECORD_KINDS, LIST_KINDS = [], [], []
 
 def use_level(level):
     """The kinds that there are once the requests up to this one have landed."""
+    TEXTS.clear()
     if level >= 4:
         TEXTS.update((21, 22, 0xD4))
     if level >= 8:
@@ -149,7 +152,7 @@ def use_level(level):
     KINDS[:] = sorted([*RECORD_KINDS, *LIST_KINDS, *TEXTS])
 
 
-use_level(0)
+use_level(LEVEL)
 
 
 def string_end(data, at):
@@ -237,6 +240,11 @@ def consumed(kind, data):
     if kind == 0xB3 and data[0] == 0:
         raise Refused(5)
     return used
+
+
+def kind_asked(words):
+    """The kind that a command asks about; `U` names none."""
+    return 0xD4 if words[0] == "U" else int(words[1])
 
 
 # Codes with names; any other is reserved and kept.
@@ -351,6 +359,24 @@ def every_entry(kind, data):
 
     level([], len(COUNTED.get(kind, [0])))
     return found
+
+
+def text_at(kind, data, number):
+    """A text of the value itself, which has three or one."""
+    if kind not in TEXTS:
+        raise Refused(16)
+    own = checked_texts(kind, data)[0][:3]
+    if number >= len(own):
+        raise Refused(6)
+    return own[number]
+
+
+def radio_text_at(data, number):
+    """The text of a radio of DeviceInventory."""
+    radios = checked_texts(0xD4, data)[0][3:]
+    if number >= len(radios):
+        raise Refused(6)
+    return radios[number]
 
 
 # --- finding ---
@@ -513,7 +539,11 @@ def answer(table, stations, line):
         return "ok %d %d %d %d %d %d %d" % header(data)
     if command in ("k", "g"):
         return listed(walk(data), len(data))
+    if command == "U":
+        return "ok " + shown(radio_text_at(data, int(words[1])))
     kind = int(words[1])
+    if command == "u":
+        return "ok " + shown(text_at(kind, data, int(words[2])))
     if command == "r":
         used = consumed(kind, data)
         return ("ok %d %d %s" % (used, len(data) - used, fields(kind, data))).rstrip()

@@ -125,35 +125,38 @@ static void paddings(void) {
 
 /* ---- Reading and finding ---- */
 
-/* a value of each kind, one entry at each level of a list, and what is answered where its last byte lacks */
+/* a value of each kind, one entry at each level of a list, and what is answered where its last byte lacks: of a text, half of its last character is left */
 static const struct {
     const char *name;
     uint8_t code, cut;
     bool is_list;
-    size_t size;
-    uint8_t value[57];
+    size_t entries, size;
+    uint8_t value[192];
 } kinds[] = {
-    {"END_OF_MESSAGE", ASHLAR_END_OF_MESSAGE, 0, false, 0, {0}},
-    {"AL_MAC_ADDRESS", ASHLAR_AL_MAC_ADDRESS, 3, false, 6, {0}},
-    {"MAC_ADDRESS", ASHLAR_MAC_ADDRESS, 3, false, 6, {0}},
-    {"DEVICE_BRIDGING_CAPABILITY", ASHLAR_DEVICE_BRIDGING_CAPABILITY, 3, true, 8, {1, 1}},
-    {"NON_1905_NEIGHBOR_DEVICES", ASHLAR_NON_1905_NEIGHBOR_DEVICES, 4, true, 12, {0}},
-    {"1905_NEIGHBOR_DEVICE", ASHLAR_1905_NEIGHBOR_DEVICE, 4, true, 13, {0}},
-    {"LINK_METRIC_QUERY", ASHLAR_LINK_METRIC_QUERY, 3, false, 8, {1}},
-    {"LINK_METRIC_RESULT_CODE", ASHLAR_LINK_METRIC_RESULT_CODE, 3, false, 1, {9}},
-    {"SEARCHED_ROLE", ASHLAR_SEARCHED_ROLE, 3, false, 1, {0}},
-    {"SUPPORTED_ROLE", ASHLAR_SUPPORTED_ROLE, 3, false, 1, {0}},
-    {"SUPPORTED_FREQ_BAND", ASHLAR_SUPPORTED_FREQ_BAND, 3, false, 1, {9}},
-    {"IPV4", ASHLAR_IPV4, 3, true, 17, {1, [7] = 1}},
-    {"IPV6", ASHLAR_IPV6, 3, true, 57, {1, [23] = 1}},
-    {"PROFILE_VERSION", ASHLAR_PROFILE_VERSION, 3, false, 1, {9}},
-    {"L2_NEIGHBOR_DEVICE", ASHLAR_L2_NEIGHBOR_DEVICE, 3, true, 23, {1, [8] = 1, [16] = 1}},
-    {"SUPPORTED_SERVICE", ASHLAR_SUPPORTED_SERVICE, 3, true, 2, {1}},
-    {"AP_OPERATIONAL_BSS", ASHLAR_AP_OPERATIONAL_BSS, 3, true, 16, {1, [7] = 1, [14] = 1}},
-    {"CLIENT_ASSOCIATION", ASHLAR_CLIENT_ASSOCIATION, 3, false, 13, {[12] = 0x80}},
-    {"MULTI_AP_PROFILE", ASHLAR_MULTI_AP_PROFILE, 3, false, 1, {9}},
-    {"PROFILE_2_AP_CAPABILITY", ASHLAR_PROFILE_2_AP_CAPABILITY, 3, false, 4, {0}},
-    {"BSS_CONFIGURATION_REPORT", ASHLAR_BSS_CONFIGURATION_REPORT, 3, true, 18, {1, [7] = 1, [16] = 1}},
+    {"END_OF_MESSAGE", ASHLAR_END_OF_MESSAGE, 0, false, 0, 0, {0}},
+    {"AL_MAC_ADDRESS", ASHLAR_AL_MAC_ADDRESS, 3, false, 0, 6, {0}},
+    {"MAC_ADDRESS", ASHLAR_MAC_ADDRESS, 3, false, 0, 6, {0}},
+    {"DEVICE_BRIDGING_CAPABILITY", ASHLAR_DEVICE_BRIDGING_CAPABILITY, 3, true, 1, 8, {1, 1}},
+    {"NON_1905_NEIGHBOR_DEVICES", ASHLAR_NON_1905_NEIGHBOR_DEVICES, 4, true, 1, 12, {0}},
+    {"1905_NEIGHBOR_DEVICE", ASHLAR_1905_NEIGHBOR_DEVICE, 4, true, 1, 13, {0}},
+    {"LINK_METRIC_QUERY", ASHLAR_LINK_METRIC_QUERY, 3, false, 0, 8, {1}},
+    {"LINK_METRIC_RESULT_CODE", ASHLAR_LINK_METRIC_RESULT_CODE, 3, false, 0, 1, {9}},
+    {"SEARCHED_ROLE", ASHLAR_SEARCHED_ROLE, 3, false, 0, 1, {0}},
+    {"SUPPORTED_ROLE", ASHLAR_SUPPORTED_ROLE, 3, false, 0, 1, {0}},
+    {"SUPPORTED_FREQ_BAND", ASHLAR_SUPPORTED_FREQ_BAND, 3, false, 0, 1, {9}},
+    {"DEVICE_IDENTIFICATION_TYPE", ASHLAR_DEVICE_IDENTIFICATION_TYPE, 3, true, 0, 192, {'a', 0, 0xFF}},
+    {"CONTROL_URL", ASHLAR_CONTROL_URL, 18, true, 0, 2, {0xC3, 0xA9}},
+    {"IPV4", ASHLAR_IPV4, 3, true, 1, 17, {1, [7] = 1}},
+    {"IPV6", ASHLAR_IPV6, 3, true, 1, 57, {1, [23] = 1}},
+    {"PROFILE_VERSION", ASHLAR_PROFILE_VERSION, 3, false, 0, 1, {9}},
+    {"L2_NEIGHBOR_DEVICE", ASHLAR_L2_NEIGHBOR_DEVICE, 3, true, 1, 23, {1, [8] = 1, [16] = 1}},
+    {"SUPPORTED_SERVICE", ASHLAR_SUPPORTED_SERVICE, 3, true, 1, 2, {1}},
+    {"AP_OPERATIONAL_BSS", ASHLAR_AP_OPERATIONAL_BSS, 3, true, 1, 16, {1, [7] = 1, [14] = 1}},
+    {"CLIENT_ASSOCIATION", ASHLAR_CLIENT_ASSOCIATION, 3, false, 0, 13, {[12] = 0x80}},
+    {"MULTI_AP_PROFILE", ASHLAR_MULTI_AP_PROFILE, 3, false, 0, 1, {9}},
+    {"PROFILE_2_AP_CAPABILITY", ASHLAR_PROFILE_2_AP_CAPABILITY, 3, false, 0, 4, {0}},
+    {"BSS_CONFIGURATION_REPORT", ASHLAR_BSS_CONFIGURATION_REPORT, 3, true, 1, 18, {1, [7] = 1, [16] = 1}},
+    {"DEVICE_INVENTORY", ASHLAR_DEVICE_INVENTORY, 3, true, 1, 12, {[3] = 1, [10] = 1, 'a'}},
 };
 
 static uint8_t refusal_of(uint8_t code, const char *value, size_t size) {
@@ -167,7 +170,7 @@ static void reads(void) {
     for (size_t i = 0; i < sizeof kinds / sizeof *kinds; i++) {
         size_t size = kinds[i].size;
         AshlarKind k = ashlar_read_kind(kinds[i].code, kinds[i].value, size);
-        bool good = k.refusal == ASHLAR_OK && k.consumed == size && k.rest == 0 && k.is_list == kinds[i].is_list && k.entries == kinds[i].is_list;
+        bool good = k.refusal == ASHLAR_OK && k.consumed == size && k.rest == 0 && k.is_list == kinds[i].is_list && k.entries == kinds[i].entries;
         if (size) good &= ashlar_read_kind(kinds[i].code, kinds[i].value, size - 1).refusal == kinds[i].cut;
         snprintf(name, sizeof name, "AshlarCode: %s", kinds[i].name);
         check(name, good);
@@ -180,6 +183,48 @@ static void reads(void) {
     check("ashlar_read_kind: 4", refusal_of(ASHLAR_END_OF_MESSAGE, "a", 1) == ASHLAR_LEFT_OVER);
     check("ashlar_read_kind: 5", refusal_of(ASHLAR_MULTI_AP_PROFILE, "\0", 1) == ASHLAR_BAD_VALUE);
     check("ashlar_read_kind: 16", refusal_of(3, "abc", 3) == ASHLAR_UNKNOWN_KIND);
+    check("ashlar_read_kind: 18", refusal_of(ASHLAR_CONTROL_URL, "ab\xC0\x80", 4) == ASHLAR_NOT_TEXT);
+    check("ashlar_read_kind: 3 before 18", refusal_of(ASHLAR_DEVICE_INVENTORY, "\1\xFF\0\1", 4) == ASHLAR_CUT_SHORT);
+}
+
+/* ---- Texts ---- */
+
+/* the texts "Schloß", "" and "m", two radios with the texts "5 GHz" and "", and two bytes behind them */
+static const uint8_t device[] = "\7Schlo\xC3\x9F" "\0" "\1m" "\2" "\x02\x11\x22\x33\x44\x55" "\5" "5 GHz" "\x06\xAA\xBB\xCC\xDD\xEE" "\0" "\xFF";
+
+static bool lies(AshlarPart p, size_t start, size_t length) { return p.start == start && p.length == length && p.refusal == ASHLAR_OK; }
+
+static bool no_part(AshlarPart p, uint8_t refusal) {
+    refusals |= 1u << p.refusal;
+    return p.start == 0 && p.length == 0 && p.refusal == refusal;
+}
+
+static void texts(void) {
+    size_t size = sizeof device;
+    AshlarKind k = ashlar_read_kind(ASHLAR_DEVICE_INVENTORY, device, size);
+    check("AshlarKind of an inventory: its radios are its entries", k.is_list && k.entries == 2 && k.consumed == 31 && k.rest == 2 && k.refusal == ASHLAR_OK);
+    check("ashlar_text: each text of an inventory", lies(ashlar_text(ASHLAR_DEVICE_INVENTORY, 0, device, size), 1, 7) &&
+          lies(ashlar_text(ASHLAR_DEVICE_INVENTORY, 1, device, size), 9, 0) && lies(ashlar_text(ASHLAR_DEVICE_INVENTORY, 2, device, size), 10, 1));
+    check("ashlar_radio: its id and its string", lies(ashlar_radio(0, device, size), 12, 12) && lies(ashlar_radio(1, device, size), 24, 7));
+    check("ashlar_radio_text: its text", lies(ashlar_radio_text(0, device, size), 19, 5) && lies(ashlar_radio_text(1, device, size), 31, 0));
+    check("ashlar_text: 6", no_part(ashlar_text(ASHLAR_DEVICE_INVENTORY, 3, device, size), ASHLAR_NO_ENTRY) && no_part(ashlar_text(ASHLAR_CONTROL_URL, 1, device, 9), ASHLAR_NO_ENTRY));
+    check("ashlar_radio: 6", no_part(ashlar_radio(2, device, size), ASHLAR_NO_ENTRY) && no_part(ashlar_radio_text(2, device, size), ASHLAR_NO_ENTRY));
+    check("ashlar_text: 3 before 6", no_part(ashlar_text(ASHLAR_DEVICE_INVENTORY, 3, device, 30), ASHLAR_CUT_SHORT));
+    check("ashlar_radio: 3", no_part(ashlar_radio(0, device, 30), ASHLAR_CUT_SHORT) && no_part(ashlar_radio_text(0, device, 30), ASHLAR_CUT_SHORT));
+    check("ashlar_text: 16 where a kind holds no text", no_part(ashlar_text(ASHLAR_MAC_ADDRESS, 0, device, 6), ASHLAR_UNKNOWN_KIND) && no_part(ashlar_text(3, 0, device, 0), ASHLAR_UNKNOWN_KIND));
+
+    uint8_t fields[192] = "name";
+    memset(fields + 64, 'x', 64);
+    fields[4 + 1] = fields[191] = 0xFF;
+    check("ashlar_text: up to the first zero byte of a field, all 64 without one, and none of a field of zeros", lies(ashlar_text(ASHLAR_DEVICE_IDENTIFICATION_TYPE, 0, fields, 192), 0, 4) &&
+          lies(ashlar_text(ASHLAR_DEVICE_IDENTIFICATION_TYPE, 1, fields, 192), 64, 64) && lies(ashlar_text(ASHLAR_DEVICE_IDENTIFICATION_TYPE, 2, fields, 192), 128, 0));
+    check("ashlar_text: a zero byte ends no URL", lies(ashlar_text(ASHLAR_CONTROL_URL, 0, (const uint8_t *)"a\0b", 3), 0, 3));
+    fields[127] = 0xC3;
+    check("ashlar_text: 18, a character that its field cuts", no_part(ashlar_text(ASHLAR_DEVICE_IDENTIFICATION_TYPE, 0, fields, 192), ASHLAR_NOT_TEXT));
+    uint8_t spoilt[sizeof device];
+    memcpy(spoilt, device, sizeof device);
+    spoilt[20] = 0xED;
+    check("ashlar_radio: 18, of another radio's text", no_part(ashlar_radio(1, spoilt, size), ASHLAR_NOT_TEXT) && no_part(ashlar_radio_text(1, spoilt, size), ASHLAR_NOT_TEXT));
 }
 
 static void finds(void) {
@@ -413,8 +458,8 @@ static void crowd(void) {
 
 int main(void) {
     for (size_t i = 0; i < sizeof payload; i++) payload[i] = (uint8_t)(i + 1);
-    headings(), walks(), paddings(), reads(), finds(), fields(), pushes(), limits(), sweeps(), moves(), values(), crowd();
-    check("every refusal that a call can give came: 1 to 5 and 10 to 17", (refusals & ~1u) == 0x3FC3E);
+    headings(), walks(), paddings(), reads(), texts(), finds(), fields(), pushes(), limits(), sweeps(), moves(), values(), crowd();
+    check("every refusal that a call can give came: 1 to 6 and 10 to 18", (refusals & ~1u) == 0x7FC7E);
     check("every answer of push came: 0 to 7", answers == 0xFF);
     check("every answer of an event came: 0 to 5", events == 0x3F);
     return failed != 0;

@@ -6,17 +6,20 @@
 #include <string.h>
 #include <sys/mman.h>
 
-enum { PAGE = 4096, READ_HEADER = 0, WALK, WALK_INTO, READ_KIND, FIND, PUSH, SHOW, SWEEP, STATION_EVENT, STATION_EVENT_FROM, STATION_AT, STATION_COUNT, STATION_ROW, KINDS };
+enum { PAGE = 4096, READ_HEADER = 0, WALK, WALK_INTO, READ_KIND, FIND, TEXT, RADIO, RADIO_TEXT, PUSH, SHOW, SWEEP, STATION_EVENT, STATION_EVENT_FROM, STATION_AT, STATION_COUNT, STATION_ROW, KINDS };
 
 static const char *const names[KINDS] = {
-    "read_header", "walk", "walk_into", "read_kind", "find", "push", "show", "sweep", "station_event", "station_event_from", "station_at", "station_count", "station_row"};
+    "read_header", "walk", "walk_into", "read_kind", "find", "text", "radio", "radio_text", "push", "show", "sweep", "station_event", "station_event_from", "station_at", "station_count", "station_row"};
 /* which numbers the documents let each call give, a bit for each; 0 is no refusal */
 static const unsigned numbers[KINDS] = {
     1u << 0 | 1u << 1,
     1u << 0 | 1u << 1 | 1u << 2,
     1u << 0 | 1u << 1 | 1u << 2 | 1u << 14,
-    1u << 0 | 1u << 3 | 1u << 4 | 1u << 5 | 1u << 16,
+    1u << 0 | 1u << 3 | 1u << 4 | 1u << 5 | 1u << 16 | 1u << 18,
     1u << 0 | 1u << 15 | 1u << 16,
+    1u << 0 | 1u << 3 | 1u << 6 | 1u << 16 | 1u << 18,
+    1u << 0 | 1u << 3 | 1u << 6 | 1u << 18,
+    1u << 0 | 1u << 3 | 1u << 6 | 1u << 18,
     1u << 0 | 1u << 10 | 1u << 11 | 1u << 12 | 1u << 13,
     1u << 0,
     1u << 0,
@@ -54,7 +57,7 @@ static Room room(size_t most) {
 
 static void told(int call, unsigned number, bool same) {
     calls[call]++;
-    if (number > 17 || !(numbers[call] >> number & 1) || !same) wrong[call]++;
+    if (number > 18 || !(numbers[call] >> number & 1) || !same) wrong[call]++;
     else seen[call] |= 1u << number;
 }
 
@@ -78,8 +81,54 @@ static uint8_t *bytes(size_t n) {
 }
 
 static uint8_t code(void) {
-    static const uint8_t codes[21] = {0, 1, 2, 4, 6, 7, 8, 12, 13, 15, 16, 23, 24, 26, 30, 0x80, 0x83, 0x92, 0xB3, 0xB4, 0xB7};
-    return below(4) ? codes[below(21)] : (uint8_t)any();
+    static const uint8_t codes[24] = {0, 1, 2, 4, 6, 7, 8, 12, 13, 15, 16, 21, 22, 23, 24, 26, 30, 0x80, 0x83, 0x92, 0xB3, 0xB4, 0xB7, 0xD4};
+    return below(4) ? codes[below(24)] : (uint8_t)any();
+}
+
+/* a text of up to so many bytes: the first and last characters of each length, zeros, now and then what is no character, or one that is cut */
+static size_t letters(uint8_t *at, size_t most) {
+    static const char *const good[10] = {"a", "\x7F", "\xC2\x80", "\xDF\xBF", "\xE0\xA0\x80", "\xED\x9F\xBF", "\xEE\x80\x80", "\xEF\xBF\xBF", "\xF0\x90\x80\x80", "\xF4\x8F\xBF\xBF"};
+    static const char *const bad[10] = {"\x80", "\xC0\x80", "\xC1\xBF", "\xC2", "\xE0\x9F\xBF", "\xED\xA0\x80", "\xF0\x8F\xBF\xBF", "\xF4\x90\x80\x80", "\xF5\x80\x80\x80", "\xFF"};
+    size_t n = 0;
+    bool plain = below(2);
+    for (size_t many = below(4) ? below(8) : below(300); many && n < most; many--) {
+        const char *c = !below(100) ? bad[below(10)] : plain ? "b" : good[below(10)];
+        size_t size = below(50) ? strlen(c) : (c = "", 1);
+        if (size > most - n) {
+            if (below(8)) break;
+            size = most - n;
+        }
+        memcpy(at + n, c, size);
+        n += size;
+    }
+    return n;
+}
+
+static size_t string(uint8_t *at, size_t head) {
+    for (size_t i = 0; i < head; i++) at[i] = (uint8_t)any();
+    at[head] = (uint8_t)letters(at + head + 1, below(4) ? 20 : 255);
+    return head + 1 + at[head];
+}
+
+/* a value of a kind that holds text, now and then cut, or with bytes behind it; of any other kind any bytes */
+static uint8_t *value(uint8_t k, size_t *n) {
+    static uint8_t made[PAGE];
+    size_t size = 0;
+    if (k != 21 && k != 22 && k != 0xD4) return bytes(*n = below(4) ? below(40) : below(2000));
+    if (k == 22) size = letters(made, 1000);
+    for (; k == 21 && size < 192; size += 64) {
+        size_t text = letters(made + size, 64);
+        for (size_t i = text; i < 64; i++) made[size + i] = (uint8_t)(i == text || below(2) ? 0 : any());
+    }
+    if (k == 0xD4) {
+        for (int i = 0; i < 3; i++) size += string(made + size, 0);
+        size_t radios = made[size++] = (uint8_t)below(5);
+        while (radios--) size += string(made + size, 6);
+    }
+    if (!below(6)) size = below(size + 1);
+    for (size_t more = below(6) ? 0 : below(9); more; more--) made[size++] = (uint8_t)any();
+    *n = size;
+    return memcpy(payloads.end - size, made, size);
 }
 
 static bool same_header(AshlarHeader a, AshlarHeader b) {
@@ -125,8 +174,8 @@ static void walk_into(void) {
 static bool same_kind(AshlarKind a, AshlarKind b) { return a.entries == b.entries && a.consumed == b.consumed && a.rest == b.rest && a.is_list == b.is_list && a.refusal == b.refusal; }
 
 static void read_kind(void) {
-    size_t n = below(4) ? below(40) : below(2000);
-    uint8_t *p = bytes(n), k = code();
+    size_t n;
+    uint8_t k = code(), *p = value(k, &n);
     AshlarKind a = ashlar_read_kind(k, p, n);
     told(READ_KIND, a.refusal, same_kind(a, plain_read_kind(k, p, n)));
 }
@@ -147,6 +196,24 @@ static void find(void) {
     AshlarFound a = ashlar_find(list, many, p, n, k, from), b = plain_find(list, many, p, n, k, from);
     bool same = a.place == b.place && a.refusal == b.refusal;
     told(FIND, a.refusal, same && (a.refusal || reads(k, p, list[a.place])));
+}
+
+/* what is told lies in the value */
+static bool same_part(AshlarPart a, AshlarPart b, size_t n) {
+    return a.start == b.start && a.length == b.length && a.refusal == b.refusal && a.start <= n && a.length <= n - a.start && (!a.refusal || !(a.start || a.length));
+}
+
+static void text(void) {
+    static const uint8_t codes[3] = {21, 22, 0xD4};
+    size_t n, number = below(8) ? below(5) : (size_t)any() << below(48);
+    uint8_t k = below(8) ? codes[below(3)] : code(), *p = value(k, &n);
+    AshlarPart a = ashlar_text(k, number, p, n);
+    told(TEXT, a.refusal, same_part(a, plain_text(k, number, p, n), n));
+    p = value(0xD4, &n);
+    a = ashlar_radio(number, p, n);
+    told(RADIO, a.refusal, same_part(a, plain_radio(number, p, n), n));
+    a = ashlar_radio_text(number, p, n);
+    told(RADIO_TEXT, a.refusal, same_part(a, plain_radio_text(number, p, n), n));
 }
 
 static void push(void) {
@@ -271,7 +338,8 @@ int main(int argc, char **argv) {
         else if (which < 12) walk();
         else if (which < 20) walk_into();
         else if (which < 35) read_kind();
-        else if (which < 50) find();
+        else if (which < 46) find();
+        else if (which < 50) text();
         else if (which < 80) push();
         else if (which < 98) of_stations();
         else if (below(200)) sweep();
@@ -281,7 +349,7 @@ int main(int argc, char **argv) {
     for (int k = 0; k < KINDS; k++) {
         failed += wrong[k] != 0;
         printf("%s ashlar_%s, %lu calls, %lu wrong, numbers", wrong[k] ? "FAILED" : "ok", names[k], calls[k], wrong[k]);
-        for (int n = 0; n <= 17; n++)
+        for (int n = 0; n <= 18; n++)
             if (seen[k] >> n & 1) printf(" %d", n);
         printf("\n");
     }

@@ -1,20 +1,24 @@
 -- The claims of specs/Claims.antt, proved.
-use mathlib.Core.Path.{sym, ap, _∙_}
+use mathlib.Core.Path.{_≡_, refl, sym, ap, _∙_}
+use mathlib.Core.List.{List, [], _∷_}
+use Prim.Native.Nat.{ℕ}
 use lib.ListN.{length}
-use Rattle.numbers.specs.Numbers.{mapped}
+use Rattle.numbers.specs.Numbers.{Answer, gives, refuses, mapped}
 use Rattle.numbers.proofs.Firm.{by-equation, both}
 use Rattle.framing.specs.Cmdu.{readHeader}
 use Rattle.walking.specs.Walk.{walkOf, counted, listed, filled}
 use Rattle.kinds.specs.Kinds.{readKind}
 use Rattle.finding.specs.Finding.{findFrom}
+use Rattle.layouts.specs.Access.{Span, partOf}
+use Rattle.texts.specs.Access.{locateRadio, locateText, locateRadioText}
 use Rattle.table.specs.Rows.{freshTable}
 use Rattle.reassembler.proofs.Claims as reassembler
 use Rattle.stations.specs.Addresses.{numberOf}
 use Rattle.stations.specs.Rows.{freshStations, placeOf, answerTo, tableAfter, rowAt, countOf, shown, listed as listedRow}
 use Rattle.stations.specs.Events.{answerFrom, tableFrom}
-use Rattle.ashlar.specs.Numbers.{headerNumbers, walkNumbers, kindNumbers, foundNumbers, pushNumbers, shownIn}
+use Rattle.ashlar.specs.Numbers.{headerNumbers, walkNumbers, kindNumbers, foundNumbers, partNumbers, pushNumbers, shownIn}
 use Rattle.ashlar.specs.Stations.{addressIn, eventWith, eventNumbers, appliedNumbers, whereNumbers, rowNumbers}
-use Rattle.ashlar.specs.Claims.{Firmness, ShowsTheMessage}
+use Rattle.ashlar.specs.Claims.{Firmness, ShowsTheMessage, partIn, NamesThePart}
 use Rattle.ashlar.proofs.Shown.{shows}
 
 pub firmness : Firmness
@@ -24,6 +28,9 @@ firmness = record {
   ashlar-walk-into = λ list payload. both _ _ (by-equation (walkNumbers (listed (length list) (walkOf payload)))) (by-equation (filled (listed (length list) (walkOf payload)) (walkOf payload .tlvs) list));
   ashlar-read-kind = λ code value. by-equation (kindNumbers (readKind code value));
   ashlar-find = λ list payload code from. by-equation (foundNumbers (mapped (λ h. h .place) (findFrom code list payload from)));
+  ashlar-text = λ code number value. by-equation (partNumbers (locateText code number value));
+  ashlar-radio = λ number value. by-equation (partNumbers (locateRadio 0xD4 (number ∷ []) value));
+  ashlar-radio-text = λ number value. by-equation (partNumbers (locateRadioText number value));
   ashlar-fresh = by-equation freshTable;
   ashlar-push = λ t store out a payload p q x y i.
       ((x .tells ∙ ap pushNumbers (x .goes .answers ∙ sym (y .goes .answers)) ∙ sym (y .tells)) i, (x .goes .keeps ∙ sym (y .goes .keeps)) i, (x .goes .stores ∙ sym (y .goes .stores)) i, (x .goes .puts ∙ sym (y .goes .puts)) i);
@@ -39,3 +46,10 @@ firmness = record {
 
 pub shows-the-message : ShowsTheMessage
 shows-the-message = shows
+
+named : (x : Answer Span) (value : List ℕ) → partIn (partNumbers x) value ≡ partOf x value
+named (gives r) value = refl
+named (refuses n vs) value = refl
+
+pub names-the-part : NamesThePart
+names-the-part = named

@@ -1,4 +1,5 @@
 pub mod Measured
+pub mod Parts
 pub mod Shown
 pub mod Stations
 pub mod Claims

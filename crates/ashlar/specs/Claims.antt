@@ -1,9 +1,9 @@
 -- What is claimed of the exported calls; proofs/Claims.antt proves it.
 use mathlib.Core.Path.{_≡_}
 use mathlib.Core.Bool.{Bool, cond}
-use mathlib.Core.List.{List}
+use mathlib.Core.List.{List, [], _∷_}
 use Prim.Native.Nat.{ℕ}
-use lib.ListN.{length, take}
+use lib.ListN.{length, take, drop}
 use Rattle.numbers.specs.Numbers.{Answer, mapped}
 use Rattle.numbers.specs.Firmness.{Firm}
 use Rattle.framing.specs.Cmdu.{readHeader}
@@ -11,6 +11,8 @@ use Rattle.walking.specs.declared.Tlv.{Tlv}
 use Rattle.walking.specs.Walk.{walkOf, counted, listed, filled}
 use Rattle.kinds.specs.Kinds.{readKind}
 use Rattle.finding.specs.Finding.{findFrom}
+use Rattle.layouts.specs.Access.{Span, partOf}
+use Rattle.texts.specs.Access.{locateRadio, locateText, locateRadioText}
 use Rattle.table.specs.declared.Table.{Table}
 use Rattle.table.specs.Rows.{freshTable}
 use Rattle.sweeping.specs.declared.Counts.{Counts}
@@ -19,9 +21,10 @@ use Rattle.pushing.specs.declared.Arrival.{Arrival}
 use Rattle.pushing.specs.Push.{Heard, way}
 use Rattle.pushing.specs.Show.{shown}
 use Rattle.ashlar.specs.declared.AshlarWalk.{AshlarWalk}
+use Rattle.ashlar.specs.declared.AshlarPart.{AshlarPart}
 use Rattle.ashlar.specs.declared.AshlarPushed.{AshlarPushed}
 use Rattle.ashlar.specs.declared.AshlarShown.{AshlarShown}
-use Rattle.ashlar.specs.Numbers.{headerNumbers, walkNumbers, kindNumbers, foundNumbers, pushNumbers, Numbered, shownIn}
+use Rattle.ashlar.specs.Numbers.{headerNumbers, walkNumbers, kindNumbers, foundNumbers, partNumbers, pushNumbers, Numbered, shownIn}
 use Rattle.stations.specs.Addresses.{numberOf}
 use Rattle.stations.specs.Rows.{Stations, freshStations, placeOf, answerTo, tableAfter, rowAt, countOf, shown as shownPlace, listed as listedRow}
 use Rattle.stations.specs.Events.{answerFrom, tableFrom}
@@ -38,6 +41,9 @@ pub record Firmness : Type 0 where
       → Firm {A = AshlarWalk × List Tlv} (λ o. (o .0 ≡ walkNumbers (listed (length list) (walkOf payload))) × (o .1 ≡ filled (listed (length list) (walkOf payload)) (walkOf payload .tlvs) list))
   pub ashlar-read-kind : (code : ℕ) (value : List ℕ) → Firm (λ r. r ≡ kindNumbers (readKind code value))
   pub ashlar-find : (list : List Tlv) (payload : List ℕ) (code from : ℕ) → Firm (λ r. r ≡ foundNumbers (mapped (λ h. h .place) (findFrom code list payload from)))
+  pub ashlar-text : (code number : ℕ) (value : List ℕ) → Firm (λ r. r ≡ partNumbers (locateText code number value))
+  pub ashlar-radio : (number : ℕ) (value : List ℕ) → Firm (λ r. r ≡ partNumbers (locateRadio 0xD4 (number ∷ []) value))
+  pub ashlar-radio-text : (number : ℕ) (value : List ℕ) → Firm (λ r. r ≡ partNumbers (locateRadioText number value))
   pub ashlar-fresh : Firm (λ r. r ≡ freshTable)
   pub ashlar-push : (t : Table) (store out : List ℕ) (a : Arrival) (payload : List ℕ)
       → Firm {A = AshlarPushed × Table × List ℕ × List ℕ} (λ o. Numbered (way t store a payload (length out)) t store out a payload (o .0) (o .1) (o .2) (o .3))
@@ -58,3 +64,10 @@ messageIn s payload out = take (s .length) (cond (s .«in_output») out payload)
 
 abbrev pub ShowsTheMessage : Type 0
 ShowsTheMessage = (h : Answer Heard) (payload out : List ℕ) → messageIn (shownIn (pushNumbers h) (length payload) (length out)) payload out ≡ shown h payload out
+
+-- The part that an answer of `ashlar_text`, `ashlar_radio` or `ashlar_radio_text` names is the one that the layer's own call returns.
+abbrev pub partIn : AshlarPart → List ℕ → List ℕ
+partIn p value = take (p .length) (drop (p .start) value)
+
+abbrev pub NamesThePart : Type 0
+NamesThePart = (x : Answer Span) (value : List ℕ) → partIn (partNumbers x) value ≡ partOf x value

@@ -1,3 +1,4 @@
 pub mod Numbers
 pub mod Stations
+pub mod PrivateParts
 pub mod Claims

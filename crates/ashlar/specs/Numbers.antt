@@ -2,12 +2,13 @@
 use mathlib.Core.Path.{_≡_}
 use mathlib.Core.Bool.{true, false, cond}
 use mathlib.Core.List.{List}
-use Prim.Native.Nat.{ℕ}
+use Prim.Native.Nat.{ℕ, _-_}
 use lib.Dec.{eqb, leb}
 use lib.ListN.{getD}
 use Rattle.numbers.specs.Numbers.{Answer, gives, refuses}
 use Rattle.framing.specs.declared.CmduHeader.{CmduHeader}
 use Rattle.walking.specs.Walk.{Counted}
+use Rattle.layouts.specs.Access.{Span}
 use Rattle.kinds.specs.Kinds.{Contents, one, list, Typed}
 use Rattle.table.specs.declared.Table.{Table}
 use Rattle.pushing.specs.declared.Arrival.{Arrival}
@@ -17,6 +18,7 @@ use Rattle.ashlar.specs.declared.AshlarHeader.{AshlarHeader}
 use Rattle.ashlar.specs.declared.AshlarWalk.{AshlarWalk}
 use Rattle.ashlar.specs.declared.AshlarKind.{AshlarKind}
 use Rattle.ashlar.specs.declared.AshlarFound.{AshlarFound}
+use Rattle.ashlar.specs.declared.AshlarPart.{AshlarPart}
 use Rattle.ashlar.specs.declared.AshlarPushed.{AshlarPushed}
 use Rattle.ashlar.specs.declared.AshlarShown.{AshlarShown}
 
@@ -54,6 +56,11 @@ kindNumbers (refuses n vs) = record { entries = 0; consumed = 0; rest = 0; «is_
 abbrev pub foundNumbers : Answer ℕ → AshlarFound
 foundNumbers (gives i) = record { place = i; refusal = 0 }
 foundNumbers (refuses n vs) = record { place = 0; refusal = n }
+
+-- 2026-04: a text or a radio is a part of the value, told by its first byte's place and its length
+abbrev pub partNumbers : Answer Span → AshlarPart
+partNumbers (gives r) = record { start = r .start; length = r .end - r .start; refusal = 0 }
+partNumbers (refuses n vs) = record { start = 0; length = 0; refusal = n }
 
 -- push's named answers from 1 on, 0 for a refusal; the length is the message's, or the one that 13 gives
 abbrev pub namedAs : ℕ → ℕ → AshlarPushed

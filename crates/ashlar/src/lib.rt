@@ -2,6 +2,8 @@
 use finding::Placed;
 use framing::HeaderRead;
 use kinds::KindSize;
+use layouts::Located;
+use layouts::Path;
 use pushing::Arrival;
 use pushing::Pushed;
 use records::AssociationState;
@@ -23,12 +25,16 @@ ghost use Rattle.framing.specs.Cmdu.{readHeader};
 ghost use Rattle.kinds.specs.Kinds.{readKind};
 ghost use Rattle.numbers.specs.Numbers.{mapped};
 ghost use Rattle.finding.specs.Finding.{placedOf, findFrom};
+ghost use mathlib.Core.List.{[], _∷_};
+ghost use Rattle.layouts.specs.Access.{locatedOf};
+ghost use Rattle.texts.specs.Access.{locateRadio, locateText, locateRadioText};
 ghost use Rattle.table.specs.Rows.{freshTable};
 ghost use lib.ListN.{length};
 ghost use Rattle.pushing.specs.Push.{pushedOf, way};
 ghost use Rattle.sweeping.specs.Sweep.{swept, sweptAs};
 ghost use Rattle.pushing.specs.Made.{Made};
-ghost use Rattle.ashlar.specs.Numbers.{headerNumbers, walkNumbers, kindNumbers, foundNumbers, namedAs, pushNumbers, withinOf, shownIn, Numbered};
+ghost use Rattle.ashlar.specs.Numbers.{headerNumbers, walkNumbers, kindNumbers, foundNumbers, partNumbers, namedAs, pushNumbers, withinOf, shownIn, Numbered};
+ghost use Rattle.ashlar.specs.PrivateParts.{Ordered};
 ghost use Rattle.stations.specs.Addresses.{numberOf};
 ghost use Rattle.stations.specs.Whereabouts.{isJoined};
 ghost use Rattle.stations.specs.Rows.{freshStations, placeOf, answerTo, tableAfter, rowAt, countOf, shown, listed as rowListed};
@@ -59,7 +65,7 @@ pub struct AshlarWalk {
     pub refusal: u8,
 }
 
-// How many entries the value's own list has, if its kind is a list's; a record is the first `consumed` bytes of its value.
+// How many entries the value's own list has, if its kind is a list's or holds text, whose radios are its list; a record is the first `consumed` bytes of its value.
 #[repr(C)]
 pub struct AshlarKind {
     pub entries: usize,
@@ -73,6 +79,14 @@ pub struct AshlarKind {
 #[repr(C)]
 pub struct AshlarFound {
     pub place: usize,
+    pub refusal: u8,
+}
+
+// Where a part of a value lies, a text or a radio: the bytes from `start` on, so many.
+#[repr(C)]
+pub struct AshlarPart {
+    pub start: usize,
+    pub length: usize,
     pub refusal: u8,
 }
 
@@ -215,6 +229,57 @@ pub extern "C" fn ashlar_find(list: &[Tlv], payload: &[u8], code: u8, from: usiz
 {
     let placed = finding::find_place(list, payload, code, from);
     found_numbers(placed)
+}
+
+fn part_numbers(located: Located) -> AshlarPart
+    requires { ⌜ Ordered (locatedOf located) ⌝ }
+    ensures { λ r. ⌜ r ≡ partNumbers (locatedOf located) ⌝ }
+{
+    match located {
+        Located::Entry { start, end } => AshlarPart {
+            start,
+            length: end - start,
+            refusal: 0,
+        },
+        Located::Refused(refusal) => AshlarPart {
+            start: 0,
+            length: 0,
+            refusal: numbers::number_of(refusal),
+        },
+    }
+}
+
+// Where the text with this number lies in a value of the kind with this code: kinds 21 and 0xD4 have three, 22 has one. The whole value has to read.
+#[no_mangle]
+pub extern "C" fn ashlar_text(code: u8, number: usize, value: &[u8]) -> AshlarPart
+    ensures { λ r. ⌜ r ≡ partNumbers (locateText code number (now (value .entry))) ⌝ }
+{
+    let located = texts::locate_text(code, number, value);
+    part_numbers(located)
+}
+
+// Where the radio with this number lies in a value of kind 0xD4: its id of six bytes, the length of its text in one, and its text.
+#[no_mangle]
+pub extern "C" fn ashlar_radio(number: usize, value: &[u8]) -> AshlarPart
+    ensures { λ r. ⌜ r ≡ partNumbers (locateRadio 0xD4 (number ∷ []) (now (value .entry))) ⌝ }
+{
+    let path = Path {
+        depth: 1,
+        i0: number,
+        i1: 0,
+        i2: 0,
+    };
+    let located = texts::locate(0xD4, path, value);
+    part_numbers(located)
+}
+
+// Where the text of the radio with this number lies in a value of kind 0xD4.
+#[no_mangle]
+pub extern "C" fn ashlar_radio_text(number: usize, value: &[u8]) -> AshlarPart
+    ensures { λ r. ⌜ r ≡ partNumbers (locateRadioText number (now (value .entry))) ⌝ }
+{
+    let located = texts::locate_radio_text(number, value);
+    part_numbers(located)
 }
 
 // A table that holds nothing.

@@ -198,8 +198,8 @@ fn decode(s: &[u8], data: &mut [u8]) -> usize {
 fn field_of_bytes(letter: u8) -> usize {
     match letter {
         b't' | b'h' | b'k' | b'g' | b'J' => 1,
-        b'r' | b'a' | b'd' | b'D' => 2,
-        b'w' | b's' | b'e' | b'l' => 3,
+        b'r' | b'a' | b'd' | b'D' | b'U' => 2,
+        b'w' | b's' | b'e' | b'l' | b'u' => 3,
         _ => 8,
     }
 }

@@ -1,4 +1,4 @@
-// The commands about one TLV, header or value: t, h, r, e and a, which read, and w, s and f, which write.
+// The commands about one TLV, header or value: t, h, r, e, a, u and U, which read, and w, s and f, which write.
 mod framed;
 mod typed;
 mod written;
@@ -22,6 +22,8 @@ pub(crate) fn answer_read(
         b'r' => typed::read(code, bytes, text, used),
         b'e' => typed::entry(code, parse::field(line, 2), bytes, text, used),
         b'a' => typed::entries(code, bytes, text, used),
+        b'u' => typed::text_of(code, parse::size_in(line, 2), bytes, text, used),
+        b'U' => typed::radio_text(parse::size_in(line, 1), bytes, text, used),
         _ => show::put(text, used, b"bad"),
     }
 }

@@ -28,6 +28,17 @@ pub trait Shown: TLVTrait {
     fn entries(&self) -> Vec<Entry> {
         Vec::new()
     }
+
+    /// Of a kind that holds text, its texts and those of its radios.
+    fn texts(&self) -> Option<Texts<'_>> {
+        None
+    }
+}
+
+/// Texts as the original keeps them.
+pub struct Texts<'a> {
+    pub own: Vec<&'a String>,
+    pub radios: Vec<&'a String>,
 }
 
 fn mac(address: MacAddr) -> String {
@@ -287,11 +298,22 @@ impl Shown for DeviceIdentificationType {
         let texts = [&self.friendly_name, &self.manufacturer_name, &self.manufacturer_model];
         texts.map(|text| shown(text.as_bytes())).join(" ")
     }
+
+    fn texts(&self) -> Option<Texts<'_>> {
+        Some(Texts {
+            own: vec![&self.friendly_name, &self.manufacturer_name, &self.manufacturer_model],
+            radios: Vec::new(),
+        })
+    }
 }
 
 impl Shown for ControlUrl {
     fn fields(&self) -> String {
         shown(self.url.as_bytes())
+    }
+
+    fn texts(&self) -> Option<Texts<'_>> {
+        Some(Texts { own: vec![&self.url], radios: Vec::new() })
     }
 }
 
@@ -312,6 +334,13 @@ impl Shown for DeviceInventory {
             }],
         };
         self.radios.iter().map(|radio| leaf(alone(radio).serialize().split_off(4))).collect()
+    }
+
+    fn texts(&self) -> Option<Texts<'_>> {
+        Some(Texts {
+            own: vec![&self.serial_number, &self.software_version, &self.execution_env],
+            radios: self.radios.iter().map(|radio| &radio.chipset_vendor).collect(),
+        })
     }
 }
 
@@ -337,8 +366,8 @@ impl Shown for LinkMetricRx {
     }
 }
 
-/// The last request of document 02 that counts; it decides which kinds there are.
-pub static LEVEL: AtomicU8 = AtomicU8::new(0);
+/// The last request of document 02 that counts; it decides which kinds there are. Without one that is named, the one that `model.py` takes.
+pub static LEVEL: AtomicU8 = AtomicU8::new(4);
 
 /// What is asked of a kind; one match on the code for all of it.
 pub trait Ask {

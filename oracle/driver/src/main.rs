@@ -176,6 +176,23 @@ fn entry(kind: u8, numbers: &str, input: &[u8]) -> Result<String, Bad> {
     Ok(found.map_or(NO.into(), |bytes| format!("ok {}", shown(&bytes))))
 }
 
+/// A text by its number, of the value itself or of its radios.
+struct Text<'a>(&'a [u8], bool, usize);
+
+impl Ask for Text<'_> {
+    type Answer = Option<String>;
+    fn ask<T: Shown>(self) -> Option<String> {
+        let (_, record) = T::parse(self.0).ok()?;
+        let texts = record.texts()?;
+        let asked = if self.1 { texts.radios } else { texts.own };
+        asked.get(self.2).map(|text| format!("ok {}", shown(text.as_bytes())))
+    }
+}
+
+fn text(kind: u8, of_radio: bool, number: usize, input: &[u8]) -> String {
+    of_kind(kind, Text(input, of_radio, number)).flatten().unwrap_or(NO.into())
+}
+
 /// Every entry in order, each before those below it: its numbers, its length, its bytes.
 fn gather(entries: &[Entry], path: &mut Vec<u16>, count: &mut usize, all: &mut Vec<u8>) {
     for (index, entry) in entries.iter().enumerate() {
@@ -304,6 +321,14 @@ fn answer(table: &mut Table, line: &str) -> Result<String, Bad> {
         "a" => {
             let kind = number(&mut fields)?;
             every_entry(kind, &bytes(word(&mut fields)?)?)
+        }
+        "u" => {
+            let (kind, which) = (number(&mut fields)?, number(&mut fields)?);
+            text(kind, false, which, &bytes(word(&mut fields)?)?)
+        }
+        "U" => {
+            let which = number(&mut fields)?;
+            text(0xd4, true, which, &bytes(word(&mut fields)?)?)
         }
         "d" => {
             let kind = number(&mut fields)?;

@@ -1,4 +1,4 @@
-// The commands of the kinds that read: r, e and a.
+// The commands of the kinds that read: r, e, a, u and U.
 use crate::parse;
 use crate::show;
 use crate::show::Tally;
@@ -31,6 +31,28 @@ fn put_list(code: u8, data: &[u8], entries: usize, text: &mut Text, used: usize)
     show::put_next(text, a, entries as u64)
 }
 
+// The texts of a value, three or the one of kind 22, and how many radios kind 0xD4 has.
+fn put_texts(code: u8, data: &[u8], radios: usize, text: &mut Text, used: usize) -> usize {
+    let a = show::put_shown(text, used, b' ', texts::text(code, 0, data));
+    if code == 22 {
+        return a;
+    }
+    let b = show::put_shown(text, a, b' ', texts::text(code, 1, data));
+    let c = show::put_shown(text, b, b' ', texts::text(code, 2, data));
+    if code == 21 {
+        return c;
+    }
+    show::put_next(text, c, radios as u64)
+}
+
+// What a value without a record holds: its texts, or its list.
+fn put_held(code: u8, data: &[u8], entries: usize, text: &mut Text, used: usize) -> usize {
+    if texts::is_text(code) {
+        return put_texts(code, data, entries, text, used);
+    }
+    put_list(code, data, entries, text, used)
+}
+
 // r: a value read.
 pub(crate) fn read(code: u8, data: &[u8], text: &mut Text, used: usize) -> usize {
     match kinds::read_kind(code, data) {
@@ -48,7 +70,7 @@ pub(crate) fn read(code: u8, data: &[u8], text: &mut Text, used: usize) -> usize
             rest,
         } => {
             let a = put_sizes(consumed, rest, text, used);
-            put_list(code, data, entries, text, a)
+            put_held(code, data, entries, text, a)
         }
         KindRead::Refused(refusal) => show::put_refused(text, used, refusal),
     }
@@ -67,16 +89,34 @@ fn path_of(numbers: &[u8]) -> Path {
     }
 }
 
-// e: an entry by its numbers.
-pub(crate) fn entry(code: u8, numbers: &[u8], data: &[u8], text: &mut Text, used: usize) -> usize {
-    let path = path_of(numbers);
-    match kinds::locate(code, path, data) {
+// A part of a value, where it is there.
+fn put_part(located: Located, part: &[u8], text: &mut Text, used: usize) -> usize {
+    match located {
         Located::Entry { start: _, end: _ } => {
             let a = show::put_ok(text, used);
-            show::put_shown(text, a, b' ', kinds::entry(code, path, data))
+            show::put_shown(text, a, b' ', part)
         }
         Located::Refused(refusal) => show::put_refused(text, used, refusal),
     }
+}
+
+// e: an entry by its numbers.
+pub(crate) fn entry(code: u8, numbers: &[u8], data: &[u8], text: &mut Text, used: usize) -> usize {
+    let path = path_of(numbers);
+    let located = kinds::locate(code, path, data);
+    put_part(located, kinds::entry(code, path, data), text, used)
+}
+
+// u: the text of a value with this number.
+pub(crate) fn text_of(code: u8, number: usize, data: &[u8], text: &mut Text, used: usize) -> usize {
+    let located = texts::locate_text(code, number, data);
+    put_part(located, texts::text(code, number, data), text, used)
+}
+
+// U: the text of the radio with this number.
+pub(crate) fn radio_text(number: usize, data: &[u8], text: &mut Text, used: usize) -> usize {
+    let located = texts::locate_radio_text(number, data);
+    put_part(located, texts::radio_text(number, data), text, used)
 }
 
 // The entry behind this one in the same list.
