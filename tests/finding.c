@@ -46,7 +46,7 @@ int main(void) {
     finds("and 12 bytes do not read", other + 1, 1, 0x92, 0, 0, 0, 15);
     finds("the type is the record's, not the payload's", other + 2, 2, 1, 0, 0, 6, 0);
     finds("no TLV of the kind", walked, 4, 23, 0, 0, 0, 15);
-    finds("a kind that is none of the 21", walked, 4, 3, 0, 0, 0, 16);
+    finds("a kind that is none of the 24", walked, 4, 3, 0, 0, 0, 16);
     finds("that, with an empty list", walked, 0, 255, 0, 0, 0, 16);
     return failed != 0;
 }

@@ -34,7 +34,7 @@ pub enum Refusal {
     ListTooShort,
     // 15: find: none
     NotFound,
-    // 16: kind not among the 21
+    // 16: kind not among the 24
     UnknownKind,
     // 17: a join of an unknown station with 128 held
     NoStationRoom,
