@@ -9,9 +9,9 @@ use borrow.Author.Tests.{eqb-true, eqb-false, eq-eqb, ne-eqb, not-false}
 use Rattle.table.specs.declared.Table.{Table}
 use Rattle.table.specs.Rows.{places, ownerOf, freshTable, placeAt, rowOf, isSpare, lowestFree, isFree}
 use Rattle.pushing.specs.Joining.{isKept, never, since, due}
-use Rattle.pushing.specs.Push.{Way, refuse, replace, keepAt, openAt, end}
+use Rattle.pushing.specs.Push.{Way, refuse, duplicate, keepAt, openAt, end}
 use Rattle.table.proofs.Search.{lowest-holds, lowest-before}
-use Rattle.pushing.proofs.Ways.{Went, went, went-refuse, went-replace, went-keep, went-open, went-end}
+use Rattle.pushing.proofs.Ways.{Went, went, went-refuse, went-duplicate, went-keep, went-open, went-end}
 use Rattle.table.proofs.Sound.{Sound}
 use Rattle.pushing.proofs.Sound.{sound}
 use Rattle.orders.specs.Runs.{State, Push, Call, push, sweep, finishedBy, part, wayOf, after, isAccepted, concerns, start, Holding, holding, holdsNothing}
@@ -30,7 +30,7 @@ use Rattle.machines.proofs.Story as Y
 -- a push that was kept found a free place
 kept-free : (t : Table) (store : List ℕ) (p : Push) {w : Way} → Went t store (p .arrival) (p .payload) (p .room) w → shape w ≡ keepAt 0 → lowestFree t < 32
 kept-free t store p (went-refuse n values) e = let no : _≡_ {A = ℕ} 0 1 = cc in absurd (omega arith)
-kept-free t store p (went-replace i h₁ h₂ q h) e = let no : _≡_ {A = ℕ} 0 1 = cc in absurd (omega arith)
+kept-free t store p went-duplicate e = let no : _≡_ {A = ℕ} 0 1 = cc in absurd (omega arith)
 kept-free t store p (went-keep i h₁ h₂ h₃ l q h k) e = omega arith
 kept-free t store p (went-open i r h₁ h₂ h₃ l q h k q₂ h₄) e = omega arith
 kept-free t store p (went-end h bytes h₁ h₂ h₃ l q) e = let no : _≡_ {A = ℕ} 0 1 = cc in absurd (omega arith)
@@ -81,7 +81,7 @@ module _ (long : ℕ) (c : ℕ) where
     where
       by-way : (w : Way) → refusedWay (λ n. true) w ≡ refusedWay (λ n. true) (shape w)
       by-way (refuse n values) = refl
-      by-way (replace i) = refl
+      by-way duplicate = refl
       by-way (keepAt i) = refl
       by-way (openAt i row) = refl
       by-way (end h bytes) = refl

@@ -2,7 +2,7 @@
 use Rattle.orders.specs.Claims.{Claims}
 use Rattle.orders.proofs.Orders.{local, alike, shares-add-up, run-made, told-alone, sweeps-add-up, order-across-keys, swapped}
 use Rattle.orders.proofs.Together.{order-together}
-use Rattle.orders.proofs.Happened.{finished-shown, is-run, order-across-senders, sender-alone}
+use Rattle.orders.proofs.Happened.{finished-shown, is-run, order-across-senders, sender-alone, duplicate-untouched}
 use Rattle.orders.proofs.Completes.{completes, fresh-completes, completes-among}
 
 pub claims : Claims
@@ -20,6 +20,7 @@ claims = record {
   is-run = is-run;
   order-across-senders = order-across-senders;
   sender-alone = sender-alone;
+  duplicate-untouched = duplicate-untouched;
   completes = completes;
   fresh-completes = fresh-completes;
   completes-among = completes-among;

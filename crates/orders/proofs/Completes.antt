@@ -14,7 +14,7 @@ use Rattle.table.specs.Rows.{places, freshTable, placeAt, isFree, rowOf, spareR
 use Rattle.pushing.specs.Joining.{Held, nothing, kept, Since, never, since}
 use Rattle.pushing.specs.Push.{Way, keepAt, waiting, placeFor, tableBy, answerBy}
 use Rattle.pushing.specs.Made.{Made, byFresh}
-use Rattle.pushing.proofs.Ways.{Went, went, went-refuse, went-replace, went-keep, went-open, went-end}
+use Rattle.pushing.proofs.Ways.{Went, went, went-refuse, went-duplicate, went-keep, went-open, went-end}
 use Rattle.table.proofs.Sound.{Sound, fresh-sound}
 use Rattle.pushing.proofs.Sound.{sound}
 use Rattle.machines.specs.Machine.{those, remaining, every}
@@ -49,7 +49,7 @@ taken t t′ i same h = one-fewer (λ j. isFree (placeAt t j)) (λ j. isFree (pl
 
 kept-fewer : (t : Table) → Sound t → (store : List ℕ) (p : Push) {w : Way} → Went t store (p .arrival) (p .payload) (p .room) w → shape w ≡ keepAt 0 → freeIn t ≤ freeIn (tableBy w t (p .arrival) (length (p .payload))) + 1
 kept-fewer t s store p (went-refuse n values) e = let no : _≡_ {A = ℕ} 0 1 = cc in absurd (omega arith)
-kept-fewer t s store p (went-replace i h₁ h₂ q h) e = let no : _≡_ {A = ℕ} 0 1 = cc in absurd (omega arith)
+kept-fewer t s store p went-duplicate e = let no : _≡_ {A = ℕ} 0 1 = cc in absurd (omega arith)
 kept-fewer t s store p (went-keep i h₁ h₂ h₃ l q h k) e =
     let new = placeFor (rowOf t (p .arrival .key)) (p .arrival .fragment) (length (p .payload)) in
     taken t (withPlace t i new) i (put-elsewhere t i new) h

@@ -10,13 +10,13 @@ use lib.Seq.{paste, length-paste}
 use borrow.Author.Tests.{ltb-true, ltb-false, lt-ltb}
 use Rattle.table.specs.declared.Table.{Table}
 use Rattle.pushing.specs.declared.Arrival.{Arrival}
-use Rattle.table.specs.Rows.{ownerOf, placeAt, rowOf}
+use Rattle.table.specs.Rows.{rowOf}
 use Rattle.pushing.specs.Joining.{Kept, kept, heldOf, heldBy, Since, firstTime}
-use Rattle.pushing.specs.Push.{Way, refuse, replace, keepAt, openAt, end, tableBy, storeBy}
+use Rattle.pushing.specs.Push.{Way, refuse, duplicate, keepAt, openAt, end, tableBy, storeBy}
 use Rattle.pushing.proofs.Apart.{push-untouched}
 use Rattle.pushing.proofs.Own.{absent-since, heldAfter, sinceAfter, push-told}
-use Rattle.pushing.proofs.Ways.{way-11, Went, went, went-refuse, went-replace, went-keep, went-open, went-end}
-use Rattle.table.proofs.Sound.{Sound, used-row, place-holds}
+use Rattle.pushing.proofs.Ways.{way-11, Went, went, went-refuse, went-duplicate, went-keep, went-open, went-end}
+use Rattle.table.proofs.Sound.{Sound}
 use Rattle.orders.specs.Runs.{State, Push, part, wayOf, afterWay, Holding, holding}
 use Rattle.orders.proofs.Holdings.{holding-same, held-front}
 use Rattle.orders.proofs.Telling.{shape, sinceOr, byOwn}
@@ -46,7 +46,7 @@ module _ (z : State) (p : Push) (s : Sound (z .table)) where
   -- a payload that is written leaves the lent part as long as it was
   front-same : {w : Way} → Goes w → length (storeBy w (part z p) (p .payload)) ≡ length (part z p)
   front-same (went-refuse n values) = refl
-  front-same (went-replace i h₁ h₂ e h) = written i h h₁ h₂
+  front-same went-duplicate = refl
   front-same (went-keep i h₁ h₂ h₃ l e h k) = written i h h₁ h₂
   front-same (went-open i r h₁ h₂ h₃ l e h k e₂ h₄) = written i h h₁ h₂
   front-same (went-end h bytes h₁ h₂ h₃ l e) = refl
@@ -63,7 +63,7 @@ module _ (z : State) (p : Push) (s : Sound (z .table)) where
   -- what a way leaves of its key's holding goes by its shape
   held-by : (w : Way) (n : ℕ) → heldBy t (part z p) (a .key) n ≡ v .fragments n → heldAfter w (heldBy t (part z p) (a .key)) number (heldOf (a .fragment) (p .payload)) n ≡ byOwn (shape w) v p .fragments n
   held-by (refuse m values) n e = e
-  held-by (replace i) n e = ap (λ (k : Kept). cond (eqb n number) (kept (heldOf (a .fragment) (p .payload))) k) e
+  held-by duplicate n e = e
   held-by (keepAt i) n e = ap (λ (k : Kept). cond (eqb n number) (kept (heldOf (a .fragment) (p .payload))) k) e
   held-by (openAt i r) n e = ap (λ (k : Kept). cond (eqb n number) (kept (heldOf (a .fragment) (p .payload))) k) e
   held-by (end h bytes) n e = refl
@@ -74,9 +74,7 @@ module _ (z : State) (p : Push) (s : Sound (z .table)) where
 
   first-by : {w : Way} → Goes w → sinceAfter w (firstTime t (a .key)) (a .time) ≡ byOwn (shape w) v p .first
   first-by (went-refuse n values) = refl
-  first-by (went-replace i h₁ h₂ e h) =
-      let own : placeAt t i .owner ≡ ownerOf row = ap (λ (k : ℕ). placeAt t k .owner) e ∙ place-holds t row number (omega arith) .0 in
-      there (used-row t s row (s .owned i row own))
+  first-by went-duplicate = refl
   first-by (went-keep i h₁ h₂ h₃ l e h k) = there k
   first-by (went-open i r h₁ h₂ h₃ l e h k e₂ h₄) = ap (λ (f : Since). sinceOr f (a .time)) (sym (absent-since t s (a .key) k))
   first-by (went-end h bytes h₁ h₂ h₃ l e) = refl

@@ -5,14 +5,16 @@ use mathlib.Core.Bool.{Bool, true, false, cond, not, _&&_, _||_, false≢true}
 use Prim.Native.Nat.{ℕ}
 use native.Mathlib.Omega.{arith}
 use lib.Dec.{eqb}
-use lib.ListN.{length, drop, replicate}
+use lib.ListN.{length, drop, replicate, take-append-drop}
 use borrow.Author.Tests.{eqb-true, eqb-false, eq-eqb}
 use Rattle.sweeping.specs.declared.Swept.{Swept}
+use Rattle.pushing.specs.declared.Pushed.the-variants.{DuplicatedFragment}
 use Rattle.pushing.specs.Push.{pushedOf, Goes, outputBy, answerBy}
 use Rattle.pushing.specs.Show.{shown}
 use Rattle.pushing.specs.Made.{Made}
 use Rattle.pushing.proofs.Ways.{shown-same}
 use Rattle.pushing.proofs.Firm.{one-answer}
+use Rattle.pushing.proofs.Claims.{duplicate-untouched as untouched}
 use Rattle.table.proofs.Places.{all-same}
 use Rattle.reassembler.specs.Keys.{Origin, keyFor}
 use Rattle.reassembler.proofs.Keys.{key-is-one's}
@@ -230,3 +232,9 @@ module _ (store : List ℕ) (es : List Event) (z : State) (h : Happened (start s
           holds = ap (holding (keyFor o)) (sym (ends-at h)) ∙ alone .holds ∙ ap (λ (calls : List Call). holding (keyFor o) (ends (start store′) calls)) hers ∙ ap (holding (keyFor o)) (ends-at h′);
           none-refused = none-fails isAccepted isRefused accepted h′ (subst (λ (calls : List Call). every after isAccepted (start store′) calls ≡ true) hers (alone .none-refused));
         }
+
+-- a duplicate leaves everything as it was
+pub duplicate-untouched : (z z′ : State) (o : Origin) (p : Push) (key : p .arrival .key ≡ keyFor o) (out out′ : List ℕ) → Happens z (push-event o p key out DuplicatedFragment out′) z′ → (z′ ≡ z) × (out′ ≡ out)
+duplicate-untouched z z′ o p key out out′ (by-push {table′ = table′} {part′ = part′} long goes) =
+    let same = untouched (z .table) (part z p) out (p .arrival) (p .payload) table′ part′ out′ goes in
+    ((λ i. record { table = same .0 i; store = same .1 i ++ drop (p .lent) (z .store) }) ∙ ap (λ (l : List ℕ). record { table = z .table; store = l }) (take-append-drop (p .lent) (z .store)), same .2)

@@ -6,7 +6,7 @@ use Prim.Native.Nat.{ℕ}
 use lib.Dec.{eqb}
 use lib.ListN.{length, take-append-drop}
 use borrow.Author.Tests.{eqb-true, eqb-false, not-false}
-use Rattle.pushing.specs.Push.{Way, refuse, replace, keepAt, openAt, end, answerBy}
+use Rattle.pushing.specs.Push.{Way, refuse, duplicate, keepAt, openAt, end, answerBy}
 use Rattle.pushing.specs.Made.{byFresh, byPush, bySweep}
 use Rattle.pushing.proofs.Ways.{went}
 use Rattle.table.proofs.Sound.{Sound}
@@ -21,7 +21,7 @@ use Rattle.machines.proofs.Story as Y
 -- a refused push changes nothing
 refused-same : (z : State) (p : Push) (test : ℕ → Bool) (w : Way) → refusedWay test w ≡ true → afterWay w z p ≡ z
 refused-same z p test (refuse n values) h = ap (λ (l : List ℕ). record { table = z .table; store = l }) (take-append-drop (p .lent) (z .store))
-refused-same z p test (replace i) h = absurd (false≢true h)
+refused-same z p test duplicate h = absurd (false≢true h)
 refused-same z p test (keepAt i) h = absurd (false≢true h)
 refused-same z p test (openAt i row) h = absurd (false≢true h)
 refused-same z p test (end x bytes) h = absurd (false≢true h)
@@ -111,7 +111,7 @@ accepted-room z (push p) h = has-room z p ∙ by-way (wayOf z p) (sym (ap not (r
   where
     by-way : (w : Way) → not (refusedWay (λ n. true) w) ≡ true → roomBy w ≡ true
     by-way (refuse n values) k = absurd (false≢true k)
-    by-way (replace i) k = refl
+    by-way duplicate k = refl
     by-way (keepAt i) k = refl
     by-way (openAt i row) k = refl
     by-way (end x bytes) k = refl

@@ -10,15 +10,15 @@ use Rattle.table.specs.declared.Table.{Table}
 use Rattle.pushing.specs.declared.Arrival.{Arrival}
 use Rattle.table.specs.Rows.{rowOf, spareRow, placeOf, lowestFree}
 use Rattle.pushing.specs.Joining.{Held, Fragments, isKept, heldOf, heldIn, andNew}
-use Rattle.pushing.specs.Push.{Way, refuse, replace, keepAt, openAt, end, joinWay, keepWay, joinedWith, answerBy}
+use Rattle.pushing.specs.Push.{Way, refuse, duplicate, keepAt, openAt, end, joinWay, keepWay, joinedWith, answerBy}
 use Rattle.pushing.specs.Made.{Made}
-use Rattle.pushing.proofs.Ways.{by-ends, keep-full, keep-there, keep-keys, keep-new, way-11, way-12, way-replace, way-last, way-keep}
+use Rattle.pushing.proofs.Ways.{by-ends, keep-full, keep-there, keep-keys, keep-new, way-11, way-12, way-duplicate, way-last, way-keep}
 use Rattle.table.proofs.Sound.{Sound}
 use Rattle.pushing.proofs.Sound.{sound}
 use Rattle.orders.specs.Runs.{State, Push, finishedBy, part, wayOf, Holding, holding, forRoom}
 use Rattle.orders.proofs.Holdings.{held-front}
 use Rattle.orders.proofs.Lookups.{kept-there}
-use Rattle.orders.proofs.Telling.{shape, refusedWay, ownJoining, ownWay, own-11, own-12, own-replace, own-last, own-keep}
+use Rattle.orders.proofs.Telling.{shape, refusedWay, ownJoining, ownWay, own-11, own-12, own-duplicate, own-last, own-keep}
 
 -- a state that the calls made over a store of some length
 pub record Good (long : ℕ) (z : State) : Type 0 where
@@ -35,14 +35,14 @@ roomBy w = not (refusedWay forRoom w)
 
 pub same-answer : (w : Way) → answerBy (shape w) ≡ answerBy w
 same-answer (refuse n values) = refl
-same-answer (replace i) = refl
+same-answer duplicate = refl
 same-answer (keepAt i) = refl
 same-answer (openAt i row) = refl
 same-answer (end h bytes) = refl
 
 pub same-finished : (w : Way) (payload : List ℕ) → finishedBy (shape w) payload ≡ finishedBy w payload
 same-finished (refuse n values) payload = refl
-same-finished (replace i) payload = refl
+same-finished duplicate payload = refl
 same-finished (keepAt i) payload = refl
 same-finished (openAt i row) payload = refl
 same-finished (end h bytes) payload = refl
@@ -109,7 +109,7 @@ module _ (long : ℕ) (z : State) (p : Push) (g : Good long z) where
         (leb 32 (lowestFree t)) refl (ltb row 16) refl (leb 16 (spareRow t)) refl
 
     by-place : (b : Bool) → ltb place 32 ≡ b → Outcome long z p
-    by-place true e = as-told (ap shape (way-replace t (part z p) a (p .payload) (p .room) h₁ h₂ (ltb-true _ _ e)) ∙ sym (own-replace long v p min-long h₂ (kept-is ∙ e)))
+    by-place true e = as-told (ap shape (way-duplicate t (part z p) a (p .payload) (p .room) h₁ h₂ (ltb-true _ _ e)) ∙ sym (own-duplicate long v p min-long h₂ (kept-is ∙ e)))
     by-place false e = by-mark (ltb-false _ _ e) (a .fragment .last) refl
 
   by-size : 47744 ≤ length (part z p) → (b : Bool) → ltb 1492 (length (p .payload)) ≡ b → Outcome long z p
@@ -135,7 +135,7 @@ pub own-room : (long : ℕ) (v : Holding) (p : Push) → roomBy (ownWay long v p
 unfolding ownWay
 own-room long v p = by-tests (ltb (min (p .lent) long) 47744) (ltb 1492 (length (p .payload))) (isKept (v .fragments (p .arrival .fragment .number))) (p .arrival .fragment .last)
   where
-    by-tests : (w x y l : Bool) → roomBy (cond w (refuse 11 []) (cond x (refuse 12 []) (cond y (replace 0) (cond l (ownJoining v p) (keepAt 0))))) ≡ true
+    by-tests : (w x y l : Bool) → roomBy (cond w (refuse 11 []) (cond x (refuse 12 []) (cond y duplicate (cond l (ownJoining v p) (keepAt 0))))) ≡ true
     by-tests true x y l = refl
     by-tests false true y l = refl
     by-tests false false true l = refl
@@ -144,7 +144,7 @@ own-room long v p = by-tests (ltb (min (p .lent) long) 47744) (ltb 1492 (length 
 
 room-shape : (w : Way) → roomBy (shape w) ≡ roomBy w
 room-shape (refuse n values) = refl
-room-shape (replace i) = refl
+room-shape duplicate = refl
 room-shape (keepAt i) = refl
 room-shape (openAt i row) = refl
 room-shape (end h bytes) = refl

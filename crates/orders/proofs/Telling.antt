@@ -7,7 +7,7 @@ use lib.Dec.{ltb}
 use lib.ListN.{length}
 use borrow.Author.Tests.{lt-ltb, le-ltb}
 use Rattle.pushing.specs.Joining.{Since, never, since, isKept, heldOf, andNew, due}
-use Rattle.pushing.specs.Push.{Way, refuse, replace, keepAt, openAt, end, joinWay, answerBy}
+use Rattle.pushing.specs.Push.{Way, refuse, duplicate, keepAt, openAt, end, joinWay, answerBy}
 use Rattle.sweeping.specs.Sweep.{noneDropped}
 use Rattle.machines.proofs.Story.{Machine}
 use Rattle.orders.specs.Runs.{State, Push, Call, push, sweep, Reply, pushed, dropped, finishedBy, refusedBy, Holding, holdsNothing, after, tells, isOwn, isSweep, holding}
@@ -15,7 +15,7 @@ use Rattle.orders.specs.Runs.{State, Push, Call, push, sweep, Reply, pus
 -- a way, but for the places and rows that it names
 abbrev pub shape : Way → Way
 shape (refuse n values) = refuse n values
-shape (replace i) = replace 0
+shape duplicate = duplicate
 shape (keepAt i) = keepAt 0
 shape (openAt i row) = keepAt 0
 shape (end h message) = end h message
@@ -23,14 +23,14 @@ shape (end h message) = end h message
 -- whether a way is a refusal by some number
 abbrev pub refusedWay : (ℕ → Bool) → Way → Bool
 refusedWay test (refuse n values) = test n
-refusedWay test (replace i) = false
+refusedWay test duplicate = false
 refusedWay test (keepAt i) = false
 refusedWay test (openAt i row) = false
 refusedWay test (end h message) = false
 
 pub refused-is : (test : ℕ → Bool) (bytes : List ℕ) (w : Way) → refusedBy test (pushed (answerBy w) bytes) ≡ refusedWay test w
 refused-is test bytes (refuse n values) = refl
-refused-is test bytes (replace i) = refl
+refused-is test bytes duplicate = refl
 refused-is test bytes (keepAt i) = refl
 refused-is test bytes (openAt i row) = refl
 refused-is test bytes (end h message) = refl
@@ -44,7 +44,7 @@ unfoldable pub ownWay : ℕ → Holding → Push → Way
 ownWay long v p =
     cond (ltb (min (p .lent) long) 47744) (refuse 11 [])
     (cond (ltb 1492 (length (p .payload))) (refuse 12 [])
-    (cond (isKept (v .fragments (p .arrival .fragment .number))) (replace 0)
+    (cond (isKept (v .fragments (p .arrival .fragment .number))) duplicate
     (cond (p .arrival .fragment .last)
     (ownJoining v p)
     (keepAt 0))))
@@ -60,9 +60,9 @@ module _ (long : ℕ) (v : Holding) (p : Push) where
     own-12 h = rw (le-ltb _ _ h₁, lt-ltb _ _ h)
 
     module _ (h₂ : length (p .payload) ≤ 1492) where
-      pub own-replace : isKept (v .fragments (p .arrival .fragment .number)) ≡ true → ownWay long v p ≡ replace 0
+      pub own-duplicate : isKept (v .fragments (p .arrival .fragment .number)) ≡ true → ownWay long v p ≡ duplicate
       unfolding ownWay
-      own-replace h = rw (le-ltb _ _ h₁, le-ltb _ _ h₂, h)
+      own-duplicate h = rw (le-ltb _ _ h₁, le-ltb _ _ h₂, h)
 
       module _ (h₃ : isKept (v .fragments (p .arrival .fragment .number)) ≡ false) where
         pub own-last : p .arrival .fragment .last ≡ true → ownWay long v p ≡ ownJoining v p
@@ -82,7 +82,7 @@ withNew v p = record { first = sinceOr (v .first) (p .arrival .time); fragments 
 
 abbrev pub byOwn : Way → Holding → Push → Holding
 byOwn (refuse n values) v p = v
-byOwn (replace i) v p = withNew v p
+byOwn duplicate v p = v
 byOwn (keepAt i) v p = withNew v p
 byOwn (openAt i row) v p = withNew v p
 byOwn (end h message) v p = holdsNothing

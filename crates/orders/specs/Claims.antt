@@ -6,6 +6,7 @@ use Prim.Native.Nat.{ℕ, _≤_}
 use lib.ListN.{length}
 use Rattle.sweeping.specs.Sweep.{swept}
 use Rattle.table.specs.Rows.{storeSize}
+use Rattle.pushing.specs.declared.Pushed.the-variants.{DuplicatedFragment}
 use Rattle.pushing.specs.Push.{answerBy, outputBy}
 use Rattle.pushing.specs.Show.{shown}
 use Rattle.pushing.specs.Made.{Made}
@@ -19,7 +20,7 @@ use Rattle.orders.specs.Shares.{share, total, isIn, distinct}
 use Rattle.orders.specs.Messages.{Message, Room, Sent, calls, completing}
 use Rattle.orders.specs.Together.{Mixed, noCall, noEvent, endsTogether, toldTogether, roomForAll}
 use Rattle.orders.specs.Runs.{State, Push, Call, push, sweep, finishedBy, wayOf, isAccepted, isOwn, isSweep, neverFull, hasRoom, after, tells, mine, start, holding, holdsNothing, ends, crossed, repliesTo, repliesToAccepted, repliesToSweeps}
-use Rattle.orders.specs.Happened.{Event, Happened, callOf, gotBy, replyOf, isRefused, isFull, isFrom, isSweepEvent, isAbout}
+use Rattle.orders.specs.Happened.{Event, push-event, Happens, Happened, callOf, gotBy, replyOf, isRefused, isFull, isFrom, isSweepEvent, isAbout}
 
 -- What a key holds is untouched by every push under another key, refused or not; a refused call changes nothing.
 pub record Local (z : State) : Type 0 where
@@ -130,6 +131,8 @@ pub record Claims : Type 0 where
       → length store′ ≡ length store → AskedReordered events events′ → NoneFull events → NoneFull events′ → SameGot events events′ z z′
   pub sender-alone : (store : List ℕ) (events : List Event) (z : State) → Happened (start store) events z → (store′ : List ℕ) (events′ : List Event) (z′ : State) → Happened (start store′) events′ z′
       → length store′ ≡ length store → (o : Origin) → AskedAlone o events events′ → GotAlone o events events′ z z′
+  -- document 02, 2026-05: "From now on a duplicate leaves the kept fragment untouched": what its caller lent comes back as it was
+  pub duplicate-untouched : (z z′ : State) (o : Origin) (p : Push) (key : p .arrival .key ≡ keyFor o) (out out′ : List ℕ) → Happens z (push-event o p key out DuplicatedFragment out′) z′ → (z′ ≡ z) × (out′ ≡ out)
   -- a message completes: at any table that the calls made, at a fresh one, and among pushes under other keys, where these are all that is left of the key's calls and the run's sweeps
   pub completes : (m : Message) (bring : ℕ → Push) (order : List ℕ) (z : State) → Made (z .table) → storeSize ≤ length (z .store) → holding (m .key) z ≡ holdsNothing → Room m (z .table)
       → Sent m bring order → Completes m bring order z

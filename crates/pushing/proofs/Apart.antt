@@ -10,15 +10,15 @@ use lib.Seq.{paste, getD-set-other}
 use borrow.Author.Tests.{eqb-true, ltb-true, ltb-false, not-true}
 use Rattle.table.specs.declared.Table.{Table}
 use Rattle.pushing.specs.declared.Arrival.{Arrival}
-use Rattle.table.specs.Rows.{ownerOf, placeAt, rowOf, isSpare, placeOf, isFree, lowestFree, withKey, withPlace, without}
+use Rattle.table.specs.Rows.{placeAt, rowOf, isSpare, placeOf, isFree, lowestFree, withKey, withPlace, without}
 use Rattle.pushing.specs.Joining.{keptAt, heldIn, since, firstTime}
 pub use Rattle.pushing.specs.Claims.{Untouched}
 use Rattle.pushing.specs.Push.{Way, way, tableBy, storeBy, placeFor}
 use Rattle.table.proofs.Search.{lowest-holds}
 use Rattle.table.proofs.Apart.{Same, same-place, put-same, row-after-drop, time-after-drop, drop-same, row-after-open}
-use Rattle.table.proofs.Sound.{Sound, used-row, place-holds, row-holds}
+use Rattle.table.proofs.Sound.{Sound, place-holds, row-holds}
 use Rattle.pushing.proofs.Pieces.{kept-out, kept-same}
-use Rattle.pushing.proofs.Ways.{Went, went, went-refuse, went-replace, went-keep, went-open, went-end}
+use Rattle.pushing.proofs.Ways.{Went, went, went-refuse, went-duplicate, went-keep, went-open, went-end}
 
 -- what a row that stays as it was holds
 module _ (t t′ : Table) (store store′ : List ℕ) (row : ℕ) (same : Same t t′ store store′ row) where
@@ -68,13 +68,7 @@ module _ (t : Table) (s : Sound t) (store : List ℕ) (a : Arrival) (payload : L
 
   push-apart : {w : Way} → Went t store a payload room w → Untouched key t (tableBy w t a (length payload)) store (storeBy w store payload)
   push-apart (went-refuse n values) = ((λ number. refl), refl)
-  push-apart (went-replace i h₁ h₂ e h) =
-      let holds = place-holds t own (a .fragment .number) (omega arith) in
-      let old : placeAt t i .owner ≡ ownerOf own = ap (λ (k : ℕ). placeAt t k .owner) e ∙ holds .0 in
-      let in-16 : own < 16 = used-row t s own (s .owned i own old) in
-      let p = placeFor own (a .fragment) (length payload) in
-      untouched-by key t (withPlace t i p) store (paste store (i * 1492) payload (length payload)) refl (λ q. refl)
-      (put-same t s store payload (rowOf t key) i p h h₁ h₂ (λ f. apart in-16 (omega arith)) (λ f. apart in-16 (omega arith)))
+  push-apart went-duplicate = ((λ number. refl), refl)
   push-apart (went-keep i h₁ h₂ h₃ l e h k) =
       let free = free-owner i e h in
       let p = placeFor own (a .fragment) (length payload) in

@@ -15,8 +15,8 @@ use Rattle.pushing.specs.declared.choose.Chosen.{Chosen}
 use Rattle.table.specs.Rows.{ownerOf, rowOf, withPlace, without, droppedKey}
 use Rattle.pushing.specs.Push.{Way, end, keepWay, joinedWith, wayBy, way, placeFor, tableBy, storeBy, outputBy, answerBy, Goes}
 use Rattle.pushing.specs.PrivateSteps.{lowestFreeIn, spareRowIn, numberedIn, joinWayIn, changeBy, Chooses, opened}
-use Rattle.pushing.proofs.Ways.{same-joins, Went, went, went-refuse, went-replace, went-keep, went-open, went-end}
-use Rattle.table.proofs.Sound.{Sound, used-row, place-holds}
+use Rattle.pushing.proofs.Ways.{same-joins, Went, went, went-refuse, went-duplicate, went-keep, went-open, went-end}
+use Rattle.table.proofs.Sound.{Sound}
 use Rattle.pushing.proofs.Pieces.{placesOf, judged}
 
 module _ (t : Table) (s : Sound t) (store : List ℕ) (a : Arrival) (payload : List ℕ) (room row : ℕ) (is-row : row ≡ rowOf t (a .key)) where
@@ -47,10 +47,7 @@ module _ (t : Table) (s : Sound t) (store : List ℕ) (a : Arrival) (payload : L
 
   does : {w : Way} → Went t store a payload room w → Does w (changeBy w row)
   does (went-refuse n values) = (refl, refl)
-  does (went-replace i h₁ h₂ e h) =
-      let own = place-holds t its (a .fragment .number) (omega arith) .0 in
-      let there = used-row t s its (s .owned _ its own) in
-      (h, omega (arith, there), h₁, h₂, ap (λ (r : ℕ). withPlace t i (placeFor r (a .fragment) (length payload))) is-row, refl)
+  does went-duplicate = (refl, refl)
   does (went-keep i h₁ h₂ h₃ l e h k) = (h, omega (arith, k), h₁, h₂, ap (λ (r : ℕ). withPlace t i (placeFor r (a .fragment) (length payload))) is-row, refl)
   does (went-open i r h₁ h₂ h₃ l e h k e₂ h₄) = (h, h₄, h₁, h₂, refl, refl)
   does (went-end h bytes h₁ h₂ h₃ l e) = by-row (ltb row 16) refl

@@ -13,13 +13,13 @@ use Rattle.pushing.specs.declared.Fragment.{Fragment}
 use Rattle.pushing.specs.declared.Arrival.{Arrival}
 use Rattle.table.specs.Rows.{Place, ownerOf, placeAt, isRowOf, rowOf, isSpare, isNumbered, placeOf, isFree, withKey, withPlace, without, bytesAt}
 use Rattle.pushing.specs.Joining.{Fragments, Held, Kept, nothing, kept, heldOf, heldAs, keptAt, heldIn, heldBy, andNew, Since, never, since, firstTime}
-use Rattle.pushing.specs.Push.{Way, refuse, replace, keepAt, openAt, end, way, tableBy, storeBy, placeFor}
+use Rattle.pushing.specs.Push.{Way, refuse, duplicate, keepAt, openAt, end, way, tableBy, storeBy, placeFor}
 use Rattle.table.proofs.Search.{lowest-is, lowest-holds, lowest-before, lowest-same}
 use Rattle.table.proofs.Places.{put-here, put-elsewhere}
 use Rattle.table.proofs.Sound.{Sound, place-holds, no-place, not-held, numbered-both, open-sound, drop-sound}
 use Rattle.pushing.proofs.Pieces.{kept-in, kept-out, kept-same}
 use Rattle.table.proofs.Apart.{bytes-apart, drop-gone}
-use Rattle.pushing.proofs.Ways.{Went, went, went-refuse, went-replace, went-keep, went-open, went-end}
+use Rattle.pushing.proofs.Ways.{Went, went, went-refuse, went-duplicate, went-keep, went-open, went-end}
 
 -- the bytes that were just written
 pub bytes-here : (d s : List ℕ) (at : ℕ) → at ≤ length d → take (length s) (drop at (paste d at s (length s))) ≡ s
@@ -43,9 +43,9 @@ module _ (t : Table) (s : Sound t) (key : ℕ) (out : 16 ≤ rowOf t key) where
   unfolding firstTime
   absent-since = rw (le-ltb _ _ out)
 
--- a fragment is put into place i for a row, where no other place of the row has its number, and i was not another of the row's
+-- a fragment is put into place i, which is not the row's, for a row that does not hold its number
 module _ (t : Table) (s : Sound t) (store payload : List ℕ) (row i : ℕ) (f : Fragment) (h : i < 32) (long : 47744 ≤ length store) (small : length payload ≤ 1492)
-    (mine : (j : ℕ) → placeAt t j .owner ≡ ownerOf row → placeAt t j .number ≡ f .number → j ≡ i) (old : placeAt t i .owner ≡ ownerOf row → placeAt t i .number ≡ f .number) where
+    (once : (j : ℕ) → placeAt t j .owner ≡ ownerOf row → placeAt t j .number ≡ f .number → ⊥) (free : placeAt t i .owner ≡ ownerOf row → ⊥) where
   abbrev p : Place
   p = placeFor row f (length payload)
 
@@ -69,14 +69,14 @@ module _ (t : Table) (s : Sound t) (store payload : List ℕ) (row i : ℕ) (f :
         where
           by-test : (c : Bool) → isNumbered (ownerOf row) (f .number) (placeAt t j) ≡ c → isNumbered (ownerOf row) (f .number) (placeAt t j) ≡ false
           by-test false q = q
-          by-test true q = let both = numbered-both (ownerOf row) (f .number) (placeAt t j) q in absurd (omega (arith, mine j (both .0) (both .1)))
+          by-test true q = let both = numbered-both (ownerOf row) (f .number) (placeAt t j) q in absurd (once j (both .0) (both .1))
 
   other-place : (k : ℕ) → (k ≡ f .number → ⊥) → placeOf t′ row k ≡ placeOf t row k
   other-place k ne = lowest-same (λ j. isNumbered (ownerOf row) k (placeAt t′ j)) (λ j. isNumbered (ownerOf row) k (placeAt t j)) 32 (λ j l. by-index j (eqb j i) refl)
     where
       by-test : (c : Bool) → isNumbered (ownerOf row) k (placeAt t i) ≡ c → isNumbered (ownerOf row) k (placeAt t i) ≡ false
       by-test false q = q
-      by-test true q = let both = numbered-both (ownerOf row) k (placeAt t i) q in absurd (ne (sym (both .1) ∙ old (both .0)))
+      by-test true q = let both = numbered-both (ownerOf row) k (placeAt t i) q in absurd (free (both .0))
 
       by-index : (j : ℕ) (b : Bool) → eqb j i ≡ b → isNumbered (ownerOf row) k (placeAt t′ j) ≡ isNumbered (ownerOf row) k (placeAt t j)
       by-index j false e = ap (isNumbered (ownerOf row) k) (elsewhere j (eqb-false _ _ e))
@@ -99,7 +99,7 @@ module _ (t : Table) (s : Sound t) (store payload : List ℕ) (row i : ℕ) (f :
           let j = placeOf t row k in
           let l = ltb-true j 32 e in
           let holds = place-holds t row k l in
-          let j≢i : j ≡ i → ⊥ = λ same. ne (sym (holds .1) ∙ ap (λ (m : ℕ). placeAt t m .number) same ∙ old (ap (λ (m : ℕ). placeAt t m .owner) (sym same) ∙ holds .0)) in
+          let j≢i : j ≡ i → ⊥ = λ same. free (ap (λ (m : ℕ). placeAt t m .owner) (sym same) ∙ holds .0) in
           kept-same t t′ store store′ j (elsewhere j j≢i) (bytes-apart store payload i j (placeAt t j .size) j≢i (s .small j) small h long) l
 
   pub put-held : (k : ℕ) → heldIn t′ store′ row k ≡ andNew (heldIn t store row) (f .number) (heldOf f payload) k
@@ -131,14 +131,14 @@ module _ (t : Table) (s : Sound t) (row key time : ℕ) (in-16 : row < 16) (new 
 -- what a way leaves of what its key held, and of its first time
 abbrev pub heldAfter : Way → Fragments → ℕ → Held → Fragments
 heldAfter (refuse n values) fs number new = fs
-heldAfter (replace i) fs number new = andNew fs number new
+heldAfter duplicate fs number new = fs
 heldAfter (keepAt i) fs number new = andNew fs number new
 heldAfter (openAt i row) fs number new = andNew fs number new
 heldAfter (end h bytes) fs number new = λ k. nothing
 
 abbrev pub sinceAfter : Way → Since → ℕ → Since
 sinceAfter (refuse n values) first time = first
-sinceAfter (replace i) first time = first
+sinceAfter duplicate first time = first
 sinceAfter (keepAt i) first time = first
 sinceAfter (openAt i row) first time = since time
 sinceAfter (end h bytes) first time = never
@@ -161,21 +161,17 @@ module _ (t : Table) (s : Sound t) (store : List ℕ) (a : Arrival) (payload : L
   told-by : {w : Way} → Went t store a payload room w → Told w
   unfolding firstTime
   told-by (went-refuse n values) = ((λ k. refl), refl)
-  told-by (went-replace i h₁ h₂ e h) =
-      let holds = place-holds t own number (omega arith) in
-      let its-owner : placeAt t i .owner ≡ ownerOf own = ap (λ (k : ℕ). placeAt t k .owner) e ∙ holds .0 in
-      let its-number : placeAt t i .number ≡ number = ap (λ (k : ℕ). placeAt t k .number) e ∙ holds .1 in
-      (put-held t s store payload own i (a .fragment) h h₁ h₂ (λ j f g. s .once j i own f its-owner (g ∙ sym its-number)) (λ f. its-number), refl)
+  told-by went-duplicate = ((λ k. refl), refl)
   told-by (went-keep i h₁ h₂ h₃ l e h k) =
       let free : placeAt t i .owner ≡ 0 = eqb-true _ _ (ap (λ (j : ℕ). isFree (placeAt t j)) e ∙ lowest-holds (λ j. isFree (placeAt t j)) 32 (omega arith)) in
-      (put-held t s store payload own i (a .fragment) h h₁ h₂ (λ j f g. absurd (not-held t s own number h₃ j f g)) (λ f. absurd (omega arith)), refl)
+      (put-held t s store payload own i (a .fragment) h h₁ h₂ (not-held t s own number h₃) (λ f. omega arith), refl)
   told-by (went-open i row h₁ h₂ h₃ l e h k e₂ h₄) =
       let free : placeAt t i .owner ≡ 0 = eqb-true _ _ (ap (λ (j : ℕ). isFree (placeAt t j)) e ∙ lowest-holds (λ j. isFree (placeAt t j)) 32 (omega arith)) in
       let spare : getD (t .used) row false ≡ false = ap (λ (r : ℕ). getD (t .used) r false) e₂ ∙ not-true _ (lowest-holds (isSpare t) 16 (omega arith)) in
       let t₁ = withKey t row (a .key) (a .time) in
       let s₁ = open-sound t s row (a .key) (a .time) h₄ k in
       let is-row = opened-row t s row (a .key) (a .time) h₄ k in
-      let put = put-held t₁ s₁ store payload row i (a .fragment) h h₁ h₂ (λ j f g. absurd (false≢true (sym spare ∙ s .owned j row f))) (λ f. absurd (omega arith)) in (
+      let put = put-held t₁ s₁ store payload row i (a .fragment) h h₁ h₂ (λ j f g. false≢true (sym spare ∙ s .owned j row f)) (λ f. omega arith) in (
         (λ n. ap (λ (r : ℕ). heldIn (withPlace t₁ i (placeFor row (a .fragment) (length payload))) (paste store (i * 1492) payload (length payload)) r n) (sym is-row) ∙ put n
             ∙ ap (λ (x : Kept). cond (eqb n number) (kept new) x) (opened-empty t s row (a .key) (a .time) h₄ k spare store n ∙ sym (absent t s (a .key) k store n))),
         opened-since t s row (a .key) (a .time) h₄ k,

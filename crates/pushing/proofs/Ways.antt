@@ -1,19 +1,19 @@
 -- The way of a push, from the tests that led there: one law for each way out of the code.
-use mathlib.Core.Path.{_≡_, refl, sym, _∙_, subst}
+use mathlib.Core.Path.{_≡_, refl, sym, ap, _∙_, subst}
 use mathlib.Core.List.{List, [], _∷_}
-use mathlib.Core.Bool.{Bool, true, false, cond, not}
+use mathlib.Core.Bool.{Bool, true, false, cond, not, false≢true}
 use Prim.Native.Nat.{ℕ, _-_, _≤_, _<_}
 use native.Mathlib.Omega.{arith}
 use lib.Dec.{ltb, leb}
 use lib.ListN.{length, drop, length-append}
 use lib.Seq.{take-at}
 use borrow.Author.Tests.{le-ltb, lt-ltb, le-leb, lt-leb, ltb-true, ltb-false, leb-true, leb-false}
-use Rattle.numbers.specs.Numbers.{gives}
+use Rattle.numbers.specs.Numbers.{Answer, gives, refuses}
 use Rattle.table.specs.declared.Table.{Table}
 use Rattle.pushing.specs.declared.Arrival.{Arrival}
 use Rattle.table.specs.Rows.{rowOf, spareRow, placeOf, lowestFree}
 use Rattle.pushing.specs.Joining.{Held, Fragments, heldOf, heldIn, andNew, inconsistentWith, gapped, isLast, reach, payloads}
-use Rattle.pushing.specs.Push.{Heard, inconsistent, missing, missingLast, single, joined, Way, refuse, replace, keepAt, openAt, end, keepWay, messageWay, joinWay, joinedWith, wayBy, way, over, outputBy, answerBy}
+use Rattle.pushing.specs.Push.{Heard, waiting, duplicated, inconsistent, missing, missingLast, single, joined, Way, refuse, duplicate, keepAt, openAt, end, keepWay, messageWay, joinWay, joinedWith, wayBy, way, over, outputBy, answerBy}
 use Rattle.pushing.specs.Show.{startOf, shown}
 
 -- step 3
@@ -86,10 +86,21 @@ by-ends P i m l s r j new fs room = by-tests (inconsistentWith new fs) (gapped f
 -- it is a refusal, or an end that shows the same whatever the output held
 abbrev Last : Way → Type 0
 Last (refuse n values) = Unit {0}
-Last (replace i) = ⊥
+Last duplicate = ⊥
 Last (keepAt i) = ⊥
 Last (openAt i row) = ⊥
 Last (end h bytes) = (payload out : List ℕ) → shown (gives h) payload (over bytes out) ≡ shown (gives h) payload (over bytes [])
+
+-- whether an answer is that of a duplicate
+abbrev pub isDuplicated : Answer Heard → Bool
+isDuplicated (gives waiting) = false
+isDuplicated (gives duplicated) = true
+isDuplicated (gives inconsistent) = false
+isDuplicated (gives missing) = false
+isDuplicated (gives missingLast) = false
+isDuplicated (gives (single n)) = false
+isDuplicated (gives (joined n)) = false
+isDuplicated (refuses n values) = false
 
 -- the tests of push, in their order
 module _ (stored size place : ℕ) (last : Bool) (keeps joins : Way) where
@@ -103,9 +114,9 @@ module _ (stored size place : ℕ) (last : Bool) (keeps joins : Way) where
     by-12 h = rw (le-ltb _ _ h₁, lt-ltb _ _ h)
 
     module _ (h₂ : size ≤ 1492) where
-      pub by-replace : place < 32 → wayBy stored size place last keeps joins ≡ replace place
+      pub by-duplicate : place < 32 → wayBy stored size place last keeps joins ≡ duplicate
       unfolding wayBy
-      by-replace h = rw (le-ltb _ _ h₁, le-ltb _ _ h₂, lt-ltb _ _ h)
+      by-duplicate h = rw (le-ltb _ _ h₁, le-ltb _ _ h₂, lt-ltb _ _ h)
 
       module _ (h₃ : 32 ≤ place) where
         pub by-last : last ≡ true → wayBy stored size place last keeps joins ≡ joins
@@ -122,7 +133,7 @@ unfolding wayBy
 same-joins stored size place last keeps x y e = by-tests (ltb stored 47744) refl (ltb 1492 size) (ltb place 32) refl last
   where
     by-tests : (a : Bool) → ltb stored 47744 ≡ a → (b c : Bool) → ltb place 32 ≡ c → (d : Bool)
-        → cond a (refuse 11 []) (cond b (refuse 12 []) (cond c (replace place) (cond (not d) keeps x))) ≡ cond a (refuse 11 []) (cond b (refuse 12 []) (cond c (replace place) (cond (not d) keeps y)))
+        → cond a (refuse 11 []) (cond b (refuse 12 []) (cond c duplicate (cond (not d) keeps x))) ≡ cond a (refuse 11 []) (cond b (refuse 12 []) (cond c duplicate (cond (not d) keeps y)))
     by-tests true p b c q d = refl
     by-tests false p true c q d = refl
     by-tests false p false true q d = refl
@@ -132,7 +143,7 @@ same-joins stored size place last keeps x y e = by-tests (ltb stored 47744) refl
 -- which way a push went, and what held: what is true of each way is shown by these five cases
 pub data Went (t : Table) (store : List ℕ) (a : Arrival) (payload : List ℕ) (room : ℕ) : Way → Type 0 where
   went-refuse : (n : ℕ) (values : List ℕ) → Went t store a payload room (refuse n values)
-  went-replace : (i : ℕ) → 47744 ≤ length store → length payload ≤ 1492 → i ≡ placeOf t (rowOf t (a .key)) (a .fragment .number) → i < 32 → Went t store a payload room (replace i)
+  went-duplicate : Went t store a payload room duplicate
   went-keep : (i : ℕ) → 47744 ≤ length store → length payload ≤ 1492 → 32 ≤ placeOf t (rowOf t (a .key)) (a .fragment .number) → a .fragment .last ≡ false
       → i ≡ lowestFree t → i < 32 → rowOf t (a .key) < 16 → Went t store a payload room (keepAt i)
   went-open : (i row : ℕ) → 47744 ≤ length store → length payload ≤ 1492 → 32 ≤ placeOf t (rowOf t (a .key)) (a .fragment .number) → a .fragment .last ≡ false
@@ -167,9 +178,9 @@ module _ (t : Table) (store : List ℕ) (a : Arrival) (payload : List ℕ) (room
     way-12 h = by-12 _ _ _ _ _ _ h₁ h
 
     module _ (h₂ : length payload ≤ 1492) where
-      pub way-replace : place < 32 → way t store a payload room ≡ replace place
+      pub way-duplicate : place < 32 → way t store a payload room ≡ duplicate
       unfolding way
-      way-replace h = by-replace _ _ _ _ _ _ h₁ h₂ h
+      way-duplicate h = by-duplicate _ _ _ _ _ _ h₁ h₂ h
 
       module _ (h₃ : 32 ≤ place) where
         pub way-last : a .fragment .last ≡ true → way t store a payload room ≡ joins
@@ -190,7 +201,7 @@ module _ (t : Table) (store : List ℕ) (a : Arrival) (payload : List ℕ) (room
         by-end : a .fragment .last ≡ true → (w : Way) → joins ≡ w → Went t store a payload room w
         by-end l (refuse n values) e = went-refuse n values
         by-end l (end h bytes) e = went-end h bytes h₁ h₂ h₃ l e
-        by-end l (replace i) e = absurd (subst Last e last-joins)
+        by-end l duplicate e = absurd (subst Last e last-joins)
         by-end l (keepAt i) e = absurd (subst Last e last-joins)
         by-end l (openAt i r) e = absurd (subst Last e last-joins)
 
@@ -199,7 +210,7 @@ module _ (t : Table) (store : List ℕ) (a : Arrival) (payload : List ℕ) (room
         by-mark false l = rw (way-keep l) (by-room l (leb 32 (lowestFree t)) refl (ltb row 16) refl (leb 16 (spareRow t)) refl)
 
       by-place : (b : Bool) → ltb place 32 ≡ b → Went t store a payload room (way t store a payload room)
-      by-place true e = rw (way-replace (ltb-true _ _ e)) (went-replace place h₁ h₂ refl (ltb-true _ _ e))
+      by-place true e = rw (way-duplicate (ltb-true _ _ e)) went-duplicate
       by-place false e = by-mark (ltb-false _ _ e) (a .fragment .last) refl
 
     by-size : (b : Bool) → ltb 1492 (length payload) ≡ b → Went t store a payload room (way t store a payload room)
@@ -213,10 +224,23 @@ module _ (t : Table) (store : List ℕ) (a : Arrival) (payload : List ℕ) (room
   pub went : Went t store a payload room (way t store a payload room)
   went = by-store (ltb (length store) 47744) refl
 
+  -- no other way is answered as a duplicate is
+  duplicate-by : {w : Way} → Went t store a payload room w → isDuplicated (answerBy w) ≡ true → w ≡ duplicate
+  duplicate-by (went-refuse n values) d = absurd (false≢true d)
+  duplicate-by went-duplicate d = refl
+  duplicate-by (went-keep i h₁ h₂ h₃ l e h k) d = absurd (false≢true d)
+  duplicate-by (went-open i r h₁ h₂ h₃ l e h k e₂ h₄) d = absurd (false≢true d)
+  duplicate-by (went-end h bytes h₁ h₂ h₃ l e) d = absurd (false≢true (
+      sym (by-ends (λ (w : Way). isDuplicated (answerBy w) ≡ false) refl refl refl (λ n. refl) (λ n. refl) (λ x. refl) (heldOf (a .fragment) payload) (andNew (heldIn t store row) (a .fragment .number) (heldOf (a .fragment) payload)) room)
+      ∙ ap (λ (w : Way). isDuplicated (answerBy w)) e ∙ d))
+
+  pub is-duplicate : isDuplicated (answerBy (way t store a payload room)) ≡ true → way t store a payload room ≡ duplicate
+  is-duplicate = duplicate-by went
+
   -- what is shown of a push is the same whatever the output held
   shown-by : {w : Way} → Went t store a payload room w → (out : List ℕ) → shown (answerBy w) payload (outputBy w out) ≡ shown (answerBy w) payload (outputBy w [])
   shown-by (went-refuse n values) out = refl
-  shown-by (went-replace i h₁ h₂ e h) out = refl
+  shown-by went-duplicate out = refl
   shown-by (went-keep i h₁ h₂ h₃ l e h k) out = refl
   shown-by (went-open i r h₁ h₂ h₃ l e h k e₂ h₄) out = refl
   shown-by (went-end h bytes h₁ h₂ h₃ l e) out = subst Last e last-joins payload out

@@ -11,6 +11,7 @@ use Rattle.sweeping.specs.declared.Counts.{Counts}
 use Rattle.sweeping.specs.Sweep.{swept, sweptAs}
 use Rattle.pushing.specs.declared.Arrival.{Arrival}
 use Rattle.pushing.specs.declared.Pushed.{Pushed}
+use Rattle.pushing.specs.declared.Pushed.the-variants.{DuplicatedFragment}
 use Rattle.pushing.specs.declared.Stepped.{Stepped}
 use Rattle.pushing.specs.Joining.{heldBy, firstTime}
 use Rattle.pushing.specs.Push.{way, tableBy, storeBy, outputBy, answerBy, Goes}
@@ -46,6 +47,11 @@ Untouched key t t′ store store′ = ((number : ℕ) → heldBy t′ store′ k
 abbrev pub PushUntouched : Type 0
 PushUntouched = (t : Table) → Sound t → (store : List ℕ) (a : Arrival) (payload : List ℕ) (room key : ℕ) → (a .key ≡ key → ⊥)
     → Untouched key t (tableBy (way t store a payload room) t a (length payload)) store (storeBy (way t store a payload room) store payload)
+
+-- document 02, 2026-05: "From now on a duplicate leaves the kept fragment untouched." A push that is answered `DuplicatedFragment` leaves the table, the store and the output as they were
+abbrev pub DuplicateUntouched : Type 0
+DuplicateUntouched = (t : Table) (store out : List ℕ) (a : Arrival) (payload : List ℕ) (t′ : Table) (store′ out′ : List ℕ)
+    → Goes (way t store a payload (length out)) t store out a payload DuplicatedFragment t′ store′ out′ → (t′ ≡ t) × (store′ ≡ store) × (out′ ≡ out)
 
 -- what is shown of a push is the same whatever the output held
 abbrev pub ShownSame : Type 0

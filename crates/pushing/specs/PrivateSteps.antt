@@ -17,7 +17,7 @@ use Rattle.pushing.specs.declared.choose.Chosen.{Chosen}
 use Rattle.table.specs.Search.{lowest}
 use Rattle.table.specs.Rows.{keys, places, ownerOf, bytesAt, withKey}
 use Rattle.pushing.specs.Joining.{inOrder}
-use Rattle.pushing.specs.Push.{Way, refuse, replace, keepAt, openAt, end, inconsistent, missing, missingLast, messageWay, pushedOf, answerBy, outputBy}
+use Rattle.pushing.specs.Push.{Way, refuse, duplicate, keepAt, openAt, end, inconsistent, missing, missingLast, messageWay, pushedOf, answerBy, outputBy}
 
 -- the look-ups, in the lists that they are lent
 abbrev pub rowIn : List Bool → List ℕ → ℕ → ℕ
@@ -100,7 +100,7 @@ endChange row = cond (ltb row keys) DropKey Stay
 
 abbrev pub changeBy : Way → ℕ → Change
 changeBy (refuse n values) row = Stay
-changeBy (replace i) row = PutAt i row false
+changeBy duplicate row = Stay
 changeBy (keepAt i) row = PutAt i row false
 changeBy (openAt i spare) row = PutAt i spare true
 changeBy (end h bytes) row = endChange row

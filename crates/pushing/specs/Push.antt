@@ -40,8 +40,8 @@ pushedOf (Refused r) = told r
 pub data Way : Type 0 where
   -- refused, by a number and the values beside it
   refuse : ℕ → List ℕ → Way
-  -- over the fragment in a place
-  replace : ℕ → Way
+  -- a number that the key holds already
+  duplicate : Way
   -- to a free place, under the row that the key has
   keepAt : ℕ → Way
   -- to a free place, under a row that was spare
@@ -55,8 +55,9 @@ wayBy stored size place last keeps joins =
     -- 1. "Refusals 11, then 12."
     cond (ltb stored storeSize) (refuse 11 [])
     (cond (ltb placeSize size) (refuse 12 [])
-    -- 2. "The key already holds this fragment number: the new fragment replaces the old, [..] nothing is joined. [..] even if marked last."
-    (cond (ltb place places) (replace place)
+    -- 2. "The key already holds this fragment number: [..] nothing is joined. Answer `DuplicatedFragment`, even if marked last." Document 02, 2026-05: "From now on a duplicate leaves the kept
+    -- fragment untouched."
+    (cond (ltb place places) duplicate
     -- 3. "Not marked last: refusal 10, or kept"
     (cond (not last) keeps
     -- 4. "Marked last: it needs no place. Join it with those kept."
@@ -103,7 +104,7 @@ placeFor row f size = record { message-type = f .«message_type»; size = size; 
 -- what each way does: to the table, with the size of the payload,
 abbrev pub tableBy : Way → Table → Arrival → ℕ → Table
 tableBy (refuse n values) t a size = t
-tableBy (replace i) t a size = withPlace t i (placeFor (rowOf t (a .key)) (a .fragment) size)
+tableBy duplicate t a size = t
 tableBy (keepAt i) t a size = withPlace t i (placeFor (rowOf t (a .key)) (a .fragment) size)
 tableBy (openAt i row) t a size = withPlace (withKey t row (a .key) (a .time)) i (placeFor row (a .fragment) size)
 tableBy (end h bytes) t a size = droppedKey t (rowOf t (a .key))
@@ -111,7 +112,7 @@ tableBy (end h bytes) t a size = droppedKey t (rowOf t (a .key))
 -- to the store: "writes its payload's bytes there, no others",
 abbrev pub storeBy : Way → List ℕ → List ℕ → List ℕ
 storeBy (refuse n values) store payload = store
-storeBy (replace i) store payload = paste store (i * placeSize) payload (length payload)
+storeBy duplicate store payload = store
 storeBy (keepAt i) store payload = paste store (i * placeSize) payload (length payload)
 storeBy (openAt i row) store payload = paste store (i * placeSize) payload (length payload)
 storeBy (end h bytes) store payload = store
@@ -122,7 +123,7 @@ over bytes out = bytes ++ drop (length bytes) out
 
 abbrev pub outputBy : Way → List ℕ → List ℕ
 outputBy (refuse n values) out = out
-outputBy (replace i) out = out
+outputBy duplicate out = out
 outputBy (keepAt i) out = out
 outputBy (openAt i row) out = out
 outputBy (end h bytes) out = over bytes out
@@ -130,7 +131,7 @@ outputBy (end h bytes) out = over bytes out
 -- and what it answers
 abbrev pub answerBy : Way → Answer Heard
 answerBy (refuse n values) = refuses n values
-answerBy (replace i) = gives duplicated
+answerBy duplicate = gives duplicated
 answerBy (keepAt i) = gives waiting
 answerBy (openAt i row) = gives waiting
 answerBy (end h bytes) = gives h

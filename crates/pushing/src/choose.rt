@@ -200,7 +200,7 @@ pub(crate) fn choose<'a>(
     let place = held_at(owners, numbers, row, f.number);
     if place < PLACES {
         return Chosen {
-            change: Change::PutAt(place, row, false),
+            change: Change::Stay,
             answer: Pushed::DuplicatedFragment,
         };
     }

@@ -109,7 +109,7 @@ fresh-sound = record {
     unowned i row e = let none : placeAt freshTable i .owner ≡ 0 = ap (λ (p : Place). p .owner) (fresh-place i) in omega arith
 
 module _ (t : Table) (s : Sound t) (at row : ℕ) (in-32 : at < 32) (p : Place) (e : p .owner ≡ ownerOf row) (small : p .size ≤ 1492) (byte : p .number < 256) (used : getD (t .used) row false ≡ true)
-    (new : (j : ℕ) → (j ≡ at → ⊥) → placeAt t j .owner ≡ ownerOf row → placeAt t j .number ≡ p .number → ⊥) where
+    (new : (j : ℕ) → placeAt t j .owner ≡ ownerOf row → placeAt t j .number ≡ p .number → ⊥) where
   at-place : (P : Place → Type 0) (i : ℕ) → (i ≡ at → P p) → ((i ≡ at → ⊥) → P (placeAt t i)) → P (placeAt (withPlace t at p) i)
   at-place = after-put t at p (s .places-long) in-32
 
@@ -121,16 +121,16 @@ module _ (t : Table) (s : Sound t) (at row : ℕ) (in-32 : at < 32) (p : Place) 
       the-row own = omega (arith, e)
 
   -- the place that was set, beside another
-  apart : (j r : ℕ) → (j ≡ at → ⊥) → placeAt t j .owner ≡ ownerOf r → p .owner ≡ ownerOf r → p .number ≡ placeAt t j .number → ⊥
-  apart j r other f own g =
+  apart : (j r : ℕ) → placeAt t j .owner ≡ ownerOf r → p .owner ≡ ownerOf r → p .number ≡ placeAt t j .number → ⊥
+  apart j r f own g =
       let same : r ≡ row = omega (arith, e) in
-      new j other (f ∙ ap ownerOf same) (sym g)
+      new j (f ∙ ap ownerOf same) (sym g)
 
   once-at : (i j r : ℕ) → placeAt (withPlace t at p) i .owner ≡ ownerOf r → placeAt (withPlace t at p) j .owner ≡ ownerOf r → placeAt (withPlace t at p) i .number ≡ placeAt (withPlace t at p) j .number → i ≡ j
   once-at i j r =
       at-place (λ (q : Place). q .owner ≡ ownerOf r → placeAt (withPlace t at p) j .owner ≡ ownerOf r → q .number ≡ placeAt (withPlace t at p) j .number → i ≡ j) i
-      (λ here own. at-place (λ (z : Place). z .owner ≡ ownerOf r → p .number ≡ z .number → i ≡ j) j (λ here₂ f g. here ∙ sym here₂) (λ other f g. absurd (apart j r other f own g)))
-      (λ other own. at-place (λ (z : Place). z .owner ≡ ownerOf r → placeAt t i .number ≡ z .number → i ≡ j) j (λ here f g. absurd (apart i r other own f (sym g))) (λ other₂ f g. s .once i j r own f g))
+      (λ here own. at-place (λ (z : Place). z .owner ≡ ownerOf r → p .number ≡ z .number → i ≡ j) j (λ here₂ f g. here ∙ sym here₂) (λ other f g. absurd (apart j r f own g)))
+      (λ other own. at-place (λ (z : Place). z .owner ≡ ownerOf r → placeAt t i .number ≡ z .number → i ≡ j) j (λ here f g. absurd (apart i r own f (sym g))) (λ other₂ f g. s .once i j r own f g))
 
   pub put-sound : Sound (withPlace t at p)
   put-sound = record {

@@ -4,11 +4,10 @@ use Prim.Native.Nat.{ℕ}
 use lib.ListN.{length}
 use native.Mathlib.Omega.{arith}
 use denote.Ref.{now}
-use Rattle.pushing.specs.declared.choose.Change.the-variants.{PutAt}
 use Rattle.table.specs.Rows.{ownerOf}
 use Rattle.pushing.specs.Push.{Way, keepWay, pushedOf}
 use Rattle.pushing.specs.PrivateSteps.{placesIn, numberedIn, lowestFreeIn, spareRowIn, joinWayIn}
-use Rattle.pushing.proofs.Ways.{by-11, by-12, by-replace, by-last, by-keep, keep-output}
+use Rattle.pushing.proofs.Ways.{by-11, by-12, by-duplicate, by-last, by-keep, keep-output}
 use borrow.Author.Needs.{needs}
 use Rattle.pushing.proofs.choose.choose.Statement.{statement}
 use Rattle.pushing.proofs.choose.choose.Tie as tie
@@ -42,7 +41,7 @@ held-at-requires : tie.Need-held-at-requires
 held-at-requires c κs = c .before .before .before .before .before .pre .2
 
 returns-3 : tie.Need-returns-3
-returns-3 c = rw (by-replace (length (now (c .before .before .before .before .before .before .before .args .store))) (length (now (c .before .before .before .before .before .before .before .args .payload))) (place (c .before .before .before .before .before .before .before)) (c .before .before .before .before .before .before .before .args .f .last) (keeps (c .before .before .before .before .before .before .before)) (joins (c .before .before .before .before .before .before .before)) (c .before .before .before .if1 .left) (c .before .before .if2 .left) (omega (arith, c .before .held-at .ensures, c .if3 .taken))) (record { answers = refl; changes = ap (λ (i : ℕ). PutAt i (c .before .before .before .before .before .before .before .args .row) _) (c .before .held-at .ensures); puts = refl })
+returns-3 c = rw (by-duplicate (length (now (c .before .before .before .before .before .before .before .args .store))) (length (now (c .before .before .before .before .before .before .before .args .payload))) (place (c .before .before .before .before .before .before .before)) (c .before .before .before .before .before .before .before .args .f .last) (keeps (c .before .before .before .before .before .before .before)) (joins (c .before .before .before .before .before .before .before)) (c .before .before .before .if1 .left) (c .before .before .if2 .left) (omega (arith, c .before .held-at .ensures, c .if3 .taken))) (record { answers = refl; changes = refl; puts = refl })
 
 finish-requires : tie.Need-finish-requires
 finish-requires c κs = (c .before .before .before .before .before .before .before .before .before .pre .0, c .before .before .before .before .before .before .before .before .before .pre .1, c .before .before .before .before .before .if1 .left, c .before .before .before .before .if2 .left)
