@@ -309,13 +309,7 @@ AshlarPushed plain_push(AshlarTable *t, uint8_t *store, size_t store_length, uin
         if (!t->used[i]) spare = i;
         else if (t->codes[i] == a.key) row = i;
     }
-    if (row >= 0) {
-        int at = place_of(t, row + 1, a.fragment.number);
-        if (at >= 0) {
-            put(t, store, at, row, &a.fragment, payload, n);
-            return (AshlarPushed){0, ASHLAR_DUPLICATED, 0};
-        }
-    }
+    if (row >= 0 && place_of(t, row + 1, a.fragment.number) >= 0) return (AshlarPushed){0, ASHLAR_DUPLICATED, 0};
     if (a.fragment.last) return finish(t, store, out, room, row, &a.fragment, payload, n);
     int free = 0;
     while (free < 32 && t->owners[free]) free++;

@@ -195,7 +195,7 @@ typedef struct {
 typedef enum {
     ASHLAR_REFUSED = 0,      /* see `refusal` */
     ASHLAR_WAITING = 1,      /* the fragment is kept, and more are to come */
-    ASHLAR_DUPLICATED = 2,   /* a fragment with this number was kept already, and this one stands in its place; nothing is joined, even if it is marked last */
+    ASHLAR_DUPLICATED = 2,   /* a fragment with this number is kept already, and stays; nothing changes and nothing is joined, even if this one is marked last */
     ASHLAR_INCONSISTENT = 3, /* the last one came, but the fragments don't agree on version and type */
     ASHLAR_MISSING = 4,      /* the last one came, but the numbers are not 0 to n-1: one is lost, or came after the last */
     ASHLAR_MISSING_LAST = 5, /* the last one came, but a fragment with a higher number is kept, which isn't marked */
@@ -221,7 +221,7 @@ typedef struct {
     uint8_t empty;      /* no fragment is kept */
     uint8_t unmarked;   /* none of the fragments is marked last */
     uint8_t incomplete; /* one is marked last, but there are fewer than the highest number plus 1 */
-    uint8_t neither;    /* one is marked last, and there are as many: a duplicate was marked, and completes nothing */
+    uint8_t neither;    /* one is marked last, and there are as many; push leaves no mark, so this and `incomplete` stay 0 */
 } AshlarCounts;
 
 /* An address of six bytes, as they stand in a frame: copy them in and out. */

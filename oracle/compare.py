@@ -2,6 +2,8 @@
 
 An explanation looks at the command and at both answers, and says yes only to the one difference that it names.
 """
+from pathlib import Path
+
 import model
 
 
@@ -58,13 +60,31 @@ def single_fragment_checked(words, original, ours, before):
     return last not in (None, (0, 0))
 
 
-def sweep_of_number_255(words, original, ours, before):
-    if words[0] != "v" or not original.startswith("swept") or not ours.startswith("swept"):
+class Replacing(model.Table):
+    replaces = True
+
+
+class Wrapping(Replacing):
+    wraps = True
+
+
+def by_rules_of(table, words, original, ours, before):
+    """Both rules are played over the group, from its start on: ours is what document 02 has, and the original's what this table answers."""
+    lines = [line for line, _, _ in before] + [" ".join(words)]
+    if words[0] not in "pvc" or lines[0] != "z":
         return False
-    keys = {tuple(w[1:3]) for w in (line.split(" ") for line, _, _ in before) if w[0] == "p" and w[5] == "255"}
-    theirs, mine = [int(n) for n in original.split(" ")[1:]], [int(n) for n in ours.split(" ")[1:]]
-    moved = mine[2] - theirs[2]
-    return theirs[:2] == mine[:2] and 0 < moved <= len(keys) and theirs[3] - mine[3] == moved
+    right = model.Table()
+    return [model.told(right, line) for line in lines][-1] == ours and [model.told(table, line) for line in lines][-1] == original
+
+
+def first_copy_kept(words, original, ours, before):
+    """The original's duplicate stands in the place of the fragment that was kept."""
+    return by_rules_of(Replacing(), words, original, ours, before)
+
+
+def sweep_of_number_255(words, original, ours, before):
+    """A mark at 255, which a duplicate left there, and the original's sum of 8 bits."""
+    return words[0] == "v" and by_rules_of(Wrapping(), words, original, ours, before)
 
 
 def table_full(words, original, ours, before):
@@ -155,6 +175,7 @@ EXPLAINED = {
     "write-above-65535": write_above_65535,
     "record-never-read": record_never_read,
     "single-fragment-checked": single_fragment_checked,
+    "first-copy-kept": first_copy_kept,
     "sweep-of-number-255": sweep_of_number_255,
     "table-full": table_full,
     "payload-above-1492": payload_above_1492,
@@ -171,3 +192,26 @@ def explanation(line, original, ours, before):
         except (ValueError, IndexError, model.Refused):
             pass
     return None
+
+
+def differences(lines, original, ours):
+    """The places where the answers don't agree, each with the name of its difference or None; and those where they agree, and a rule of document 02 for the table has it
+    otherwise. Commands from a `z` on depend on each other."""
+    before, table = [], model.Table()
+    for at, line in enumerate(lines):
+        if line == "z":
+            before = []
+        by_rule = model.told(table, line) if line[0] in "zpvc" else ours[at]
+        if not agree(original[at], ours[at]):
+            yield at, explanation(line, original[at], ours[at], before)
+        elif ours[at] != by_rule:
+            yield at, None
+        if line[0] in "zpvc":
+            before.append((line, original[at], ours[at]))
+
+
+def known():
+    """The names that the text about differences has; a difference without one isn't explained."""
+    path = Path(__file__).resolve().parent.parent / "docs" / "DIFFERENCES.md"
+    text = path.read_text() if path.exists() else ""
+    return {name for name in EXPLAINED if "`%s`" % name in text}

@@ -398,6 +398,9 @@ def find(kind, data, tlvs, start):
 # --- table ---
 
 class Table:
+    # Two rules of the original's, for compare.py: a duplicate stands in the place of the kept fragment; a sweep's sum is of 8 bits.
+    replaces = wraps = False
+
     def __init__(self):
         self.keys = {}
 
@@ -410,7 +413,8 @@ class Table:
         name, new = (sender, ident), (version, kind, last, payload)
         key = self.keys.get(name)
         if key and number in key[1]:
-            key[1][number] = new
+            if self.replaces:
+                key[1][number] = new
             return "DuplicatedFragment"
         if not last:
             if self.places() == STORE_PLACES or not key and len(self.keys) == STORE_KEYS:
@@ -439,7 +443,7 @@ class Table:
                 counts[0] += 1
             elif not any(fragment[2] for fragment in kept.values()):
                 counts[1] += 1
-            elif len(kept) < max(kept) + 1:
+            elif len(kept) < ((max(kept) + 1) % 256 if self.wraps else max(kept) + 1):
                 counts[2] += 1
             else:
                 counts[3] += 1
@@ -578,18 +582,22 @@ def answer(table, stations, line):
     raise Bad
 
 
+def told(table, line, stations=None):
+    """The answer in words, refused or not."""
+    try:
+        return answer(table, stations, line)
+    except Refused as refused:
+        return " ".join(["no"] + [str(number) for number in refused.args])
+    except (Bad, ValueError, IndexError):
+        return "bad"
+
+
 def main():
     if len(sys.argv) > 1:
         use_level(int(sys.argv[1]))
     table, stations = Table(), Stations()
     for line in sys.stdin:
-        try:
-            text = answer(table, stations, line.removesuffix("\n"))
-        except Refused as refused:
-            text = " ".join(["no"] + [str(number) for number in refused.args])
-        except (Bad, ValueError, IndexError):
-            text = "bad"
-        sys.stdout.write(text + "\n")
+        sys.stdout.write(told(table, line.removesuffix("\n"), stations) + "\n")
 
 
 if __name__ == "__main__":

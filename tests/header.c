@@ -288,10 +288,24 @@ static void fields(void) {
     check("AshlarTable: versions, AshlarFragment: version", table.versions[0] == 0x56 && table.versions[1] == 0x65);
     check("AshlarTable: used", table.used[0] && table.used[1] && !table.used[2]);
     check("ASHLAR_PAYLOAD: a place in the store", !memcmp(store, payload, 10) && store[10] == 0 && !memcmp(store + ASHLAR_PAYLOAD, payload, 20));
-    bool unmarked = !table.lasts[0] && !table.lasts[1];
-    other.fragment.last = true;
-    check("AshlarAnswer: duplicated", answered(pushed(other, 30), ASHLAR_DUPLICATED, 0));
-    check("AshlarTable: lasts, AshlarFragment: last", unmarked && !table.lasts[0] && table.lasts[1] && table.sizes[1] == 30);
+}
+
+/* a duplicate differs from the kept fragment in all but its key and number, and no byte of the table, the store or the output changes */
+static void duplicates(void) {
+    static uint8_t stored[sizeof store], lent[sizeof out];
+    AshlarTable before = table;
+    for (size_t i = 0; i < sizeof out; i++) out[i] = (uint8_t)(i * 7);
+    memcpy(stored, store, sizeof store), memcpy(lent, out, sizeof out);
+    for (size_t size = 0; size <= ASHLAR_PAYLOAD; size += size ? ASHLAR_PAYLOAD - 1 : 1) {
+        AshlarArrival a = {.key = 99, .time = 7000, .fragment = {.message_type = 0x5678, .version = 0x78, .number = 8, .last = size == 1}};
+        check("AshlarAnswer: duplicated", answered(pushed(a, size), ASHLAR_DUPLICATED, 0));
+        check("ASHLAR_DUPLICATED: the table stays", !memcmp(&before, &table, sizeof table));
+        check("ASHLAR_DUPLICATED: the store stays", !memcmp(stored, store, sizeof store));
+        check("ASHLAR_DUPLICATED: the output stays", !memcmp(lent, out, sizeof out));
+    }
+    memset(out, 0, sizeof out);
+    refused("ASHLAR_DUPLICATED: 12 comes before it", piece(99, 8, false), sizeof store, sizeof out, ASHLAR_PAYLOAD + 1, ASHLAR_PAYLOAD_TOO_LONG, 0);
+    refused("ASHLAR_DUPLICATED: 11 comes before it", piece(99, 8, false), sizeof store - 1, sizeof out, 1, ASHLAR_STORE_TOO_SMALL, 0);
 }
 
 static void pushes(void) {
@@ -334,12 +348,12 @@ static void limits(void) {
     check("ASHLAR_MESSAGE: the longest that can be joined", answered(pushed(piece(1, ASHLAR_PLACES, true), ASHLAR_PAYLOAD), ASHLAR_JOINED, ASHLAR_MESSAGE));
 }
 
-/* one key with none marked last, two with a marked one that others lack, three with neither, and four that hold nothing, which sweep takes though no call leaves them so */
+/* one key with none marked last, two with a marked one that others lack, three with neither, and four that hold nothing: sweep takes marks and such keys, though no call leaves any */
 static void sweeps(void) {
     table = ashlar_fresh();
     pushed(piece(1, 0, false), 5);
-    for (uint64_t key = 2; key < 4; key++) pushed(piece(key, 1, false), 5), pushed(piece(key, 1, true), 5);
-    for (uint64_t key = 4; key < 7; key++) pushed(piece(key, 0, false), 5), pushed(piece(key, 0, true), 5);
+    for (uint64_t key = 2; key < 4; key++) pushed(piece(key, 1, false), 5), table.lasts[key - 1] = true;
+    for (uint64_t key = 4; key < 7; key++) pushed(piece(key, 0, false), 5), table.lasts[key - 1] = true;
     for (int row = 6; row < 10; row++) table.used[row] = true, table.firsts[row] = 5000;
     AshlarTable before = table;
     AshlarCounts c = ashlar_sweep(&table, 5000 + ASHLAR_OLD - 1);
@@ -458,7 +472,7 @@ static void crowd(void) {
 
 int main(void) {
     for (size_t i = 0; i < sizeof payload; i++) payload[i] = (uint8_t)(i + 1);
-    headings(), walks(), paddings(), reads(), texts(), finds(), fields(), pushes(), limits(), sweeps(), moves(), values(), crowd();
+    headings(), walks(), paddings(), reads(), texts(), finds(), fields(), duplicates(), pushes(), limits(), sweeps(), moves(), values(), crowd();
     check("every refusal that a call can give came: 1 to 6 and 10 to 18", (refusals & ~1u) == 0x7FC7E);
     check("every answer of push came: 0 to 7", answers == 0xFF);
     check("every answer of an event came: 0 to 5", events == 0x3F);
