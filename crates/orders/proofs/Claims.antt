@@ -1,6 +1,8 @@
 -- The claims of specs/Claims.antt, proved.
 use Rattle.orders.specs.Claims.{Claims}
-use Rattle.orders.proofs.Orders.{local, alike, shares-add-up, run-made, told-alone, sweeps-add-up, order-across-keys, swapped}
+use Rattle.orders.proofs.Unfinished.{dropped-unfinished}
+use Rattle.orders.proofs.Reasons.{one-reason}
+use Rattle.orders.proofs.Orders.{local, sweep-drops, alike, shares-add-up, run-made, told-alone, sweeps-add-up, order-across-keys, swapped}
 use Rattle.orders.proofs.Together.{order-together}
 use Rattle.orders.proofs.Happened.{finished-shown, is-run, order-across-senders, sender-alone, duplicate-untouched}
 use Rattle.orders.proofs.Completes.{completes, fresh-completes, completes-among}
@@ -21,6 +23,9 @@ claims = record {
   order-across-senders = order-across-senders;
   sender-alone = sender-alone;
   duplicate-untouched = duplicate-untouched;
+  sweep-drops = sweep-drops;
+  dropped-unfinished = dropped-unfinished;
+  one-reason = one-reason;
   completes = completes;
   fresh-completes = fresh-completes;
   completes-among = completes-among;

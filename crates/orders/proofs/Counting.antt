@@ -160,7 +160,7 @@ module _ (z : State) (s : Sound (z .table)) (time : ℕ) where
 
 -- the keys that a table holds
 module _ (z : State) (s : Sound (z .table)) where
-  unfoldable keysBelow : ℕ → List ℕ
+  unfoldable pub keysBelow : ℕ → List ℕ
   keysBelow zero = []
   keysBelow (suc n) = cond (isUsed (z .table) n) (codeAt (z .table) n ∷ keysBelow n) (keysBelow n)
 
@@ -190,7 +190,7 @@ module _ (z : State) (s : Sound (z .table)) where
           or-right false c = c
       by-row false q false u′ h′ ih = ih h′ (omega (arith, eqb-false row n q))
 
-  distinct-below : (n : ℕ) → distinct (keysBelow n) ≡ true
+  pub distinct-below : (n : ℕ) → distinct (keysBelow n) ≡ true
   unfolding keysBelow distinct
   distinct-below zero = refl
   distinct-below (suc n) = by-used (isUsed (z .table) n) refl (isIn (codeAt (z .table) n) (keysBelow n)) refl (distinct-below n)
@@ -203,7 +203,7 @@ module _ (z : State) (s : Sound (z .table)) where
       by-used true u false e ih = rw (e, ih)
       by-used false u d e ih = ih
 
-  out-holdsNothing : (k : ℕ) → isIn k (keysBelow 16) ≡ false → holding k z ≡ holdsNothing
+  pub out-holdsNothing : (k : ℕ) → isIn k (keysBelow 16) ≡ false → holding k z ≡ holdsNothing
   out-holdsNothing k h = by-row (ltb (rowOf (z .table) k) 16) refl
     where
       by-row : (b : Bool) → ltb (rowOf (z .table) k) 16 ≡ b → holding k z ≡ holdsNothing

@@ -13,6 +13,8 @@ pub mod Counting
 pub mod Locality
 pub mod Alone
 pub mod Orders
+pub mod Unfinished
+pub mod Reasons
 pub mod Joined
 pub mod Completion
 pub mod Completes

@@ -138,6 +138,10 @@ module _ (store : List ℕ) where
 pub shares-add-up : (z : State) → Made (z .table) → (time : ℕ) (keys : List ℕ) → distinct keys ≡ true → ((key : ℕ) → isIn key keys ≡ false → holding key z ≡ holdsNothing) → SharesAddUp z time keys
 shares-add-up z made = counts-add-up z (sound made)
 
+-- a sweep drops what is due, and leaves the rest
+pub sweep-drops : (z : State) → Made (z .table) → (time key : ℕ) → holding key (after z (sweep time)) ≡ cond (due time (holding key z .first)) holdsNothing (holding key z)
+sweep-drops z made time key = own-sweep (length (z .store)) z (record { made = made; same-long = refl }) key time
+
 -- what one call does, at every table that the calls made
 pub local : (z : State) → Made (z .table) → Local z
 local z made =

@@ -1,11 +1,13 @@
 -- What is claimed of runs of the table, and of calls that happened: the record Claims at the end, which proofs/Claims.antt proves.
 use mathlib.Core.Path.{_≡_}
 use mathlib.Core.List.{List, [], _∷_, _++_, map}
-use mathlib.Core.Bool.{true, false, not}
-use Prim.Native.Nat.{ℕ, _≤_}
+use mathlib.Core.Bool.{true, false, not, cond}
+use Prim.Native.Nat.{ℕ, _≤_, _<_}
 use lib.ListN.{length}
+use Rattle.sweeping.specs.declared.Counts.{Counts}
 use Rattle.sweeping.specs.Sweep.{swept}
 use Rattle.table.specs.Rows.{storeSize}
+use Rattle.pushing.specs.Joining.{Fragments, isKept, isLast, due}
 use Rattle.pushing.specs.declared.Pushed.the-variants.{DuplicatedFragment}
 use Rattle.pushing.specs.Push.{answerBy, outputBy}
 use Rattle.pushing.specs.Show.{shown}
@@ -19,7 +21,7 @@ use Rattle.stations.specs.Claims.{Reordered as EventsReordered}
 use Rattle.orders.specs.Shares.{share, total, isIn, distinct}
 use Rattle.orders.specs.Messages.{Message, Room, Sent, calls, completing}
 use Rattle.orders.specs.Together.{Mixed, noCall, noEvent, endsTogether, toldTogether, roomForAll}
-use Rattle.orders.specs.Runs.{State, Push, Call, push, sweep, finishedBy, wayOf, isAccepted, isOwn, isSweep, neverFull, hasRoom, after, tells, mine, start, holding, holdsNothing, ends, crossed, repliesTo, repliesToAccepted, repliesToSweeps}
+use Rattle.orders.specs.Runs.{State, Push, Call, push, sweep, finishedBy, wayOf, isAccepted, isOwn, isSweep, neverFull, hasRoom, after, tells, mine, start, Holding, holding, holdsNothing, ends, crossed, repliesTo, repliesToAccepted, repliesToSweeps}
 use Rattle.orders.specs.Happened.{Event, push-event, Happens, Happened, callOf, gotBy, replyOf, isRefused, isFull, isFrom, isSweepEvent, isAbout}
 
 -- What a key holds is untouched by every push under another key, refused or not; a refused call changes nothing.
@@ -49,6 +51,20 @@ SharesAddUp z time keys = swept (z .table) time .counts ≡ total (λ key. share
 abbrev pub AddsUp : (store : List ℕ) (calls : List Call) (time : ℕ) (keys : List ℕ) → Type 0
 AddsUp store calls time keys =
     swept (ends (start store) calls .table) time .counts ≡ total (λ key. swept (ends (start store) (mine key (crossed (start store) calls)) .table) time .counts) keys
+
+-- Document 02, 2026-06: "over any calls from a fresh table every key dropped by a sweep has a fragment and none marked last"
+abbrev pub HasOne : Fragments → Type 0
+HasOne fs = (number : ℕ) × (number < 256) × (isKept (fs number) ≡ true)
+
+pub record Unfinished (v : Holding) : Type 0 where
+  pub some : HasOne (v .fragments)
+  pub unmarked : (number : ℕ) → isLast (v .fragments number) ≡ false
+
+-- "three have always shown zero"
+pub record OneReason (c : Counts) : Type 0 where
+  pub empty : c .empty ≡ 0
+  pub incomplete : c .incomplete ≡ 0
+  pub neither : c .neither ≡ 0
 
 -- Demand 3: "the same pushes and sweeps, times and lent lengths, where calls under different keys may be reordered, those under one key and the sweeps keep their order, and every push stays on its side of every sweep":
 -- for each key, its pushes with all the sweeps between them are the same list in both
@@ -133,6 +149,10 @@ pub record Claims : Type 0 where
       → length store′ ≡ length store → (o : Origin) → AskedAlone o events events′ → GotAlone o events events′ z z′
   -- document 02, 2026-05: "From now on a duplicate leaves the kept fragment untouched": what its caller lent comes back as it was
   pub duplicate-untouched : (z z′ : State) (o : Origin) (p : Push) (key : p .arrival .key ≡ keyFor o) (out out′ : List ℕ) → Happens z (push-event o p key out DuplicatedFragment out′) z′ → (z′ ≡ z) × (out′ ≡ out)
+  -- document 02, 2026-06: what a sweep does to each key's holding, what the keys hold that it drops, and what it counts
+  pub sweep-drops : (z : State) → Made (z .table) → (time key : ℕ) → holding key (after z (sweep time)) ≡ cond (due time (holding key z .first)) holdsNothing (holding key z)
+  pub dropped-unfinished : (store : List ℕ) (calls : List Call) (time key : ℕ) → due time (holding key (ends (start store) calls) .first) ≡ true → Unfinished (holding key (ends (start store) calls))
+  pub one-reason : (store : List ℕ) (calls : List Call) (time : ℕ) → OneReason (swept (ends (start store) calls .table) time .counts)
   -- a message completes: at any table that the calls made, at a fresh one, and among pushes under other keys, where these are all that is left of the key's calls and the run's sweeps
   pub completes : (m : Message) (bring : ℕ → Push) (order : List ℕ) (z : State) → Made (z .table) → storeSize ≤ length (z .store) → holding (m .key) z ≡ holdsNothing → Room m (z .table)
       → Sent m bring order → Completes m bring order z
