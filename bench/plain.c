@@ -251,7 +251,6 @@ static void drop(AshlarTable *t, int row) {
         if (t->owners[i] != row + 1) continue;
         t->message_types[i] = t->sizes[i] = 0;
         t->owners[i] = t->numbers[i] = t->versions[i] = 0;
-        t->lasts[i] = false;
     }
 }
 
@@ -261,7 +260,6 @@ static void put(AshlarTable *t, uint8_t *store, int place, int row, const Ashlar
     t->owners[place] = (uint8_t)(row + 1);
     t->numbers[place] = f->number;
     t->versions[place] = f->version;
-    t->lasts[place] = f->last;
     memcpy(store + (size_t)place * ASHLAR_PAYLOAD, payload, n);
 }
 
@@ -274,19 +272,19 @@ static AshlarPushed end(AshlarTable *t, int row, uint8_t answer, size_t length) 
 static AshlarPushed finish(AshlarTable *t, const uint8_t *store, uint8_t *out, size_t room, int row, const AshlarFragment *f, const uint8_t *payload, size_t n) {
     int place[33], kept = 0, highest = f->number;
     size_t total = n;
-    bool unlike = false, last = f->last;
+    bool unlike = false;
     if (row >= 0)
         for (int i = 0; i < 32; i++) {
             if (t->owners[i] != row + 1) continue;
             unlike |= t->versions[i] != f->version || t->message_types[i] != f->message_type;
-            if (t->numbers[i] > highest) highest = t->numbers[i], last = t->lasts[i];
+            if (t->numbers[i] > highest) highest = t->numbers[i];
             if (t->numbers[i] < 33) place[t->numbers[i]] = i;
             total += t->sizes[i];
             kept++;
         }
     if (unlike) return end(t, row, ASHLAR_INCONSISTENT, 0);
     if (highest != kept) return end(t, row, ASHLAR_MISSING, 0);
-    if (!last) return end(t, row, ASHLAR_MISSING_LAST, 0);
+    if (highest != f->number) return end(t, row, ASHLAR_MISSING_LAST, 0);
     if (!kept) return end(t, row, ASHLAR_SINGLE, n);
     if (room < total) return (AshlarPushed){total, ASHLAR_REFUSED, 13};
     for (int k = 0; k <= kept; k++) {
@@ -332,25 +330,14 @@ AshlarShown plain_show(AshlarPushed pushed, const uint8_t *payload, size_t n, co
     return (AshlarShown){0, false};
 }
 
-AshlarCounts plain_sweep(AshlarTable *t, uint64_t time) {
-    AshlarCounts c = {0, 0, 0, 0};
+size_t plain_sweep(AshlarTable *t, uint64_t time) {
+    size_t dropped = 0;
     for (int row = 0; row < 16; row++) {
         if (!t->used[row] || time < t->firsts[row] || time - t->firsts[row] < 3000) continue;
-        int kept = 0, beyond = 0;
-        bool marked = false;
-        for (int i = 0; i < 32; i++)
-            if (t->owners[i] == row + 1) {
-                kept++;
-                if (t->numbers[i] >= beyond) beyond = t->numbers[i] + 1;
-                marked |= t->lasts[i];
-            }
-        if (!kept) c.empty++;
-        else if (!marked) c.unmarked++;
-        else if (kept < beyond) c.incomplete++;
-        else c.neither++;
         drop(t, row);
+        dropped++;
     }
-    return c;
+    return dropped;
 }
 
 /* ---- Stations ---- */

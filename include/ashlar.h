@@ -44,7 +44,7 @@ extern "C" {
 #define ASHLAR_PAYLOAD 1492             /* bytes of a fragment's payload, at most */
 #define ASHLAR_STORE 47744              /* bytes of the store that a table wants, at least: ASHLAR_PLACES times ASHLAR_PAYLOAD */
 #define ASHLAR_MESSAGE 49236            /* bytes of a joined message, at most: those of all places, and the last fragment's, which takes none */
-#define ASHLAR_TABLE 528                /* bytes of an AshlarTable */
+#define ASHLAR_TABLE 496                /* bytes of an AshlarTable */
 #define ASHLAR_STATIONS 128             /* stations that a station table holds, at most */
 #define ASHLAR_STATION_TABLE 2048       /* bytes of an AshlarStations */
 #define ASHLAR_OLD 3000                 /* milliseconds after which ashlar_sweep drops a message that is not whole */
@@ -163,7 +163,8 @@ typedef struct {
 } AshlarPart;
 
 /* The fragments that are held, but for their payloads. To be looked at only: what an element holds where it is not used means nothing.
-   A row of `codes`, `firsts` and `used` is a message that waits; a row of the others is a place, with a fragment of it. */
+   A row of `codes`, `firsts` and `used` is a message that waits; a row of the others is a place, with a fragment of it, which
+   is not marked last: those that are end their message at once, or are duplicates. */
 typedef struct {
     uint64_t codes[ASHLAR_KEYS];            /* the key of the message */
     uint64_t firsts[ASHLAR_KEYS];           /* the time at which its first fragment came */
@@ -172,7 +173,6 @@ typedef struct {
     uint8_t owners[ASHLAR_PLACES];          /* 1 more than its message's row, 0 where the place is free */
     uint8_t numbers[ASHLAR_PLACES];         /* its number */
     uint8_t versions[ASHLAR_PLACES];        /* the message version that it said */
-    bool lasts[ASHLAR_PLACES];              /* whether it is marked last */
     bool used[ASHLAR_KEYS];                 /* whether the row holds a message */
 } AshlarTable;
 
@@ -215,14 +215,6 @@ typedef struct {
     size_t length;  /* 0 where there is no message */
     bool in_output; /* of the output, else of the payload that was pushed */
 } AshlarShown;
-
-/* How many messages a sweep dropped, by what they lacked. */
-typedef struct {
-    uint8_t empty;      /* no fragment is kept */
-    uint8_t unmarked;   /* none of the fragments is marked last */
-    uint8_t incomplete; /* one is marked last, but there are fewer than the highest number plus 1 */
-    uint8_t neither;    /* one is marked last, and there are as many; push leaves no mark, so this and `incomplete` stay 0 */
-} AshlarCounts;
 
 /* An address of six bytes, as they stand in a frame: copy them in and out. */
 typedef struct {
@@ -310,8 +302,9 @@ AshlarPushed ashlar_push(AshlarTable *table, uint8_t *store, size_t store_length
 /* Where the message of a push lies, given that push's answer, payload and output. */
 AshlarShown ashlar_show(AshlarPushed pushed, const uint8_t *payload, size_t payload_length, const uint8_t *out, size_t out_length);
 
-/* Messages whose first fragment came ASHLAR_OLD milliseconds or longer before `time` are dropped, with all their fragments, and counted. A clock that went back drops none. */
-AshlarCounts ashlar_sweep(AshlarTable *table, uint64_t time);
+/* Messages whose first fragment came ASHLAR_OLD milliseconds or longer before `time` are dropped, with all their fragments; the answer is how many. None of them had come to its
+   last fragment. A clock that went back drops none. */
+size_t ashlar_sweep(AshlarTable *table, uint64_t time);
 
 /* The table holds no station, whatever it held: all its bytes are 0. It is made where it lies, and so never lies on a stack. */
 void ashlar_stations_fresh(AshlarStations *table);

@@ -8,10 +8,12 @@ import model
 
 
 def agree(original, ours):
-    """Refusals agree whatever the number, which the original doesn't have; `-` is what it can't know."""
+    """Refusals agree whatever the number, which the original doesn't have; `-` is what it can't know. The original's four counts of a sweep are compared by their sum."""
     if original == ours:
         return True
     first, second = original.split(" "), ours.split(" ")
+    if first[0] == second[0] == "swept":
+        return sum(map(int, first[1:])) == sum(map(int, second[1:]))
     if first[0] != "no" or second[0] != "no":
         return False
     return all(a in ("-", b) for a, b in zip(first, second))
@@ -64,27 +66,13 @@ class Replacing(model.Table):
     replaces = True
 
 
-class Wrapping(Replacing):
-    wraps = True
-
-
-def by_rules_of(table, words, original, ours, before):
-    """Both rules are played over the group, from its start on: ours is what document 02 has, and the original's what this table answers."""
-    lines = [line for line, _, _ in before] + [" ".join(words)]
-    if words[0] not in "pvc" or lines[0] != "z":
-        return False
-    right = model.Table()
-    return [model.told(right, line) for line in lines][-1] == ours and [model.told(table, line) for line in lines][-1] == original
-
-
 def first_copy_kept(words, original, ours, before):
-    """The original's duplicate stands in the place of the fragment that was kept."""
-    return by_rules_of(Replacing(), words, original, ours, before)
-
-
-def sweep_of_number_255(words, original, ours, before):
-    """A mark at 255, which a duplicate left there, and the original's sum of 8 bits."""
-    return words[0] == "v" and by_rules_of(Wrapping(), words, original, ours, before)
+    """The original's duplicate stands in the place of the fragment that was kept. Both rules are played over the group, from its start on."""
+    lines = [line for line, _, _ in before] + [" ".join(words)]
+    if words[0] not in "pc" or lines[0] != "z":
+        return False
+    first, last = model.Table(), Replacing()
+    return [model.told(first, line) for line in lines][-1] == ours and [model.told(last, line) for line in lines][-1] == original
 
 
 def table_full(words, original, ours, before):
@@ -176,7 +164,6 @@ EXPLAINED = {
     "record-never-read": record_never_read,
     "single-fragment-checked": single_fragment_checked,
     "first-copy-kept": first_copy_kept,
-    "sweep-of-number-255": sweep_of_number_255,
     "table-full": table_full,
     "payload-above-1492": payload_above_1492,
 }

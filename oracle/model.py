@@ -398,8 +398,8 @@ def find(kind, data, tlvs, start):
 # --- table ---
 
 class Table:
-    # Two rules of the original's, for compare.py: a duplicate stands in the place of the kept fragment; a sweep's sum is of 8 bits.
-    replaces = wraps = False
+    # A rule of the original's, for compare.py: a duplicate stands in the place of the kept fragment.
+    replaces = False
 
     def __init__(self):
         self.keys = {}
@@ -434,20 +434,13 @@ class Table:
         return "complete %s %s" % ("single" if len(kept) == 1 else "joined", shown(joined))
 
     def sweep(self, now):
-        counts = [0, 0, 0, 0]
-        for name, (first, kept) in list(self.keys.items()):
+        dropped = 0
+        for name, (first, _) in list(self.keys.items()):
             if max(0, now - first) < EXPIRES:
                 continue
             del self.keys[name]
-            if not kept:
-                counts[0] += 1
-            elif not any(fragment[2] for fragment in kept.values()):
-                counts[1] += 1
-            elif len(kept) < ((max(kept) + 1) % 256 if self.wraps else max(kept) + 1):
-                counts[2] += 1
-            else:
-                counts[3] += 1
-        return "swept %d %d %d %d" % tuple(counts)
+            dropped += 1
+        return "swept %d" % dropped
 
     def contents(self):
         text = ["ok %d %d" % (len(self.keys), self.places())]

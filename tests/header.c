@@ -348,23 +348,18 @@ static void limits(void) {
     check("ASHLAR_MESSAGE: the longest that can be joined", answered(pushed(piece(1, ASHLAR_PLACES, true), ASHLAR_PAYLOAD), ASHLAR_JOINED, ASHLAR_MESSAGE));
 }
 
-/* one key with none marked last, two with a marked one that others lack, three with neither, and four that hold nothing: sweep takes marks and such keys, though no call leaves any */
+/* sixteen keys are due, or none; a key that holds nothing, which no call leaves, is dropped and counted like any other */
 static void sweeps(void) {
     table = ashlar_fresh();
-    pushed(piece(1, 0, false), 5);
-    for (uint64_t key = 2; key < 4; key++) pushed(piece(key, 1, false), 5), table.lasts[key - 1] = true;
-    for (uint64_t key = 4; key < 7; key++) pushed(piece(key, 0, false), 5), table.lasts[key - 1] = true;
-    for (int row = 6; row < 10; row++) table.used[row] = true, table.firsts[row] = 5000;
+    for (uint64_t key = 0; key + 1 < ASHLAR_KEYS; key++) pushed(piece(key, 0, false), 5), pushed(piece(key, 1, false), 5);
+    table.used[ASHLAR_KEYS - 1] = true, table.firsts[ASHLAR_KEYS - 1] = 5000;
     AshlarTable before = table;
-    AshlarCounts c = ashlar_sweep(&table, 5000 + ASHLAR_OLD - 1);
-    check("ASHLAR_OLD: none a millisecond before", !(c.empty || c.unmarked || c.incomplete || c.neither) && !memcmp(&before, &table, sizeof table));
-    c = ashlar_sweep(&table, 5000 + ASHLAR_OLD);
-    check("AshlarCounts: empty", c.empty == 4);
-    check("AshlarCounts: unmarked", c.unmarked == 1);
-    check("AshlarCounts: incomplete", c.incomplete == 2);
-    check("AshlarCounts: neither", c.neither == 3);
+    check("ASHLAR_OLD: none a millisecond before", ashlar_sweep(&table, 5000 + ASHLAR_OLD - 1) == 0 && !memcmp(&before, &table, sizeof table));
+    check("ashlar_sweep: none where the clock went back", ashlar_sweep(&table, 0) == 0 && !memcmp(&before, &table, sizeof table));
+    check("ashlar_sweep: how many keys", ashlar_sweep(&table, 5000 + ASHLAR_OLD) == ASHLAR_KEYS);
     before = ashlar_fresh();
     check("ashlar_sweep: what is dropped leaves nothing", !memcmp(&before, &table, sizeof table));
+    check("ashlar_sweep: nothing is left to drop", ashlar_sweep(&table, UINT64_MAX) == 0);
 }
 
 /* ---- Stations ---- */

@@ -15,7 +15,6 @@ use Rattle.layouts.specs.Access.{Span, partOf}
 use Rattle.texts.specs.Access.{locateRadio, locateText, locateRadioText}
 use Rattle.table.specs.declared.Table.{Table}
 use Rattle.table.specs.Rows.{freshTable}
-use Rattle.sweeping.specs.declared.Counts.{Counts}
 use Rattle.sweeping.specs.Sweep.{swept, sweptAs}
 use Rattle.pushing.specs.declared.Arrival.{Arrival}
 use Rattle.pushing.specs.Push.{Heard, way}
@@ -48,7 +47,7 @@ pub record Firmness : Type 0 where
   pub ashlar-push : (t : Table) (store out : List ℕ) (a : Arrival) (payload : List ℕ)
       → Firm {A = AshlarPushed × Table × List ℕ × List ℕ} (λ o. Numbered (way t store a payload (length out)) t store out a payload (o .0) (o .1) (o .2) (o .3))
   pub ashlar-show : (pushed : AshlarPushed) (payload out : List ℕ) → Firm (λ r. r ≡ shownIn pushed (length payload) (length out))
-  pub ashlar-sweep : (t : Table) (time : ℕ) → Firm {A = Counts × Table} (λ o. sweptAs (o .1) (o .0) ≡ swept t time)
+  pub ashlar-sweep : (t : Table) (time : ℕ) → Firm {A = ℕ × Table} (λ o. sweptAs (o .1) (o .0) ≡ swept t time)
   pub ashlar-stations-fresh : Firm {A = Stations} (λ t′. t′ ≡ freshStations)
   pub ashlar-station-event : (t : Stations) (station point : AshlarAddress) (joined : Bool)
       → Firm {A = AshlarHeard × Stations} (λ o. (o .0 ≡ eventNumbers (answerTo t (eventWith station point joined))) × (o .1 ≡ tableAfter t (eventWith station point joined)))

@@ -15,7 +15,6 @@ use stations::Heard;
 use stations::Listed;
 use stations::Stations;
 use stations::Where;
-use sweeping::Counts;
 use table::Table;
 use walking::Tlv;
 use walking::Walked;
@@ -366,9 +365,9 @@ pub extern "C" fn ashlar_show(pushed: AshlarPushed, payload: &[u8], out: &[u8]) 
     }
 }
 
-// The keys that are 3,000 milliseconds old are dropped, and counted by what they lacked.
+// The keys that are 3,000 milliseconds old are dropped; how many they were.
 #[no_mangle]
-pub extern "C" fn ashlar_sweep(t: &mut Table, time: u64) -> Counts
+pub extern "C" fn ashlar_sweep(t: &mut Table, time: u64) -> usize
     ensures { λ r. ⌜ sweptAs (now (t .exit)) r ≡ swept (now (t .entry)) time ⌝ }
 {
     reassembler::sweep(t, time)

@@ -23,7 +23,6 @@ use Rattle.kinds.specs.Kinds.{isKind, one, list, Typed, readKind, locateKind}
 use Rattle.table.specs.Rows.{placeSize, storeSize}
 use Rattle.pushing.specs.Push.{waiting, joined as joinedAs, missing}
 use Rattle.orders.specs.Runs.{Push, push, sweep, pushed, dropped, after, tells, start, holding, holdsNothing, repliesTo}
-use Rattle.sweeping.specs.Sweep.{noneDropped}
 
 -- an address of six equal octets, and the bytes of an association of two such with a last byte
 abbrev pub address : ℕ → MacAddr
@@ -262,10 +261,10 @@ pub record Examples : Type 0 where
   pub cut-wins : readKind 0xD4 (0x01 ∷ 0xFF ∷ []) ≡ refuses 3 []
   -- "elapsed 2,999 stays, 3,000 goes": one fragment, not marked last, and a sweep so many milliseconds later
   pub stays : (store : List ℕ) (p : Push) → LetIn store p → p .arrival .fragment .last ≡ false
-      → (tells (after (start store) (push p)) (sweep (p .arrival .time + 2999)) ≡ dropped noneDropped)
+      → (tells (after (start store) (push p)) (sweep (p .arrival .time + 2999)) ≡ dropped 0)
       × (holding (p .arrival .key) (after (after (start store) (push p)) (sweep (p .arrival .time + 2999))) ≡ holding (p .arrival .key) (after (start store) (push p)))
   pub goes : (store : List ℕ) (p : Push) → LetIn store p → p .arrival .fragment .last ≡ false
-      → (tells (after (start store) (push p)) (sweep (p .arrival .time + 3000)) ≡ dropped (record { empty = 0; unmarked = 1; incomplete = 0; neither = 0 }))
+      → (tells (after (start store) (push p)) (sweep (p .arrival .time + 3000)) ≡ dropped 1)
       × (holding (p .arrival .key) (after (after (start store) (push p)) (sweep (p .arrival .time + 3000))) ≡ holdsNothing)
   -- "number 0 then last 1 completes"
   pub completes : (store : List ℕ) (p q : Push) → LetIn store p → LetIn store q → ZeroThenLastOne p q

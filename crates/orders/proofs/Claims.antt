@@ -1,7 +1,6 @@
 -- The claims of specs/Claims.antt, proved.
 use Rattle.orders.specs.Claims.{Claims}
-use Rattle.orders.proofs.Unfinished.{dropped-unfinished}
-use Rattle.orders.proofs.Reasons.{one-reason}
+use Rattle.orders.proofs.Unfinished.{kept-as-pushed, dropped-unfinished}
 use Rattle.orders.proofs.Orders.{local, sweep-drops, alike, shares-add-up, run-made, told-alone, sweeps-add-up, order-across-keys, swapped}
 use Rattle.orders.proofs.Together.{order-together}
 use Rattle.orders.proofs.Happened.{finished-shown, is-run, order-across-senders, sender-alone, duplicate-untouched}
@@ -23,9 +22,9 @@ claims = record {
   order-across-senders = order-across-senders;
   sender-alone = sender-alone;
   duplicate-untouched = duplicate-untouched;
+  kept-as-pushed = kept-as-pushed;
   sweep-drops = sweep-drops;
   dropped-unfinished = dropped-unfinished;
-  one-reason = one-reason;
   completes = completes;
   fresh-completes = fresh-completes;
   completes-among = completes-among;

@@ -1,114 +1,74 @@
--- The counts of a sweep are the sums of the shares of the keys held, and so a function of what each key holds.
+-- The number of a sweep is the sum of the shares of the keys held, and so a function of what each key holds.
 use mathlib.Core.Path.{_≡_, refl, sym, ap, _∙_}
 use mathlib.Core.List.{List, [], _∷_}
 use mathlib.Core.Bool.{Bool, true, false, cond, _||_, false≢true, true≢false}
-use Prim.Native.Nat.{ℕ, zero, suc, _≤_, _<_}
+use Prim.Native.Nat.{ℕ, zero, suc, _+_, _≤_, _<_}
 use native.Mathlib.Omega.{arith}
 use lib.Dec.{eqb, ltb}
-use borrow.Author.Tests.{ltb-true, ltb-false, lt-ltb, le-ltb, eqb-true, eqb-false, eq-eqb, ne-eqb}
+use borrow.Author.Tests.{ltb-true, ltb-false, lt-ltb, le-ltb, eqb-true, eqb-false, eq-eqb}
 use Rattle.table.specs.declared.Table.{Table}
-use Rattle.sweeping.specs.declared.Counts.{Counts}
 use Rattle.sweeping.specs.declared.Swept.{Swept}
-use Rattle.sweeping.specs.Sweep.{Tally, noneDropped, expired, tallied, tally, lackOf, plusOne, sweptRow, sweptRows, swept}
-use Rattle.table.specs.Rows.{Place, ownerOf, placeAt, rowOf, without}
-use Rattle.pushing.specs.Joining.{heldIn, never, since}
-use Rattle.table.proofs.Sound.{Sound, row-holds, dropped-other}
-use Rattle.table.proofs.Apart.{time-after-drop}
-use Rattle.sweeping.proofs.Sound.{sweep-sound}
+use Rattle.sweeping.specs.Sweep.{expired, sweptRow, sweptRows, swept, sweptAs}
+use Rattle.table.specs.Rows.{rowOf, without}
+use Rattle.pushing.specs.Joining.{never, since}
+use Rattle.table.proofs.Sound.{Sound, row-holds}
+use Rattle.sweeping.proofs.Sound.{later}
 use Rattle.orders.specs.Runs.{State, Holding, holding, holdsNothing}
-use Rattle.orders.specs.Shares.{tallyOf, share, plus, total, isIn, distinct}
-use Rattle.table.proofs.Places.{after-drop}
+use Rattle.orders.specs.Shares.{share, total, isIn, distinct}
 use Rattle.orders.proofs.Rows.{isUsed, codeAt, firstAt}
 use Rattle.orders.proofs.Lookups.{row-is}
 use Rattle.orders.proofs.Holdings.{absent, present}
 use Rattle.orders.proofs.Sweeps.{due-is, due-never}
-use Rattle.orders.proofs.Tallies.{tally-held}
-use Rattle.orders.proofs.Totals.{plus-none, counted-plus, total-same, total-none, total-one}
-
--- dropping one row leaves what the sweep finds in another
-tally-without : (t : Table) (row r : ℕ) → (r ≡ row → ⊥) → (n : ℕ) → tally (without t row) r n ≡ tally t r n
-unfolding tally
-tally-without t row r ne zero = refl
-tally-without t row r ne (suc n) =
-    ap (tallied r (placeAt (without t row) n)) (tally-without t row r ne n)
-    ∙ after-drop t row (λ (p : Place). tallied r p (tally t r n) ≡ tallied r (placeAt t n) (tally t r n)) n
-    (λ o. rw (ne-eqb 0 (ownerOf r) (λ e. omega arith), ne-eqb (placeAt t n .owner) (ownerOf r) (λ e. ne (omega (arith, o)))))
-    (λ o. refl)
+use Rattle.orders.proofs.Totals.{total-same, total-none, total-one}
 
 -- one row's share
-unfoldable rowShare : Table → ℕ → ℕ → Counts
-rowShare t time row = cond (expired t time row) (plusOne (lackOf (tally t row 32)) noneDropped) noneDropped
+unfoldable rowShare : Table → ℕ → ℕ → ℕ
+rowShare t time row = cond (expired t time row) 1 0
 
-unfoldable rowsTotal : Table → ℕ → ℕ → Counts
-rowsTotal t time zero = noneDropped
-rowsTotal t time (suc n) = plus (rowsTotal t time n) (rowShare t time n)
+unfoldable rowsTotal : Table → ℕ → ℕ → ℕ
+rowsTotal t time zero = 0
+rowsTotal t time (suc n) = rowsTotal t time n + rowShare t time n
 
 module _ (t : Table) (s : Sound t) (time : ℕ) where
-  abbrev at : ℕ → Table
-  at n = sweptRows t time n .table
-
-  -- the rows that the sweep has not come to
-  record Later (u : Table) (r : ℕ) : Type 0 where
-    as-used : isUsed u r ≡ isUsed t r
-    as-first : firstAt u r ≡ firstAt t r
-    as-tally : tally u r 32 ≡ tally t r 32
-
-  later-by : (n r : ℕ) → n < 16 → n < r → (b : Bool) → (w : Swept) → Sound (w .table) → Later (w .table) r
-      → Later (cond b (record { table = without (w .table) n; counts = plusOne (lackOf (tally (w .table) n 32)) (w .counts) }) w .table) r
-  later-by n r h l false w s₁ k = k
-  later-by n r h l true w s₁ k =
-      let off : r ≡ n → ⊥ = λ e. omega arith in
-      record {
-        as-used = dropped-other (w .table) s₁ n h r off ∙ k .as-used;
-        as-first = time-after-drop (w .table) s₁ n h r off ∙ k .as-first;
-        as-tally = tally-without (w .table) n r off 32 ∙ k .as-tally;
-      }
-
-  later : (n r : ℕ) → n ≤ 16 → n ≤ r → Later (at n) r
-  unfolding sweptRows sweptRow
-  later zero r h l = record { as-used = refl; as-first = refl; as-tally = refl }
-  later (suc n) r h l = later-by n r (omega arith) (omega arith) (expired (at n) time n) (sweptRows t time n) (sweep-sound t s time n (omega arith)) (later n r (omega arith) (omega arith))
-
-  row-share : (n : ℕ) → n < 16 → (w : Swept) → Later (w .table) n → sweptRow time n w .counts ≡ plus (w .counts) (rowShare t time n)
+  row-share : (n : ℕ) (w : Swept) → expired (w .table) time n ≡ expired t time n → sweptRow time n w .dropped ≡ w .dropped + rowShare t time n
   unfolding sweptRow rowShare
-  row-share n h w k =
-      by-age (expired (w .table) time n) ∙ rw (k .as-used, k .as-first, k .as-tally)
+  row-share n w same = by-age (expired (w .table) time n) ∙ ap (λ (b : Bool). w .dropped + cond b 1 0) same
     where
-      by-age : (b : Bool) → cond b (record { table = without (w .table) n; counts = plusOne (lackOf (tally (w .table) n 32)) (w .counts) }) w .counts ≡ plus (w .counts) (cond b (plusOne (lackOf (tally (w .table) n 32)) noneDropped) noneDropped)
-      by-age true = counted-plus (lackOf (tally (w .table) n 32)) (w .counts)
-      by-age false = sym (plus-none (w .counts))
+      by-age : (b : Bool) → cond b (sweptAs (without (w .table) n) (w .dropped + 1)) w .dropped ≡ w .dropped + cond b 1 0
+      by-age true = refl
+      by-age false = omega arith
 
-  rows-total : (n : ℕ) → n ≤ 16 → sweptRows t time n .counts ≡ rowsTotal t time n
+  -- a row that the sweep comes to is as it was
+  rows-total : (n : ℕ) → n ≤ 16 → sweptRows t time n .dropped ≡ rowsTotal t time n
   unfolding sweptRows rowsTotal
   rows-total zero h = refl
-  rows-total (suc n) h = row-share n (omega arith) (sweptRows t time n) (later n n (omega arith) (omega arith)) ∙ ap (λ (c : Counts). plus c (rowShare t time n)) (rows-total n (omega arith))
+  rows-total (suc n) h =
+      let was = later t s time n (omega arith) n (omega arith) in
+      row-share n (sweptRows t time n) (rw (was .0, was .1)) ∙ ap (λ (m : ℕ). m + rowShare t time n) (rows-total n (omega arith))
 
 -- a key's share is that of its row
 module _ (z : State) (s : Sound (z .table)) (time : ℕ) where
   abbrev t : Table
   t = z .table
 
-  abbrev shareOf : ℕ → Counts
+  abbrev shareOf : ℕ → ℕ
   shareOf k = share time (holding k z)
 
   share-row : (k row : ℕ) → rowOf t k ≡ row → row < 16 → shareOf k ≡ rowShare t time row
   unfolding share rowShare
-  share-row k row e h =
-      ap (λ (b : Bool). cond b (plusOne (lackOf (tallyOf (holding k z .fragments) 256)) noneDropped) noneDropped) (due-is t time k row e h)
-      ∙ ap (λ (r : ℕ). cond (expired t time row) (plusOne (lackOf (tallyOf (heldIn t (z .store) r) 256)) noneDropped) noneDropped) e
-      ∙ ap (λ (y : Tally). cond (expired t time row) (plusOne (lackOf y) noneDropped) noneDropped) (sym (tally-held t s (z .store) row))
+  share-row k row e h = ap (λ (b : Bool). cond b 1 0) (due-is t time k row e h)
 
-  share-none : (k : ℕ) → 16 ≤ rowOf t k → shareOf k ≡ noneDropped
+  share-none : (k : ℕ) → 16 ≤ rowOf t k → shareOf k ≡ 0
   unfolding share
   share-none k h = rw (due-never t time k h)
 
-  unused-none : (row : ℕ) → isUsed t row ≡ false → rowShare t time row ≡ noneDropped
+  unused-none : (row : ℕ) → isUsed t row ≡ false → rowShare t time row ≡ 0
   unfolding rowShare
   unused-none row u = rw u
 
   -- the shares of the keys whose rows are below n
-  abbrev shareBelow : ℕ → ℕ → Counts
-  shareBelow n k = cond (ltb (rowOf t k) n) (shareOf k) noneDropped
+  abbrev shareBelow : ℕ → ℕ → ℕ
+  shareBelow n k = cond (ltb (rowOf t k) n) (shareOf k) 0
 
   below-other : (n k : ℕ) → (rowOf t k ≡ n → ⊥) → shareBelow (suc n) k ≡ shareBelow n k
   below-other n k ne = by-row (ltb (rowOf t k) n) refl
@@ -117,7 +77,7 @@ module _ (z : State) (s : Sound (z .table)) (time : ℕ) where
       by-row true e = rw (lt-ltb (rowOf t k) n (ltb-true _ _ e), lt-ltb (rowOf t k) (suc n) (omega (arith, ltb-true (rowOf t k) n e)))
       by-row false e = rw (e, le-ltb (rowOf t k) (suc n) (omega (arith, ne, ltb-false (rowOf t k) n e)))
 
-  below-here : (n k : ℕ) → rowOf t k ≡ n → (shareBelow (suc n) k ≡ shareOf k) × (shareBelow n k ≡ noneDropped)
+  below-here : (n k : ℕ) → rowOf t k ≡ n → (shareBelow (suc n) k ≡ shareOf k) × (shareBelow n k ≡ 0)
   below-here n k e = (rw (lt-ltb (rowOf t k) (suc n) (omega arith)), rw (le-ltb (rowOf t k) n (omega arith)))
 
   module _ (ks : List ℕ) (once : distinct ks ≡ true) (all : (k : ℕ) → isIn k ks ≡ false → holding k z ≡ holdsNothing) where
@@ -131,36 +91,36 @@ module _ (z : State) (s : Sound (z .table)) (time : ℕ) where
             let no : _≡_ {A = ℕ} 0 1 = cc in
             absurd (omega arith)
 
-    next : (n : ℕ) → n < 16 → (b : Bool) → isUsed t n ≡ b → total (shareBelow (suc n)) ks ≡ plus (total (shareBelow n) ks) (rowShare t time n)
+    next : (n : ℕ) → n < 16 → (b : Bool) → isUsed t n ≡ b → total (shareBelow (suc n)) ks ≡ total (shareBelow n) ks + rowShare t time n
     next n h true u =
         let c = codeAt t n in
         let here : rowOf t c ≡ n = row-is t c s n u refl in
         total-one (shareBelow n) (shareBelow (suc n)) c
         (λ k ne. below-other n k (λ e. ne (sym (row-holds t k (omega arith) .1) ∙ ap (codeAt t) e)))
         (below-here n c here .1) ks once (held-in n u)
-        ∙ ap (plus (total (shareBelow n) ks)) (below-here n c here .0 ∙ share-row c n here h)
+        ∙ ap (λ (m : ℕ). total (shareBelow n) ks + m) (below-here n c here .0 ∙ share-row c n here h)
     next n h false u =
         total-same (shareBelow (suc n)) (shareBelow n) ks (λ k q. below-other n k (λ e. false≢true (sym u ∙ ap (isUsed t) (sym e) ∙ row-holds t k (omega arith) .0)))
-        ∙ sym (ap (plus (total (shareBelow n) ks)) (unused-none n u) ∙ plus-none (total (shareBelow n) ks))
+        ∙ omega (arith, unused-none n u)
 
     keys-total : (n : ℕ) → n ≤ 16 → total (shareBelow n) ks ≡ rowsTotal t time n
     unfolding rowsTotal
     keys-total zero h = total-none (shareBelow 0) ks (λ k. rw (le-ltb (rowOf t k) 0 (omega arith)))
-    keys-total (suc n) h = next n (omega arith) (isUsed t n) refl ∙ ap (λ (c : Counts). plus c (rowShare t time n)) (keys-total n (omega arith))
+    keys-total (suc n) h = next n (omega arith) (isUsed t n) refl ∙ ap (λ (m : ℕ). m + rowShare t time n) (keys-total n (omega arith))
 
     all-below : (k : ℕ) → shareBelow 16 k ≡ shareOf k
     all-below k = by-row (ltb (rowOf t k) 16) refl
       where
-        by-row : (b : Bool) → ltb (rowOf t k) 16 ≡ b → cond b (shareOf k) noneDropped ≡ shareOf k
+        by-row : (b : Bool) → ltb (rowOf t k) 16 ≡ b → cond b (shareOf k) 0 ≡ shareOf k
         by-row true e = refl
         by-row false e = sym (share-none k (ltb-false _ _ e))
 
-    pub counts-add-up : swept t time .counts ≡ total shareOf ks
+    pub counts-add-up : swept t time .dropped ≡ total shareOf ks
     counts-add-up = rows-total t s time 16 (omega arith) ∙ sym (keys-total 16 (omega arith)) ∙ total-same (shareBelow 16) shareOf ks (λ k q. all-below k)
 
 -- the keys that a table holds
 module _ (z : State) (s : Sound (z .table)) where
-  unfoldable pub keysBelow : ℕ → List ℕ
+  unfoldable keysBelow : ℕ → List ℕ
   keysBelow zero = []
   keysBelow (suc n) = cond (isUsed (z .table) n) (codeAt (z .table) n ∷ keysBelow n) (keysBelow n)
 
@@ -190,7 +150,7 @@ module _ (z : State) (s : Sound (z .table)) where
           or-right false c = c
       by-row false q false u′ h′ ih = ih h′ (omega (arith, eqb-false row n q))
 
-  pub distinct-below : (n : ℕ) → distinct (keysBelow n) ≡ true
+  distinct-below : (n : ℕ) → distinct (keysBelow n) ≡ true
   unfolding keysBelow distinct
   distinct-below zero = refl
   distinct-below (suc n) = by-used (isUsed (z .table) n) refl (isIn (codeAt (z .table) n) (keysBelow n)) refl (distinct-below n)
@@ -203,15 +163,15 @@ module _ (z : State) (s : Sound (z .table)) where
       by-used true u false e ih = rw (e, ih)
       by-used false u d e ih = ih
 
-  pub out-holdsNothing : (k : ℕ) → isIn k (keysBelow 16) ≡ false → holding k z ≡ holdsNothing
+  out-holdsNothing : (k : ℕ) → isIn k (keysBelow 16) ≡ false → holding k z ≡ holdsNothing
   out-holdsNothing k h = by-row (ltb (rowOf (z .table) k) 16) refl
     where
       by-row : (b : Bool) → ltb (rowOf (z .table) k) 16 ≡ b → holding k z ≡ holdsNothing
       by-row true e = let l = ltb-true (rowOf (z .table) k) 16 e in absurd (out-below 16 k (rowOf (z .table) k) h l (row-holds (z .table) k l .0) (row-holds (z .table) k l .1))
       by-row false e = absent z s k (ltb-false _ _ e)
 
--- two tables that hold the same are swept with the same counts
-pub counts-same : (z z′ : State) → Sound (z .table) → Sound (z′ .table) → (time : ℕ) → ((k : ℕ) → holding k z ≡ holding k z′) → swept (z .table) time .counts ≡ swept (z′ .table) time .counts
+-- of two tables that hold the same a sweep drops as many keys
+pub counts-same : (z z′ : State) → Sound (z .table) → Sound (z′ .table) → (time : ℕ) → ((k : ℕ) → holding k z ≡ holding k z′) → swept (z .table) time .dropped ≡ swept (z′ .table) time .dropped
 counts-same z z′ s s′ time same =
     let ks = keysBelow z s 16 in
     let once = distinct-below z s 16 in

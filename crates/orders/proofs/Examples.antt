@@ -12,18 +12,15 @@ use Rattle.table.specs.Search.{lowest}
 use Rattle.table.specs.Rows.{freshTable}
 use Rattle.pushing.specs.Joining.{Held, nothing, kept, Fragments, heldOf, isKept, unlike, inconsistentWith, andNew, inOrder, due}
 use Rattle.pushing.specs.Push.{Way, end, joinWay, waiting, missing, joined, answerBy}
-use Rattle.sweeping.specs.Sweep.{noFragments, noneMarkedLast, lackOf, andOne, noneDropped}
-use Rattle.sweeping.proofs.Sweeping.{lack-mark}
 use Rattle.table.proofs.Sound.{fresh-sound}
 use Rattle.pushing.proofs.Sound.{sound}
 use Rattle.orders.specs.Runs.{State, Push, push, sweep, pushed, dropped, finishedBy, after, tells, hasRoom, start, Holding, holding, holdsNothing, repliesTo}
-use Rattle.orders.specs.Shares.{tallyOf, share, total, isIn, distinct}
+use Rattle.orders.specs.Shares.{share, total, isIn, distinct}
 use Rattle.orders.specs.Messages.{Message, Brings, Sent}
 use Rattle.orders.proofs.Telling.{ownWay, own-keep, own-last, byOwn, withNew, tell, answer}
 use Rattle.orders.proofs.Pushing.{Good, Full, no-place, no-row, room-unless}
 use Rattle.orders.proofs.Locality.{has-room, good-after, good-start, untouched, own-push, own-reply, own-sweep}
-use Rattle.orders.proofs.Tallies.{tally-new, tally-nothing}
-use Rattle.orders.proofs.Totals.{none-plus}
+use Rattle.orders.proofs.Totals.{total-alone}
 use Rattle.orders.proofs.Counting.{counts-add-up}
 use Rattle.orders.proofs.Alone.{fresh-holds}
 use Rattle.orders.proofs.Joined.{none-passes, misses}
@@ -111,19 +108,11 @@ module _ (store : List ℕ) (long : 47744 ≤ length store) (p : Push) (lent : 4
     unfolding total distinct isIn
     counts-are time =
         ap dropped (counts-add-up waiting-state (sound (g′ .made)) time (key ∷ []) refl others-none
-        ∙ none-plus (share time (holding key waiting-state)) ∙ ap (share time) holds-it)
+        ∙ total-alone (λ k. share time (holding k waiting-state)) key ∙ ap (share time) holds-it)
 
-    one : tallyOf (withNew holdsNothing p .fragments) 256 ≡ andOne (p .arrival .fragment .number) (p .arrival .fragment .last) noFragments
-    one =
-        tally-new (λ n. nothing) (p .arrival .fragment .number) (heldOf (p .arrival .fragment) (p .payload)) refl 256 (p .byte)
-        ∙ ap (andOne (p .arrival .fragment .number) (p .arrival .fragment .last)) (tally-nothing (λ n. nothing) 256 (λ k. refl))
-
-    lacks : lackOf (tallyOf (withNew holdsNothing p .fragments) 256) ≡ noneMarkedLast
-    lacks = ap lackOf one ∙ lack-mark (andOne (p .arrival .fragment .number) (p .arrival .fragment .last) noFragments) (λ e. omega arith) more
-
-    share-is : (time : ℕ) (b : Bool) → leb 3000 (time - p .arrival .time) ≡ b → share time (withNew holdsNothing p) ≡ cond b (record { empty = 0; unmarked = 1; incomplete = 0; neither = 0 }) noneDropped
+    share-is : (time : ℕ) (b : Bool) → leb 3000 (time - p .arrival .time) ≡ b → share time (withNew holdsNothing p) ≡ cond b 1 0
     unfolding share
-    share-is time b e = rw (e, lacks)
+    share-is time b e = rw e
 
     swept-to : (time : ℕ) (b : Bool) → leb 3000 (time - p .arrival .time) ≡ b → holding key (after waiting-state (sweep time)) ≡ cond b holdsNothing (withNew holdsNothing p)
     swept-to time b e = own-sweep (length store) waiting-state g′ key time ∙ ap (λ (v : Holding). cond (due time (v .first)) holdsNothing v) holds-it ∙ rw e
@@ -132,7 +121,7 @@ module _ (store : List ℕ) (long : 47744 ≤ length store) (p : Push) (lent : 4
     young : leb 3000 (p .arrival .time + 2999 - p .arrival .time) ≡ false
     young = lt-leb 3000 (p .arrival .time + 2999 - p .arrival .time) (omega arith)
 
-    pub stays-at-2999 : (tells waiting-state (sweep (p .arrival .time + 2999)) ≡ dropped noneDropped) × (holding key (after waiting-state (sweep (p .arrival .time + 2999))) ≡ holding key waiting-state)
+    pub stays-at-2999 : (tells waiting-state (sweep (p .arrival .time + 2999)) ≡ dropped 0) × (holding key (after waiting-state (sweep (p .arrival .time + 2999))) ≡ holding key waiting-state)
     stays-at-2999 = (
       counts-are (p .arrival .time + 2999) ∙ ap dropped (share-is (p .arrival .time + 2999) false young),
       swept-to (p .arrival .time + 2999) false young ∙ sym holds-it,
@@ -142,7 +131,7 @@ module _ (store : List ℕ) (long : 47744 ≤ length store) (p : Push) (lent : 4
     old : leb 3000 (p .arrival .time + 3000 - p .arrival .time) ≡ true
     old = le-leb 3000 (p .arrival .time + 3000 - p .arrival .time) (omega arith)
 
-    pub goes-at-3000 : (tells waiting-state (sweep (p .arrival .time + 3000)) ≡ dropped (record { empty = 0; unmarked = 1; incomplete = 0; neither = 0 })) × (holding key (after waiting-state (sweep (p .arrival .time + 3000))) ≡ holdsNothing)
+    pub goes-at-3000 : (tells waiting-state (sweep (p .arrival .time + 3000)) ≡ dropped 1) × (holding key (after waiting-state (sweep (p .arrival .time + 3000))) ≡ holdsNothing)
     goes-at-3000 =
         (counts-are (p .arrival .time + 3000) ∙ ap dropped (share-is (p .arrival .time + 3000) true old), swept-to (p .arrival .time + 3000) true old)
 

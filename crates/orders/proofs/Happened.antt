@@ -52,7 +52,7 @@ happens {z = z} (by-push {p = p} {answer = answer} {table′ = table′} {part�
     let met : Goes w (z .table) (part z p) out (p .arrival) (p .payload) answer table′ part′ out′ = rw long at goes in
     let bytes : shown (pushedOf answer) (p .payload) out′ ≡ finishedBy w (p .payload) = rw (met .answers, met .puts) (finished-shown z p out) in
     ((λ i. record { table = sym (met .keeps) i; store = sym (met .stores) i ++ drop (p .lent) (z .store) }), (λ i. pushed (sym (met .answers) i) (sym bytes i)))
-happens {z = z} (by-sweep e) = (ap (λ (r : Swept). record { table = r .table; store = z .store }) (sym e), ap (λ (r : Swept). dropped (r .counts)) (sym e))
+happens {z = z} (by-sweep e) = (ap (λ (r : Swept). record { table = r .table; store = z .store }) (sym e), ap (λ (r : Swept). dropped (r .dropped)) (sym e))
 
 -- what a run gathers from the calls that pass a test is what the events that pass it have
 module _ (test : State → Call → Bool) (passes : Event → Bool) (agree : (z z′ : State) (e : Event) → Happens z e z′ → test z (callOf e) ≡ passes e) where
@@ -130,7 +130,7 @@ one-key a o = by-key (eqb (keyFor a) (keyFor o)) refl
 
 own-from : (o : Origin) (e : Event) → isOwn (keyFor o) (callOf e) ≡ isFrom o e
 own-from o (push-event a p key out answer out′) = ap (λ (k : ℕ). eqb k (keyFor o)) key ∙ sym (one-key a o)
-own-from o (sweep-event time counts) = refl
+own-from o (sweep-event time many) = refl
 
 about : (o : Origin) (es : List Event) → mine (keyFor o) (map callOf es) ≡ map callOf (those (isAbout o) es)
 unfolding those
@@ -156,7 +156,7 @@ known c (push-event o p key out answer out′ ∷ es) = by-key (eqb (p .arrival 
     by-key true e k = someone's o (sym key ∙ eqb-true _ _ e)
     by-key false e (someone's o′ e′) = someone's o′ e′
     by-key false e (nobody's h) = nobody's (rw (e, h))
-known c (sweep-event time counts ∷ es) = by-rest (known c es)
+known c (sweep-event time many ∷ es) = by-rest (known c es)
   where
     by-rest : Known c (map callOf es) → Known c (sweep time ∷ map callOf es)
     by-rest (someone's o e) = someone's o e

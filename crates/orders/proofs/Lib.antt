@@ -7,14 +7,12 @@ pub mod Effects
 pub mod Sweeps
 pub mod Count
 pub mod Found
-pub mod Tallies
 pub mod Totals
 pub mod Counting
 pub mod Locality
 pub mod Alone
 pub mod Orders
 pub mod Unfinished
-pub mod Reasons
 pub mod Joined
 pub mod Completion
 pub mod Completes

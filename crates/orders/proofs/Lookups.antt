@@ -8,7 +8,7 @@ use lib.Dec.{ltb}
 use borrow.Author.Tests.{eq-eqb, ltb-true, ltb-false}
 use Rattle.table.specs.declared.Table.{Table}
 use Rattle.table.specs.Rows.{ownerOf, placeAt, rowOf, isRowOf, placeOf, bytesAt}
-use Rattle.pushing.specs.Joining.{Held, Kept, nothing, kept, keptAt, heldIn, isKept}
+use Rattle.pushing.specs.Joining.{Held, heldAs, Kept, nothing, kept, keptAt, heldIn, isKept}
 use Rattle.table.proofs.Search.{lowest-is, lowest-none}
 use Rattle.pushing.proofs.Pieces.{kept-out}
 use Rattle.table.proofs.Sound.{Sound, used-row, row-both, place-holds, not-held}
@@ -34,7 +34,7 @@ module _ (t : Table) (c : ℕ) where
 module _ (t : Table) (store : List ℕ) (row n : ℕ) where
   pub kept-there : (i : ℕ) → isKept (keptAt t store i) ≡ ltb i 32
   unfolding keptAt
-  kept-there i = by-order (ltb i 32) (record { version = placeAt t i .version; message-type = placeAt t i .message-type; last = placeAt t i .last; payload = bytesAt store i (placeAt t i .size) })
+  kept-there i = by-order (ltb i 32) (heldAs (placeAt t i) (bytesAt store i (placeAt t i .size)))
     where
       by-order : (b : Bool) (h : Held) → isKept (cond b (kept h) nothing) ≡ b
       by-order true h = refl

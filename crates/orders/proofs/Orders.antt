@@ -20,7 +20,7 @@ use Rattle.machines.proofs.Lists.{those-append, every-remains, every-gathered}
 use Rattle.orders.proofs.Telling.{acts, tell, answer}
 use Rattle.orders.proofs.Pushing.{Good}
 use Rattle.orders.proofs.Locality.{refused-nothing, good-after, good-start, untouched, own-push, own-reply, own-sweep, local-room, local-accepted}
-use Rattle.orders.proofs.Totals.{none-plus, total-same}
+use Rattle.orders.proofs.Totals.{total-same, total-alone}
 use Rattle.orders.proofs.Counting.{counts-add-up, counts-same}
 use Rattle.orders.proofs.Alone.{Lone, echo, fresh-holds}
 use Rattle.machines.proofs.Story as Y
@@ -49,7 +49,7 @@ module _ (store store′ : List ℕ) (long : length store′ ≡ length store) w
         none-refused = R.all-pass (acts n) isAccepted (Good n) (local-accepted n) key (Lone key) (echo n key) calls (start store) (start store′) good good′ lone (fresh-same store store′ key);
       }
 
-  -- the counts of a sweep go by what the keys hold
+  -- the number of a sweep goes by what the keys hold
   common-same : (z z′ : State) (e : Call) → Good n z → Good n z′ → isSweep e ≡ true → ((key : ℕ) → holding key z ≡ holding key z′) → tells z e ≡ tells z′ e
   common-same z z′ (push p) g g′ h same = absurd (false≢true h)
   common-same z z′ (sweep time) g g′ h same = ap dropped (counts-same z z′ (sound (g .made)) (sound (g′ .made)) time same)
@@ -82,7 +82,7 @@ swapped before behind p q apart key =
     by-key false e true f = rw (e, f)
     by-key false e false f = rw (e, f)
 
--- a key that was never pushed holds nothing, and so the counts of a sweep add up over the keys that were ever pushed
+-- a key that was never pushed holds nothing, and so the numbers of sweeps add up over the keys that were ever pushed
 never-pushed : (n key : ℕ) (calls : List Call) (z : State) → Good n z → holding key z ≡ holdsNothing → those (isOwn key) calls ≡ [] → holding key (ends z calls) ≡ holdsNothing
 unfolding run those
 never-pushed n key [] z g h none = h
@@ -118,11 +118,11 @@ module _ (store : List ℕ) where
   untold key calls none = never-pushed (length store) key calls (start store) (good-start store) (fresh-holds store fresh-sound key) none
 
   -- a table that hears one key alone counts that key's share
-  lone-share : (calls : List Call) (time key : ℕ) → swept (ends (start store) (mine key calls) .table) time .counts ≡ share time (holding key (ends (start store) (mine key calls)))
+  lone-share : (calls : List Call) (time key : ℕ) → swept (ends (start store) (mine key calls) .table) time .dropped ≡ share time (holding key (ends (start store) (mine key calls)))
   unfolding total isIn distinct
   lone-share calls time key =
       counts-add-up (ends (start store) (mine key calls)) (sound (run-made (mine key calls))) time (key ∷ []) refl (λ k out. untold k (mine key calls) (not-hers key k (other k out (eqb key k) refl) calls))
-      ∙ none-plus (share time (holding key (ends (start store) (mine key calls))))
+      ∙ total-alone (λ k. share time (holding k (ends (start store) (mine key calls)))) key
     where
       other : (k : ℕ) → (eqb key k || false) ≡ false → (b : Bool) → eqb key k ≡ b → k ≡ key → ⊥
       other k h true e q = true≢false (sym (rw e) ∙ h)
@@ -131,7 +131,7 @@ module _ (store : List ℕ) where
   pub sweeps-add-up : (calls : List Call) (time : ℕ) (keys : List ℕ) → distinct keys ≡ true → ((key : ℕ) → isIn key keys ≡ false → those (isOwn key) calls ≡ []) → AddsUp store calls time keys
   sweeps-add-up calls time keys once pushed =
       counts-add-up (ends (start store) calls) (sound (run-made calls)) time keys once (λ key out. untold key calls (pushed key out))
-      ∙ total-same (λ key. share time (holding key (ends (start store) calls))) (λ key. swept (ends (start store) (mine key (crossed (start store) calls)) .table) time .counts) keys
+      ∙ total-same (λ key. share time (holding key (ends (start store) calls))) (λ key. swept (ends (start store) (mine key (crossed (start store) calls)) .table) time .dropped) keys
       (λ key q. ap (share time) (told-alone store store refl key calls .holds) ∙ sym (lone-share (crossed (start store) calls) time key))
 
 -- what a sweep counts, at every table that the calls made

@@ -8,7 +8,6 @@ use lib.ListN.{length}
 use borrow.Author.Tests.{lt-ltb, le-ltb}
 use Rattle.pushing.specs.Joining.{Since, never, since, isKept, heldOf, andNew, due}
 use Rattle.pushing.specs.Push.{Way, refuse, duplicate, keepAt, openAt, end, joinWay, answerBy}
-use Rattle.sweeping.specs.Sweep.{noneDropped}
 use Rattle.machines.proofs.Story.{Machine}
 use Rattle.orders.specs.Runs.{State, Push, Call, push, sweep, Reply, pushed, dropped, finishedBy, refusedBy, Holding, holdsNothing, after, tells, isOwn, isSweep, holding}
 
@@ -92,10 +91,10 @@ abbrev pub tell : ℕ → Holding → Call → Holding
 tell long v (push p) = byOwn (ownWay long v p) v p
 tell long v (sweep time) = cond (due time (v .first)) holdsNothing v
 
--- the counts of a sweep are not one key's to tell
+-- the number of a sweep is not one key's to tell
 abbrev pub answer : ℕ → Holding → Call → Reply
 answer long v (push p) = pushed (answerBy (ownWay long v p)) (finishedBy (ownWay long v p) (p .payload))
-answer long v (sweep time) = dropped noneDropped
+answer long v (sweep time) = dropped 0
 
 -- the table as a machine that acts key by key
 abbrev pub acts : ℕ → Machine State Call Reply Holding

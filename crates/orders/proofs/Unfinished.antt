@@ -1,21 +1,23 @@
--- What a sweep drops: over any calls a key that has a first time has a fragment, and no fragment that is kept is marked last.
-use mathlib.Core.Path.{_≡_, refl, sym, subst}
+-- What a key holds: a fragment that waits is held as it came; over any calls a key that has a first time has a fragment, and none that is kept is marked last.
+use mathlib.Core.Path.{_≡_, refl, sym, ap, _∙_, subst}
 use mathlib.Core.List.{List, [], _∷_}
-use mathlib.Core.Bool.{Bool, true, false, cond, false≢true}
+use mathlib.Core.Bool.{Bool, true, false, cond, not, false≢true}
 use Prim.Native.Nat.{ℕ, min}
 use lib.Dec.{eqb, ltb}
 use lib.ListN.{length}
 use borrow.Author.Tests.{eqb-true, eqb-false, eq-eqb}
+use Rattle.numbers.specs.Numbers.{gives, refuses}
 use Rattle.table.proofs.Sound.{fresh-sound}
-use Rattle.pushing.specs.Joining.{kept, isKept, isLast, heldOf, andNew, due}
-use Rattle.pushing.specs.Push.{Way, refuse, duplicate, keepAt}
+use Rattle.pushing.specs.Joining.{Held, kept, isKept, isLast, heldOf, andNew, due}
+use Rattle.pushing.specs.Push.{waiting, duplicated, inconsistent, missing, missingLast, single, joined, Way, refuse, duplicate, keepAt, answerBy}
+use Rattle.pushing.specs.Made.{Made}
 use Rattle.pushing.proofs.Ways.{by-ends}
 use Rattle.machines.specs.Machine.{run}
-use Rattle.orders.specs.Runs.{State, Push, Call, push, sweep, after, hasRoom, start, Holding, holding, holdsNothing, ends, forRoom}
+use Rattle.orders.specs.Runs.{State, Push, Call, push, sweep, Reply, pushed, dropped, finishedBy, refusedBy, after, tells, hasRoom, start, Holding, holding, holdsNothing, ends, forRoom}
 use Rattle.orders.specs.Claims.{HasOne, Unfinished}
 use Rattle.orders.proofs.Telling.{ownJoining, ownWay, withNew, byOwn}
 use Rattle.orders.proofs.Pushing.{Good}
-use Rattle.orders.proofs.Locality.{refused-nothing, good-after, good-start, untouched, own-push, own-sweep}
+use Rattle.orders.proofs.Locality.{refused-nothing, good-after, good-start, untouched, own-push, own-reply, own-sweep}
 use Rattle.orders.proofs.Alone.{fresh-holds}
 
 -- what holds of every key's holding
@@ -49,6 +51,46 @@ push-open long v p o = by-tests (ltb (min (p .lent) long) 47744) (ltb 1492 (leng
         by-ends (λ (w : Way). Open (byOwn w v p)) nothing-open nothing-open nothing-open (λ n. nothing-open) (λ n. o) (λ bytes. nothing-open)
         (heldOf (p .arrival .fragment) (p .payload)) (andNew (v .fragments) (p .arrival .fragment .number) (heldOf (p .arrival .fragment) (p .payload))) (p .room)
     by-tests false false false false e = new-open v p o e
+
+-- a fragment that waits is there as it came
+abbrev isWaiting : Reply → Bool
+isWaiting (pushed (gives waiting) bytes) = true
+isWaiting (pushed (gives duplicated) bytes) = false
+isWaiting (pushed (gives inconsistent) bytes) = false
+isWaiting (pushed (gives missing) bytes) = false
+isWaiting (pushed (gives missingLast) bytes) = false
+isWaiting (pushed (gives (single n)) bytes) = false
+isWaiting (pushed (gives (joined n)) bytes) = false
+isWaiting (pushed (refuses n values) bytes) = false
+isWaiting (dropped n) = false
+
+module _ (long : ℕ) (v : Holding) (p : Push) where
+  abbrev new : Held
+  new = heldOf (p .arrival .fragment) (p .payload)
+
+  abbrev Kept-so : Way → Type 0
+  Kept-so w = isWaiting (pushed (answerBy w) (finishedBy w (p .payload))) ≡ true → byOwn w v p .fragments (p .arrival .fragment .number) ≡ kept new
+
+  waits-kept : Kept-so (ownWay long v p)
+  unfolding ownWay
+  waits-kept = by-tests (ltb (min (p .lent) long) 47744) (ltb 1492 (length (p .payload))) (isKept (v .fragments (p .arrival .fragment .number))) (p .arrival .fragment .last)
+    where
+      by-tests : (w x y l : Bool) → Kept-so (cond w (refuse 11 []) (cond x (refuse 12 []) (cond y duplicate (cond l (ownJoining v p) (keepAt 0)))))
+      by-tests true x y l e = absurd (false≢true e)
+      by-tests false true y l e = absurd (false≢true e)
+      by-tests false false true l e = absurd (false≢true e)
+      by-tests false false false true e =
+          by-ends Kept-so (λ e. absurd (false≢true e)) (λ e. absurd (false≢true e)) (λ e. absurd (false≢true e)) (λ n e. absurd (false≢true e)) (λ n e. absurd (false≢true e)) (λ bytes e. absurd (false≢true e))
+          new (andNew (v .fragments) (p .arrival .fragment .number) new) (p .room) e
+      by-tests false false false false e = rw (eq-eqb (p .arrival .fragment .number) (p .arrival .fragment .number) refl)
+
+pub kept-as-pushed : (z : State) → Made (z .table) → (p : Push) (bytes : List ℕ) → tells z (push p) ≡ pushed (gives waiting) bytes
+    → holding (p .arrival .key) (after z (push p)) .fragments (p .arrival .fragment .number) ≡ kept (heldOf (p .arrival .fragment) (p .payload))
+kept-as-pushed z made p bytes told =
+    let g : Good (length (z .store)) z = record { made = made; same-long = refl } in
+    let roomy : hasRoom z (push p) ≡ true = ap (λ (r : Reply). not (refusedBy forRoom r)) told in
+    ap (λ (v : Holding). v .fragments (p .arrival .fragment .number)) (own-push (length (z .store)) z g p roomy)
+    ∙ waits-kept (length (z .store)) (holding (p .arrival .key) z) p (ap isWaiting (sym (own-reply (length (z .store)) z g p roomy) ∙ told))
 
 -- one call leaves it so
 module _ (long : ℕ) (z : State) (g : Good long z) (all : (key : ℕ) → Open (holding key z)) where

@@ -4,12 +4,12 @@ use mathlib.Core.List.{List, [], _∷_, _++_, map}
 use mathlib.Core.Bool.{true, false, not, cond}
 use Prim.Native.Nat.{ℕ, _≤_, _<_}
 use lib.ListN.{length}
-use Rattle.sweeping.specs.declared.Counts.{Counts}
 use Rattle.sweeping.specs.Sweep.{swept}
 use Rattle.table.specs.Rows.{storeSize}
-use Rattle.pushing.specs.Joining.{Fragments, isKept, isLast, due}
+use Rattle.numbers.specs.Numbers.{gives}
+use Rattle.pushing.specs.Joining.{kept, Fragments, isKept, isLast, heldOf, due}
 use Rattle.pushing.specs.declared.Pushed.the-variants.{DuplicatedFragment}
-use Rattle.pushing.specs.Push.{answerBy, outputBy}
+use Rattle.pushing.specs.Push.{waiting, answerBy, outputBy}
 use Rattle.pushing.specs.Show.{shown}
 use Rattle.pushing.specs.Made.{Made}
 use Rattle.reassembler.specs.Keys.{Origin, keyFor}
@@ -21,7 +21,7 @@ use Rattle.stations.specs.Claims.{Reordered as EventsReordered}
 use Rattle.orders.specs.Shares.{share, total, isIn, distinct}
 use Rattle.orders.specs.Messages.{Message, Room, Sent, calls, completing}
 use Rattle.orders.specs.Together.{Mixed, noCall, noEvent, endsTogether, toldTogether, roomForAll}
-use Rattle.orders.specs.Runs.{State, Push, Call, push, sweep, finishedBy, wayOf, isAccepted, isOwn, isSweep, neverFull, hasRoom, after, tells, mine, start, Holding, holding, holdsNothing, ends, crossed, repliesTo, repliesToAccepted, repliesToSweeps}
+use Rattle.orders.specs.Runs.{State, Push, Call, push, sweep, pushed, finishedBy, wayOf, isAccepted, isOwn, isSweep, neverFull, hasRoom, after, tells, mine, start, Holding, holding, holdsNothing, ends, crossed, repliesTo, repliesToAccepted, repliesToSweeps}
 use Rattle.orders.specs.Happened.{Event, push-event, Happens, Happened, callOf, gotBy, replyOf, isRefused, isFull, isFrom, isSweepEvent, isAbout}
 
 -- What a key holds is untouched by every push under another key, refused or not; a refused call changes nothing.
@@ -43,14 +43,14 @@ pub record ToldAlone (key : ℕ) (store store′ : List ℕ) (calls : List Call)
   pub holds : holding key (ends (start store) calls) ≡ holding key (ends (start store′) (mine key (crossed (start store) calls)))
   pub none-refused : every after isAccepted (start store′) (mine key (crossed (start store) calls)) ≡ true
 
--- the counts of a sweep are the sums of the keys' shares, for any list that has each key once that the table holds
+-- the number of a sweep is that of the keys that were due, for any list that has each key once that the table holds
 abbrev pub SharesAddUp : (z : State) (time : ℕ) (keys : List ℕ) → Type 0
-SharesAddUp z time keys = swept (z .table) time .counts ≡ total (λ key. share time (holding key z)) keys
+SharesAddUp z time keys = swept (z .table) time .dropped ≡ total (λ key. share time (holding key z)) keys
 
 -- "Sweep counts add up over the keys that were ever pushed": those of each key's own story, for any list that has each such key once
 abbrev pub AddsUp : (store : List ℕ) (calls : List Call) (time : ℕ) (keys : List ℕ) → Type 0
 AddsUp store calls time keys =
-    swept (ends (start store) calls .table) time .counts ≡ total (λ key. swept (ends (start store) (mine key (crossed (start store) calls)) .table) time .counts) keys
+    swept (ends (start store) calls .table) time .dropped ≡ total (λ key. swept (ends (start store) (mine key (crossed (start store) calls)) .table) time .dropped) keys
 
 -- Document 02, 2026-06: "over any calls from a fresh table every key dropped by a sweep has a fragment and none marked last"
 abbrev pub HasOne : Fragments → Type 0
@@ -59,12 +59,6 @@ HasOne fs = (number : ℕ) × (number < 256) × (isKept (fs number) ≡ true)
 pub record Unfinished (v : Holding) : Type 0 where
   pub some : HasOne (v .fragments)
   pub unmarked : (number : ℕ) → isLast (v .fragments number) ≡ false
-
--- "three have always shown zero"
-pub record OneReason (c : Counts) : Type 0 where
-  pub empty : c .empty ≡ 0
-  pub incomplete : c .incomplete ≡ 0
-  pub neither : c .neither ≡ 0
 
 -- Demand 3: "the same pushes and sweeps, times and lent lengths, where calls under different keys may be reordered, those under one key and the sweeps keep their order, and every push stays on its side of every sweep":
 -- for each key, its pushes with all the sweeps between them are the same list in both
@@ -95,7 +89,7 @@ AskedReordered events events′ = (o : Origin) → map callOf (those (isAbout o)
 abbrev pub NoneFull : List Event → Type 0
 NoneFull events = those isFull events ≡ []
 
--- and its callers got the same: the call's own answers, the bytes that show shows, the counts; and the tables hold the same
+-- and its callers got the same: the call's own answers, the bytes that show shows, the numbers of sweeps; and the tables hold the same
 pub record SameGot (events events′ : List Event) (z z′ : State) : Type 0 where
   pub pushes : (o : Origin) → map gotBy (those (isFrom o) events) ≡ map gotBy (those (isFrom o) events′)
   pub sweeps : map gotBy (those isSweepEvent events) ≡ map gotBy (those isSweepEvent events′)
@@ -149,10 +143,12 @@ pub record Claims : Type 0 where
       → length store′ ≡ length store → (o : Origin) → AskedAlone o events events′ → GotAlone o events events′ z z′
   -- document 02, 2026-05: "From now on a duplicate leaves the kept fragment untouched": what its caller lent comes back as it was
   pub duplicate-untouched : (z z′ : State) (o : Origin) (p : Push) (key : p .arrival .key ≡ keyFor o) (out out′ : List ℕ) → Happens z (push-event o p key out DuplicatedFragment out′) z′ → (z′ ≡ z) × (out′ ≡ out)
-  -- document 02, 2026-06: what a sweep does to each key's holding, what the keys hold that it drops, and what it counts
+  -- "A fragment is its version, type, number, last mark and payload": one that waits is held as it came, its mark included
+  pub kept-as-pushed : (z : State) → Made (z .table) → (p : Push) (bytes : List ℕ) → tells z (push p) ≡ pushed (gives waiting) bytes
+      → holding (p .arrival .key) (after z (push p)) .fragments (p .arrival .fragment .number) ≡ kept (heldOf (p .arrival .fragment) (p .payload))
+  -- document 02, 2026-06: what a sweep does to each key's holding, and what the keys hold that it drops
   pub sweep-drops : (z : State) → Made (z .table) → (time key : ℕ) → holding key (after z (sweep time)) ≡ cond (due time (holding key z .first)) holdsNothing (holding key z)
   pub dropped-unfinished : (store : List ℕ) (calls : List Call) (time key : ℕ) → due time (holding key (ends (start store) calls) .first) ≡ true → Unfinished (holding key (ends (start store) calls))
-  pub one-reason : (store : List ℕ) (calls : List Call) (time : ℕ) → OneReason (swept (ends (start store) calls .table) time .counts)
   -- a message completes: at any table that the calls made, at a fresh one, and among pushes under other keys, where these are all that is left of the key's calls and the run's sweeps
   pub completes : (m : Message) (bring : ℕ → Push) (order : List ℕ) (z : State) → Made (z .table) → storeSize ≤ length (z .store) → holding (m .key) z ≡ holdsNothing → Room m (z .table)
       → Sent m bring order → Completes m bring order z

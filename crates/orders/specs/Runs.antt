@@ -7,7 +7,6 @@ use lib.ListN.{length, take, drop}
 use Rattle.numbers.specs.Numbers.{Answer, gives, refuses}
 use Rattle.table.specs.declared.Table.{Table}
 use Rattle.pushing.specs.declared.Arrival.{Arrival}
-use Rattle.sweeping.specs.declared.Counts.{Counts}
 use Rattle.table.specs.Rows.{freshTable}
 use Rattle.pushing.specs.Joining.{nothing, Fragments, Since, never, heldBy, firstTime}
 use Rattle.pushing.specs.Push.{Heard, Way, way, tableBy, storeBy, outputBy, answerBy}
@@ -33,10 +32,10 @@ pub data Call : Type 0 where
   -- at a time
   sweep : ℕ → Call
 
--- what a call tells as it returns: a push its answer and the finished bytes, a sweep its four counts
+-- what a call tells as it returns: a push its answer and the finished bytes, a sweep how many keys it dropped
 pub data Reply : Type 0 where
   pushed : Answer Heard → List ℕ → Reply
-  dropped : Counts → Reply
+  dropped : ℕ → Reply
 
 -- the finished bytes: what the showing call shows of the payload and of an output, whatever it held (see `finished-shown`): here, of an empty one
 abbrev pub finishedBy : Way → List ℕ → List ℕ
@@ -59,13 +58,13 @@ after s (sweep time) = record { table = swept (s .table) time .table; store = s 
 
 abbrev pub tells : State → Call → Reply
 tells s (push p) = pushed (answerBy (wayOf s p)) (finishedBy (wayOf s p) (p .payload))
-tells s (sweep time) = dropped (swept (s .table) time .counts)
+tells s (sweep time) = dropped (swept (s .table) time .dropped)
 
 -- a call is refused by some number, or for table room
 abbrev pub refusedBy : (ℕ → Bool) → Reply → Bool
 refusedBy test (pushed (gives given) bytes) = false
 refusedBy test (pushed (refuses n values) bytes) = test n
-refusedBy test (dropped c) = false
+refusedBy test (dropped n) = false
 
 abbrev pub isAccepted : State → Call → Bool
 isAccepted s e = not (refusedBy (λ n. true) (tells s e))

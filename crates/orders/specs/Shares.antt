@@ -1,32 +1,18 @@
--- One key's share in the four counts of a sweep, from what the key holds, and the sum over some keys.
+-- One key's share in the number that a sweep answers, from what the key holds, and the sum over some keys.
 use mathlib.Core.List.{List, [], _∷_}
 use mathlib.Core.Bool.{Bool, true, false, cond, not, _&&_, _||_}
-use Prim.Native.Nat.{ℕ, zero, suc, _+_}
+use Prim.Native.Nat.{ℕ, _+_}
 use lib.Dec.{eqb}
-use Rattle.sweeping.specs.declared.Counts.{Counts}
-use Rattle.sweeping.specs.Sweep.{Tally, noFragments, andOne, lackOf, noneDropped, plusOne}
-use Rattle.pushing.specs.Joining.{Kept, nothing, kept, Fragments, due}
+use Rattle.pushing.specs.Joining.{due}
 use Rattle.orders.specs.Runs.{Holding}
 
--- what a sweep looks at in a key's fragments: those of numbers below n
-abbrev pub andKept : ℕ → Kept → Tally → Tally
-andKept number nothing s = s
-andKept number (kept h) s = andOne number (h .last) s
+-- a key that is due counts
+unfoldable pub share : ℕ → Holding → ℕ
+share time v = cond (due time (v .first)) 1 0
 
-unfoldable pub tallyOf : Fragments → ℕ → Tally
-tallyOf fs zero = noFragments
-tallyOf fs (suc n) = andKept n (fs n) (tallyOf fs n)
-
--- a number is one byte: below 256
-unfoldable pub share : ℕ → Holding → Counts
-share time v = cond (due time (v .first)) (plusOne (lackOf (tallyOf (v .fragments) 256)) noneDropped) noneDropped
-
-abbrev pub plus : Counts → Counts → Counts
-plus c d = record { empty = c .empty + d .empty; unmarked = c .unmarked + d .unmarked; incomplete = c .incomplete + d .incomplete; neither = c .neither + d .neither }
-
-unfoldable pub total : (ℕ → Counts) → List ℕ → Counts
-total f [] = noneDropped
-total f (k ∷ ks) = plus (total f ks) (f k)
+unfoldable pub total : (ℕ → ℕ) → List ℕ → ℕ
+total f [] = 0
+total f (k ∷ ks) = total f ks + f k
 
 -- keys in a list, and a list that has none twice
 unfoldable pub isIn : ℕ → List ℕ → Bool

@@ -45,7 +45,7 @@ module _ (t : Table) (s : Sound t) (key : ℕ) (out : 16 ≤ rowOf t key) where
 
 -- a fragment is put into place i, which is not the row's, for a row that does not hold its number
 module _ (t : Table) (s : Sound t) (store payload : List ℕ) (row i : ℕ) (f : Fragment) (h : i < 32) (long : 47744 ≤ length store) (small : length payload ≤ 1492)
-    (once : (j : ℕ) → placeAt t j .owner ≡ ownerOf row → placeAt t j .number ≡ f .number → ⊥) (free : placeAt t i .owner ≡ ownerOf row → ⊥) where
+    (l : f .last ≡ false) (once : (j : ℕ) → placeAt t j .owner ≡ ownerOf row → placeAt t j .number ≡ f .number → ⊥) (free : placeAt t i .owner ≡ ownerOf row → ⊥) where
   abbrev p : Place
   p = placeFor row f (length payload)
 
@@ -88,7 +88,8 @@ module _ (t : Table) (s : Sound t) (store payload : List ℕ) (row i : ℕ) (f :
   new-held : (k : ℕ) → k ≡ f .number → heldIn t′ store′ row k ≡ kept (heldOf f payload)
   new-held k e =
       ap (heldIn t′ store′ row) e ∙ ap (keptAt t′ store′) (sym new-place) ∙ kept-in t′ store′ i h
-      ∙ ap (λ (q : Place). kept (heldAs q (bytesAt store′ i (q .size)))) here ∙ ap (λ (l : List ℕ). kept (heldOf f l)) (bytes-here store payload (i * 1492) (omega arith))
+      ∙ ap (λ (q : Place). kept (heldAs q (bytesAt store′ i (q .size)))) here ∙ ap (λ (bytes : List ℕ). kept (heldAs p bytes)) (bytes-here store payload (i * 1492) (omega arith))
+      ∙ ap (λ (b : Bool). kept (record { version = f .version; message-type = f .«message_type»; last = b; payload = payload })) (sym l)
 
   other-held : (k : ℕ) → (k ≡ f .number → ⊥) → heldIn t′ store′ row k ≡ heldIn t store row k
   other-held k ne = ap (keptAt t′ store′) (other-place k ne) ∙ by-found (ltb (placeOf t row k) 32) refl
@@ -164,14 +165,14 @@ module _ (t : Table) (s : Sound t) (store : List ℕ) (a : Arrival) (payload : L
   told-by went-duplicate = ((λ k. refl), refl)
   told-by (went-keep i h₁ h₂ h₃ l e h k) =
       let free : placeAt t i .owner ≡ 0 = eqb-true _ _ (ap (λ (j : ℕ). isFree (placeAt t j)) e ∙ lowest-holds (λ j. isFree (placeAt t j)) 32 (omega arith)) in
-      (put-held t s store payload own i (a .fragment) h h₁ h₂ (not-held t s own number h₃) (λ f. omega arith), refl)
+      (put-held t s store payload own i (a .fragment) h h₁ h₂ l (not-held t s own number h₃) (λ f. omega arith), refl)
   told-by (went-open i row h₁ h₂ h₃ l e h k e₂ h₄) =
       let free : placeAt t i .owner ≡ 0 = eqb-true _ _ (ap (λ (j : ℕ). isFree (placeAt t j)) e ∙ lowest-holds (λ j. isFree (placeAt t j)) 32 (omega arith)) in
       let spare : getD (t .used) row false ≡ false = ap (λ (r : ℕ). getD (t .used) r false) e₂ ∙ not-true _ (lowest-holds (isSpare t) 16 (omega arith)) in
       let t₁ = withKey t row (a .key) (a .time) in
       let s₁ = open-sound t s row (a .key) (a .time) h₄ k in
       let is-row = opened-row t s row (a .key) (a .time) h₄ k in
-      let put = put-held t₁ s₁ store payload row i (a .fragment) h h₁ h₂ (λ j f g. false≢true (sym spare ∙ s .owned j row f)) (λ f. omega arith) in (
+      let put = put-held t₁ s₁ store payload row i (a .fragment) h h₁ h₂ l (λ j f g. false≢true (sym spare ∙ s .owned j row f)) (λ f. omega arith) in (
         (λ n. ap (λ (r : ℕ). heldIn (withPlace t₁ i (placeFor row (a .fragment) (length payload))) (paste store (i * 1492) payload (length payload)) r n) (sym is-row) ∙ put n
             ∙ ap (λ (x : Kept). cond (eqb n number) (kept new) x) (opened-empty t s row (a .key) (a .time) h₄ k spare store n ∙ sym (absent t s (a .key) k store n))),
         opened-since t s row (a .key) (a .time) h₄ k,

@@ -114,7 +114,7 @@ module _ (p : Table) (row : ℕ) (f : Fragment) (size : ℕ) where
   beyond = beyondIn (p .owners) (p .numbers) (ownerOf row) n
 
   abbrev marked : Bool
-  marked = markedAt (p .lasts) (f .last) (pieceAt (p .owners) (p .numbers) row (f .number) (n - 1))
+  marked = markedAt (f .last) (pieceAt (p .owners) (p .numbers) row (f .number) (n - 1))
 
   abbrev total : ℕ
   total = sizeTo (p .sizes) (p .owners) (p .numbers) row (f .number) size n
@@ -253,7 +253,7 @@ abbrev pub among : Table → List ℕ → ℕ → Fragment → List ℕ → Frag
 among t store row f payload = andNew (heldIn t store row) (f .number) (heldOf f payload)
 
 abbrev pub placesOf : Table → Table
-placesOf t = placesIn (t .«message_types») (t .sizes) (t .owners) (t .numbers) (t .versions) (t .lasts)
+placesOf t = placesIn (t .«message_types») (t .sizes) (t .owners) (t .numbers) (t .versions)
 
 pub place-le : (t : Table) (row k : ℕ) → placeOf t row k ≤ 32
 place-le t row k = numbered-le (t .owners) (t .numbers) (ownerOf row) k
@@ -302,8 +302,8 @@ module _ (t : Table) (store : List ℕ) (row : ℕ) (f : Fragment) (payload : Li
   unfolding reach
   reach-is = lowest-same (λ k. not (isKept (fs k))) (isGap (t .owners) (t .numbers) row (f .number)) 256 (λ k h. gap-is k)
 
-  pub mark-is : (k : ℕ) → (pieceAt (t .owners) (t .numbers) row (f .number) k ≡ 32 → ⊥) → isLast (fs k) ≡ markedAt (t .lasts) (f .last) (pieceAt (t .owners) (t .numbers) row (f .number) k)
-  mark-is k = by-piece (λ (x : Kept) (i : ℕ). (i ≡ 32 → ⊥) → isLast x ≡ markedAt (t .lasts) (f .last) i) k (λ n g. refl) (λ n h g. rw (lt-ltb _ _ h)) (λ n h g. absurd (g refl))
+  pub mark-is : (k : ℕ) → (pieceAt (t .owners) (t .numbers) row (f .number) k ≡ 32 → ⊥) → isLast (fs k) ≡ markedAt (f .last) (pieceAt (t .owners) (t .numbers) row (f .number) k)
+  mark-is k = by-piece (λ (x : Kept) (i : ℕ). (i ≡ 32 → ⊥) → isLast x ≡ markedAt (f .last) i) k (λ n g. refl) (λ n h g. rw (lt-ltb _ _ h)) (λ n h g. absurd (g refl))
 
   pub bytes-are : (k : ℕ) → (pieceAt (t .owners) (t .numbers) row (f .number) k ≡ 32 → ⊥) → payloadOf (fs k) ≡ pieceBytes (t .sizes) store payload (pieceAt (t .owners) (t .numbers) row (f .number) k)
   unfolding pieceBytes

@@ -7,7 +7,6 @@ use Rattle.numbers.specs.Firmness.{Firm}
 use Rattle.table.specs.declared.Table.{Table}
 use Rattle.table.specs.Rows.{freshTable}
 use Rattle.table.specs.Sound.{Sound}
-use Rattle.sweeping.specs.declared.Counts.{Counts}
 use Rattle.sweeping.specs.Sweep.{swept, sweptAs}
 use Rattle.pushing.specs.declared.Arrival.{Arrival}
 use Rattle.pushing.specs.declared.Pushed.{Pushed}
@@ -33,7 +32,7 @@ PushMade = (t : Table) (store out : List ℕ) (a : Arrival) (payload : List ℕ)
     → Goes (way t store a payload (length out)) t store out a payload answer′ t′ store′ out′ → Made t′
 
 abbrev pub SweepMade : Type 0
-SweepMade = (t : Table) (time : ℕ) (t′ : Table) (counts : Counts) → Made t → sweptAs t′ counts ≡ swept t time → Made t′
+SweepMade = (t : Table) (time : ℕ) (t′ : Table) (dropped : ℕ) → Made t → sweptAs t′ dropped ≡ swept t time → Made t′
 
 -- and it is sound
 abbrev pub MadeSound : Type 0

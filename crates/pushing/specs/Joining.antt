@@ -29,12 +29,12 @@ abbrev pub isKept : Kept → Bool
 isKept nothing = false
 isKept (kept h) = true
 
--- as it arrives, and as a place keeps it
+-- as it arrives, and as a place keeps it: none that is kept is marked last, because step 3 of push keeps no other
 abbrev pub heldOf : Fragment → List ℕ → Held
 heldOf f payload = record { version = f .version; message-type = f .«message_type»; last = f .last; payload = payload }
 
 abbrev pub heldAs : Place → List ℕ → Held
-heldAs p payload = record { version = p .version; message-type = p .message-type; last = p .last; payload = payload }
+heldAs p payload = record { version = p .version; message-type = p .message-type; last = false; payload = payload }
 
 -- what place i holds, its bytes from the store
 unfoldable pub keptAt : Table → List ℕ → ℕ → Kept

@@ -38,9 +38,9 @@ unlikeIn owners versions types owner version type = lowest (λ i. eqb (getD owne
 abbrev pub beyondIn : (owners numbers : List ℕ) → (owner number : ℕ) → ℕ
 beyondIn owners numbers owner number = lowest (λ i. eqb (getD owners i 0) owner && ltb number (getD numbers i 0)) places
 
--- a table of which only the six lists of its places are known
-abbrev pub placesIn : (types sizes owners numbers versions : List ℕ) → List Bool → Table
-placesIn types sizes owners numbers versions lasts = record { codes = []; firsts = []; «message_types» = types; sizes = sizes; owners = owners; numbers = numbers; versions = versions; lasts = lasts; used = [] }
+-- a table of which only the five lists of its places are known
+abbrev pub placesIn : (types sizes owners numbers versions : List ℕ) → Table
+placesIn types sizes owners numbers versions = record { codes = []; firsts = []; «message_types» = types; sizes = sizes; owners = owners; numbers = numbers; versions = versions; used = [] }
 
 -- where the piece with number k lies: in a place, at the number of places where there is none, and one behind that where it is the new fragment
 abbrev pub newPiece : ℕ
@@ -52,8 +52,8 @@ pieceAt owners numbers row number k = cond (eqb k number) newPiece (numberedIn o
 abbrev pub sizeAt : List ℕ → (size piece : ℕ) → ℕ
 sizeAt sizes size piece = cond (ltb piece places) (getD sizes piece 0) size
 
-abbrev pub markedAt : List Bool → Bool → ℕ → Bool
-markedAt lasts last piece = cond (ltb piece places) (getD lasts piece false) last
+abbrev pub markedAt : Bool → ℕ → Bool
+markedAt last piece = cond (ltb piece places) false last
 
 unfoldable pub pieceBytes : (sizes store payload : List ℕ) → ℕ → List ℕ
 pieceBytes sizes store payload piece = cond (ltb piece places) (bytesAt store piece (getD sizes piece 0)) payload
@@ -80,7 +80,7 @@ verdictFor p row f size =
     cond (ltb (unlikeIn (p .owners) (p .versions) (p .«message_types») (ownerOf row) (f .version) (f .«message_type»)) places) Inconsistent
     (cond (ltb (countFor (p .owners) (p .numbers) row (f .number)) (f .number)) Missing
     (cond (ltb (beyondIn (p .owners) (p .numbers) (ownerOf row) (countFor (p .owners) (p .numbers) row (f .number))) places) Missing
-    (cond (markedAt (p .lasts) (f .last) (pieceAt (p .owners) (p .numbers) row (f .number) (countFor (p .owners) (p .numbers) row (f .number) - 1)))
+    (cond (markedAt (f .last) (pieceAt (p .owners) (p .numbers) row (f .number) (countFor (p .owners) (p .numbers) row (f .number) - 1)))
     (Message (countFor (p .owners) (p .numbers) row (f .number)) (sizeTo (p .sizes) (p .owners) (p .numbers) row (f .number) size (countFor (p .owners) (p .numbers) row (f .number))))
     MissingLast)))
 

@@ -99,7 +99,7 @@ way t store a payload room =
 
 -- a fragment as its place keeps it
 abbrev pub placeFor : ℕ → Fragment → ℕ → Place
-placeFor row f size = record { message-type = f .«message_type»; size = size; owner = ownerOf row; number = f .number; version = f .version; last = f .last }
+placeFor row f size = record { message-type = f .«message_type»; size = size; owner = ownerOf row; number = f .number; version = f .version }
 
 -- what each way does: to the table, with the size of the payload,
 abbrev pub tableBy : Way → Table → Arrival → ℕ → Table

@@ -139,7 +139,6 @@ fn finish<'a>(
     owners: &'a [u8; PLACES],
     numbers: &'a [u8; PLACES],
     versions: &'a [u8; PLACES],
-    lasts: &'a [bool; PLACES],
     store: &[u8],
     out: &mut [u8],
     row: usize,
@@ -147,10 +146,10 @@ fn finish<'a>(
     payload: &[u8],
 ) -> Chosen
     requires { ⌜ (row ≤ keys) × ((i : ℕ) → getD (now sizes) i 0 ≤ placeSize) × (storeSize ≤ length (now store)) × (length (now payload) ≤ placeSize) ⌝ }
-    ensures { λ r. ⌜ Chooses (joinWayIn (placesIn (now (types .entry)) (now (sizes .entry)) (now (owners .entry)) (now (numbers .entry)) (now (versions .entry)) (now (lasts .entry))) (now (store .entry)) row f (now (payload .entry)) (length (now (out .entry)))) row r (now (out .entry)) (now (out .exit)) ⌝ }
+    ensures { λ r. ⌜ Chooses (joinWayIn (placesIn (now (types .entry)) (now (sizes .entry)) (now (owners .entry)) (now (numbers .entry)) (now (versions .entry))) (now (store .entry)) row f (now (payload .entry)) (length (now (out .entry)))) row r (now (out .entry)) (now (out .exit)) ⌝ }
 {
     let size = payload.len();
-    let verdict = judge(types, sizes, owners, numbers, versions, lasts, row, f, size);
+    let verdict = judge(types, sizes, owners, numbers, versions, row, f, size);
     match verdict {
         Verdict::Inconsistent => ended(row, Pushed::InconsistentMetadata),
         Verdict::Missing => ended(row, Pushed::MissingFragments),
@@ -171,7 +170,7 @@ fn finish<'a>(
 }
 
 // The way of a push for a key with this row, `KEYS` for a new key. The output is joined here; store and table change behind it. Longer than 40 lines: each of
-// the seven lists is lent on its own, and stands on a line of its own, here and in the call.
+// the six lists is lent on its own, and stands on a line of its own, here and in the call.
 pub(crate) fn choose<'a>(
     used: &'a [bool; KEYS],
     types: &'a [u16; PLACES],
@@ -179,7 +178,6 @@ pub(crate) fn choose<'a>(
     owners: &'a [u8; PLACES],
     numbers: &'a [u8; PLACES],
     versions: &'a [u8; PLACES],
-    lasts: &'a [bool; PLACES],
     store: &[u8],
     out: &mut [u8],
     row: usize,
@@ -189,7 +187,7 @@ pub(crate) fn choose<'a>(
     requires { ⌜ (row ≤ keys) × ((i : ℕ) → getD (now sizes) i 0 ≤ placeSize) × (keys ≤ row → places ≤ numberedIn (now owners) (now numbers) (ownerOf row) (f .number)) ⌝ }
     ensures { λ r. ⌜ Chooses (wayBy (length (now (store .entry))) (length (now (payload .entry))) (numberedIn (now (owners .entry)) (now (numbers .entry)) (ownerOf row) (f .number)) (f .last)
         (keepWay (lowestFreeIn (now (owners .entry))) (spareRowIn (now (used .entry))) row)
-        (joinWayIn (placesIn (now (types .entry)) (now (sizes .entry)) (now (owners .entry)) (now (numbers .entry)) (now (versions .entry)) (now (lasts .entry))) (now (store .entry)) row f (now (payload .entry)) (length (now (out .entry))))) row r (now (out .entry)) (now (out .exit)) ⌝ }
+        (joinWayIn (placesIn (now (types .entry)) (now (sizes .entry)) (now (owners .entry)) (now (numbers .entry)) (now (versions .entry))) (now (store .entry)) row f (now (payload .entry)) (length (now (out .entry))))) row r (now (out .entry)) (now (out .exit)) ⌝ }
 {
     if store.len() < STORE_SIZE {
         return refused(Refusal::StoreTooSmall);
@@ -211,7 +209,6 @@ pub(crate) fn choose<'a>(
             owners,
             numbers,
             versions,
-            lasts,
             store,
             out,
             row,

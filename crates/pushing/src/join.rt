@@ -50,11 +50,12 @@ pub(crate) fn size_at(sizes: &[u16; PLACES], size: usize, piece: usize) -> usize
     size
 }
 
-pub(crate) fn marked_at(lasts: &[bool; PLACES], last: bool, piece: usize) -> bool
-    ensures { λ r. ⌜ r ≡ markedAt (now (lasts .entry)) last piece ⌝ }
+// Whether a piece is marked last: none that is kept is, and the new fragment as it says.
+pub(crate) fn marked_at(last: bool, piece: usize) -> bool
+    ensures { λ r. ⌜ r ≡ markedAt last piece ⌝ }
 {
     if piece < PLACES {
-        return lasts[piece];
+        return false;
     }
     last
 }
@@ -104,13 +105,12 @@ pub(crate) fn judge<'a>(
     owners: &'a [u8; PLACES],
     numbers: &'a [u8; PLACES],
     versions: &'a [u8; PLACES],
-    lasts: &'a [bool; PLACES],
     row: usize,
     f: Fragment,
     size: usize,
 ) -> Verdict
     requires { ⌜ (row ≤ keys) × (size ≤ placeSize) × ((i : ℕ) → getD (now sizes) i 0 ≤ placeSize) ⌝ }
-    ensures { λ r. ⌜ r ≡ verdictFor (placesIn (now (types .entry)) (now (sizes .entry)) (now (owners .entry)) (now (numbers .entry)) (now (versions .entry)) (now (lasts .entry))) row f size ⌝ }
+    ensures { λ r. ⌜ r ≡ verdictFor (placesIn (now (types .entry)) (now (sizes .entry)) (now (owners .entry)) (now (numbers .entry)) (now (versions .entry))) row f size ⌝ }
 {
     let owner = row as u8 + 1;
     if find_unlike(owners, versions, types, owner, f.version, f.message_type) < PLACES {
@@ -126,7 +126,7 @@ pub(crate) fn judge<'a>(
         return Verdict::Missing;
     }
     let highest = piece_at(owners, numbers, row, f.number, (count - 1) as u8);
-    if marked_at(lasts, f.last, highest) {
+    if marked_at(f.last, highest) {
         return Verdict::Message {
             count,
             total: reached.total,

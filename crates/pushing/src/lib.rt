@@ -67,7 +67,6 @@ pub fn push_step(t: Table, store: &mut [u8], out: &mut [u8], a: Arrival, payload
         &t.owners,
         &t.numbers,
         &t.versions,
-        &t.lasts,
         store,
         out,
         row,

@@ -44,6 +44,5 @@ pub(crate) fn with_fragment(
     n.owners[place] = row as u8 + 1;
     n.numbers[place] = a.fragment.number;
     n.versions[place] = a.fragment.version;
-    n.lasts[place] = a.fragment.last;
     n
 }

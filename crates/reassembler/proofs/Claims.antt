@@ -15,7 +15,7 @@ use Rattle.reassembler.specs.Claims.{Firmness}
 pub firmness : Firmness
 firmness = record {
   push = λ t store out a payload p q x y i. (one-answer (p .0) (q .0) (x .answers ∙ sym (y .answers)) i, (x .keeps ∙ sym (y .keeps)) i, (x .stores ∙ sym (y .stores)) i, (x .puts ∙ sym (y .puts)) i);
-  sweep = λ t time p q x y. ap (λ (s : Swept). (s .counts, s .table)) (x ∙ sym y);
+  sweep = λ t time p q x y. ap (λ (s : Swept). (s .dropped, s .table)) (x ∙ sym y);
   show = λ answer payload out. both (λ (bytes : List ℕ). bytes ≡ shown (pushedOf answer) (now payload) (now out)) (λ (place : ℕ × ℕ). place ≡ shownFrom (pushedOf answer) payload out .ptr) (by-equation _) (by-equation _);
   key-of = λ s0 s1 s2 s3 s4 s5 id. by-equation (keyOf (s0 ∷ s1 ∷ s2 ∷ s3 ∷ s4 ∷ s5 ∷ []) id);
 }

@@ -2,7 +2,6 @@
 
 use pushing::Arrival;
 use pushing::Pushed;
-use sweeping::Counts;
 use table::Table;
 ghost use mathlib.Core.Path.{_≡_};
 ghost use mathlib.Core.List.{[], _∷_};
@@ -60,11 +59,11 @@ pub fn push(t: &mut Table, store: &mut [u8], out: &mut [u8], a: Arrival, payload
     stepped.answer
 }
 
-// Sweep, altering the caller's table itself: a thin shell over sweep_step.
-pub fn sweep(t: &mut Table, time: u64) -> Counts
+// Sweep, altering the caller's table itself: a thin shell over sweep_step. The answer is how many keys were dropped.
+pub fn sweep(t: &mut Table, time: u64) -> usize
     ensures { λ r. ⌜ sweptAs (now (t .exit)) r ≡ swept (now (t .entry)) time ⌝ }
 {
     let swept = sweeping::sweep_step(*t, time);
     *t = swept.table;
-    swept.counts
+    swept.dropped
 }

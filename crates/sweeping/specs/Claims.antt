@@ -6,6 +6,6 @@ use Rattle.table.specs.declared.Table.{Table}
 use Rattle.sweeping.specs.declared.Swept.{Swept}
 use Rattle.sweeping.specs.Sweep.{swept}
 
--- any two tables with counts that its contract allows are one
+-- any two tables with a number that its contract allows are one
 pub record Firmness : Type 0 where
   pub sweep-step : (t : Table) (time : ℕ) → Firm {A = Swept} (λ r. r ≡ swept t time)

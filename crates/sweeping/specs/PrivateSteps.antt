@@ -1,27 +1,19 @@
 -- What the private functions answer, in the words of the other files. No public contract cites this one.
-use mathlib.Core.List.{List, []}
-use mathlib.Core.Bool.{Bool}
-use Prim.Native.Nat.{ℕ, _≤_}
-use Rattle.table.specs.declared.Table.{Table}
-use Rattle.sweeping.specs.declared.Counts.{Counts}
-use Rattle.sweeping.specs.declared.ages.Contents.{Contents}
-use Rattle.table.specs.Rows.{Place}
-use Rattle.sweeping.specs.Sweep.{Tally}
+use mathlib.Core.Path.{_≡_}
+use mathlib.Core.List.{List}
+use mathlib.Core.Bool.{Bool, true, false, _&&_}
+use Prim.Native.Nat.{ℕ, _≤_, _<_}
+use lib.ListN.{getD}
+use Rattle.table.specs.Rows.{keys}
+use Rattle.sweeping.specs.Sweep.{isOld}
 
--- what a sweep looks at in a place, and a table of which only that is known
-abbrev pub placeWith : (owner number : ℕ) → Bool → Place
-placeWith owner number last = record { message-type = 0; size = 0; owner = owner; number = number; version = 0; last = last }
+-- a row's key is too old, by the lists that are lent
+abbrev pub oldIn : List Bool → List ℕ → (now-ms row : ℕ) → Bool
+oldIn used firsts now-ms row = getD used row false && isOld now-ms (getD firsts row 0)
 
-abbrev pub tableWith : (owners numbers : List ℕ) → List Bool → Table
-tableWith owners numbers lasts = record { codes = []; firsts = []; «message_types» = []; sizes = []; owners = owners; numbers = numbers; versions = []; lasts = lasts; used = [] }
-
--- what a row holds, as the code has it
-abbrev pub asTally : Contents → Tally
-asTally s = record { many = s .many; beyond = s .beyond; marked = s .marked }
-
--- no count is above n
-pub record Within (n : ℕ) (c : Counts) : Type 0 where
-  pub empty : c .empty ≤ n
-  pub unmarked : c .unmarked ≤ n
-  pub incomplete : c .incomplete ≤ n
-  pub neither : c .neither ≤ n
+-- r is the next such row from `from` on, or the number of keys
+pub record Next (used : List Bool) (firsts : List ℕ) (now-ms from r : ℕ) : Type 0 where
+  pub behind : from ≤ r
+  pub within : r ≤ keys
+  pub young : (k : ℕ) → from ≤ k → k < r → oldIn used firsts now-ms k ≡ false
+  pub old : r < keys → oldIn used firsts now-ms r ≡ true

@@ -2,27 +2,17 @@
 
 mod ages;
 
-use ages::is_expired;
-use ages::tally_of;
-use ages::with_key_dropped;
+use ages::next_expired;
 use table::KEYS;
 use table::Table;
 use table::without_key;
 ghost use mathlib.Core.Path.{_≡_};
 ghost use Rattle.sweeping.specs.Sweep.{swept};
 
-// How many keys a sweep dropped: with no fragments; with none marked last; with a marked one but fewer kept than the highest number plus 1; and others.
-#[repr(C)]
-pub struct Counts {
-    pub empty: u8,
-    pub unmarked: u8,
-    pub incomplete: u8,
-    pub neither: u8,
-}
-
+// The table after a sweep, and how many keys were dropped.
 pub struct Swept {
     pub table: Table,
-    pub counts: Counts,
+    pub dropped: usize,
 }
 
 // The table without the keys that are too old at `time`, and how many they were.
@@ -30,20 +20,12 @@ pub fn sweep_step(t: Table, time: u64) -> Swept
     ensures { λ r. ⌜ r ≡ swept t time ⌝ }
 {
     let mut n = t;
-    let mut counts = Counts {
-        empty: 0,
-        unmarked: 0,
-        incomplete: 0,
-        neither: 0,
-    };
-    let mut row: usize = 0;
+    let mut dropped: usize = 0;
+    let mut row = next_expired(&n.used, &n.firsts, 0, time);
     while row < KEYS {
-        if is_expired(n.used[row], n.firsts[row], time) {
-            let held = tally_of(&n.owners, &n.numbers, &n.lasts, row);
-            counts = with_key_dropped(counts, held);
-            n = without_key(n, row);
-        }
-        row += 1;
+        n = without_key(n, row);
+        dropped += 1;
+        row = next_expired(&n.used, &n.firsts, row + 1, time);
     }
-    Swept { table: n, counts }
+    Swept { table: n, dropped }
 }

@@ -1,4 +1,4 @@
--- Places, put together from their six lists, after each change: a fragment is put, a key is dropped. The laws that only go through a place's own words stand on these.
+-- Places, put together from their five lists, after each change: a fragment is put, a key is dropped. The laws that only go through a place's own words stand on these.
 use mathlib.Core.Path.{_≡_, refl, sym, ap, _∙_, subst}
 use mathlib.Core.List.{List}
 use mathlib.Core.Bool.{Bool, true, false, cond}
@@ -20,7 +20,6 @@ fresh-long = record {
   owners = length-replicate {A = ℕ} 32 0;
   numbers = length-replicate {A = ℕ} 32 0;
   versions = length-replicate {A = ℕ} 32 0;
-  lasts = length-replicate 32 false;
 }
 
 pub put-long : (t : Table) → Long t → (i : ℕ) (p : Place) → Long (withPlace t i p)
@@ -30,7 +29,6 @@ put-long t l i p = record {
   owners = length-set (t .owners) i (p .owner) ∙ l .owners;
   numbers = length-set (t .numbers) i (p .number) ∙ l .numbers;
   versions = length-set (t .versions) i (p .version) ∙ l .versions;
-  lasts = length-set (t .lasts) i (p .last) ∙ l .lasts;
 }
 
 pub drop-long : (t : Table) → Long t → (row : ℕ) → Long (without t row)
@@ -41,7 +39,6 @@ drop-long t l row = record {
   owners = wiped-length (ownerOf row) 0 (t .owners) (t .owners) ∙ l .owners;
   numbers = wiped-length (ownerOf row) 0 (t .owners) (t .numbers) ∙ l .numbers;
   versions = wiped-length (ownerOf row) 0 (t .owners) (t .versions) ∙ l .versions;
-  lasts = wiped-length (ownerOf row) false (t .owners) (t .lasts) ∙ l .lasts;
 }
 
 -- a list of one element, and an element after one was set
@@ -64,7 +61,6 @@ fresh-place i = λ j. record {
   owner = all-same {A = ℕ} 32 i 0 j;
   number = all-same {A = ℕ} 32 i 0 j;
   version = all-same {A = ℕ} 32 i 0 j;
-  last = all-same 32 i false j;
 }
 
 -- a place after a fragment was put
@@ -76,7 +72,6 @@ module _ (t : Table) (i : ℕ) (p : Place) where
     owner = getD-set-same (t .owners) i (p .owner) 0 (omega (arith, l .owners)) j;
     number = getD-set-same (t .numbers) i (p .number) 0 (omega (arith, l .numbers)) j;
     version = getD-set-same (t .versions) i (p .version) 0 (omega (arith, l .versions)) j;
-    last = getD-set-same (t .lasts) i (p .last) false (omega (arith, l .lasts)) j;
   }
 
   pub put-elsewhere : (k : ℕ) → (k ≡ i → ⊥) → placeAt (withPlace t i p) k ≡ placeAt t k
@@ -86,7 +81,6 @@ module _ (t : Table) (i : ℕ) (p : Place) where
     owner = getD-set-other (t .owners) i k (p .owner) 0 ne j;
     number = getD-set-other (t .numbers) i k (p .number) 0 ne j;
     version = getD-set-other (t .versions) i k (p .version) 0 ne j;
-    last = getD-set-other (t .lasts) i k (p .last) false ne j;
   }
 
   pub after-put : Long t → i < 32 → (P : Place → Type 0) (k : ℕ) → (k ≡ i → P p) → ((k ≡ i → ⊥) → P (placeAt t k)) → P (placeAt (withPlace t i p) k)
@@ -108,7 +102,6 @@ freedIn p b = record {
   owner = cond b 0 (p .owner);
   number = cond b 0 (p .number);
   version = cond b 0 (p .version);
-  last = cond b false (p .last);
 }
 
 pub freed-at : (t : Table) (row i : ℕ) → placeAt (without t row) i ≡ freed row (placeAt t i)
@@ -122,7 +115,6 @@ freed-at t row i = listwise ∙ together (eqb (placeAt t i .owner) (ownerOf row)
       owner = wiped-at (ownerOf row) 0 (omega arith) (t .owners) (t .owners) i j;
       number = wiped-at (ownerOf row) 0 (omega arith) (t .owners) (t .numbers) i j;
       version = wiped-at (ownerOf row) 0 (omega arith) (t .owners) (t .versions) i j;
-      last = wiped-at (ownerOf row) false (omega arith) (t .owners) (t .lasts) i j;
     }
 
     together : (b : Bool) → freedIn (placeAt t i) b ≡ cond b freePlace (placeAt t i)

@@ -161,7 +161,7 @@ module _ (t : Table) (s : Sound t) (row key time : ℕ) (in-16 : row < 16) (new 
 
   -- the lists of places stay
   opened-long : Long t → Long (withKey t row key time)
-  opened-long l = record { types = l .types; sizes = l .sizes; owners = l .owners; numbers = l .numbers; versions = l .versions; lasts = l .lasts }
+  opened-long l = record { types = l .types; sizes = l .sizes; owners = l .owners; numbers = l .numbers; versions = l .versions }
 
   pub open-sound : Sound (withKey t row key time)
   open-sound = record {

@@ -20,20 +20,19 @@ placeSize = 1492
 abbrev pub storeSize : ℕ
 storeSize = places * placeSize
 
--- what a place holds: a fragment, but for its payload's bytes; its owner is 1 more than the row that it belongs to, and 0 where the place holds nothing
+-- what a place holds: a fragment, but for its payload's bytes and its last mark (only fragments that are not marked are kept); its owner is 1 more than the row that it belongs to, and 0 where the place holds nothing
 pub record Place : Type 0 where
   pub message-type : ℕ
   pub size : ℕ
   pub owner : ℕ
   pub number : ℕ
   pub version : ℕ
-  pub last : Bool
 
 abbrev pub ownerOf : ℕ → ℕ
 ownerOf row = row + 1
 
 abbrev pub freePlace : Place
-freePlace = record { message-type = 0; size = 0; owner = 0; number = 0; version = 0; last = false }
+freePlace = record { message-type = 0; size = 0; owner = 0; number = 0; version = 0 }
 
 abbrev pub freshTable : Table
 freshTable =
@@ -45,7 +44,6 @@ freshTable =
       owners = replicate places 0;
       numbers = replicate places 0;
       versions = replicate places 0;
-      lasts = replicate places false;
       used = replicate keys false;
     }
 
@@ -63,7 +61,7 @@ isSpare t row = not (getD (t .used) row false)
 abbrev pub spareRow : Table → ℕ
 spareRow t = lowest (isSpare t) keys
 
--- place i, put together from its six lists
+-- place i, put together from its five lists
 abbrev pub placeAt : Table → ℕ → Place
 placeAt t i =
     record {
@@ -72,7 +70,6 @@ placeAt t i =
       owner = getD (t .owners) i 0;
       number = getD (t .numbers) i 0;
       version = getD (t .versions) i 0;
-      last = getD (t .lasts) i false;
     }
 
 -- the place in which a row holds the fragment with a number, the number of places where it holds none
@@ -100,7 +97,6 @@ withKey t row key time =
       owners = t .owners;
       numbers = t .numbers;
       versions = t .versions;
-      lasts = t .lasts;
       used = set (t .used) row true;
     }
 
@@ -114,7 +110,6 @@ withPlace t i p =
       owners = set (t .owners) i (p .owner);
       numbers = set (t .numbers) i (p .number);
       versions = set (t .versions) i (p .version);
-      lasts = set (t .lasts) i (p .last);
       used = t .used;
     }
 
@@ -135,7 +130,6 @@ without t row =
       owners = wiped (ownerOf row) 0 (t .owners) (t .owners);
       numbers = wiped (ownerOf row) 0 (t .owners) (t .numbers);
       versions = wiped (ownerOf row) 0 (t .owners) (t .versions);
-      lasts = wiped (ownerOf row) false (t .owners) (t .lasts);
       used = set (t .used) row false;
     }
 

@@ -6,14 +6,13 @@ use lib.ListN.{length, getD}
 use Rattle.table.specs.declared.Table.{Table}
 use Rattle.table.specs.Rows.{keys, places, placeSize, ownerOf, placeAt}
 
--- the six lists have their length
+-- the five lists have their length
 pub record Long (t : Table) : Type 0 where
   pub types : length (t .«message_types») ≡ places
   pub sizes : length (t .sizes) ≡ places
   pub owners : length (t .owners) ≡ places
   pub numbers : length (t .numbers) ≡ places
   pub versions : length (t .versions) ≡ places
-  pub lasts : length (t .lasts) ≡ places
 
 pub record Sound (t : Table) : Type 0 where
   pub codes-long : length (t .codes) ≡ keys

@@ -1,7 +1,7 @@
 // A list of the places after those of an owner are freed.
 use crate::PLACES;
 ghost use mathlib.Core.Path.{_≡_};
-ghost use mathlib.Core.Bool.{false, cond};
+ghost use mathlib.Core.Bool.{cond};
 ghost use Prim.Native.Nat.{_≤_};
 ghost use lib.ListN.{length};
 ghost use Rattle.table.specs.Rows.{places, wiped};
@@ -19,13 +19,7 @@ fn number_or_none(free: bool, x: u16) -> u16
     if free { 0 } else { x }
 }
 
-fn mark_or_none(free: bool, x: bool) -> bool
-    ensures { λ r. ⌜ r ≡ cond free false x ⌝ }
-{
-    if free { false } else { x }
-}
-
-// What the places of an owner hold is set to nothing, in a list of bytes, of numbers, of marks.
+// What the places of an owner hold is set to nothing, in a list of bytes, of numbers.
 pub(crate) fn free_bytes(owners: &[u8; PLACES], owner: u8, xs: &mut [u8; PLACES])
     requires { ⌜ (1 ≤ owner) × (length (now owners) ≡ places) ⌝ }
     ensures { λ _. ⌜ now (xs .exit) ≡ wiped owner 0 (now (owners .entry)) (now (xs .entry)) ⌝ }
@@ -46,18 +40,6 @@ pub(crate) fn free_numbers(owners: &[u8; PLACES], owner: u8, xs: &mut [u16; PLAC
     while i < PLACES {
         let free = owners[i] == owner;
         xs[i] = number_or_none(free, xs[i]);
-        i += 1;
-    }
-}
-
-pub(crate) fn free_marks(owners: &[u8; PLACES], owner: u8, xs: &mut [bool; PLACES])
-    requires { ⌜ (1 ≤ owner) × (length (now owners) ≡ places) ⌝ }
-    ensures { λ _. ⌜ now (xs .exit) ≡ wiped owner false (now (owners .entry)) (now (xs .entry)) ⌝ }
-{
-    let mut i: usize = 0;
-    while i < PLACES {
-        let free = owners[i] == owner;
-        xs[i] = mark_or_none(free, xs[i]);
         i += 1;
     }
 }

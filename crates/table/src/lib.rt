@@ -4,7 +4,6 @@
 mod freeing;
 
 use freeing::free_bytes;
-use freeing::free_marks;
 use freeing::free_numbers;
 ghost use mathlib.Core.Path.{_≡_};
 ghost use Rattle.table.specs.Rows.{freshTable, droppedKey};
@@ -18,8 +17,8 @@ pub const PLACE_SIZE: usize = 1492;
 
 pub const STORE_SIZE: usize = PLACES * PLACE_SIZE;
 
-// Each key is a row of three lists, and each place a row of the six others: a kept fragment, but for its payload, which lies in the lent store. Each list is an
-// array of its own, which a look-up can be lent.
+// Each key is a row of three lists, and each place a row of the five others: a kept fragment, but for its payload, which lies in the lent store, and its last
+// mark: no fragment that is kept is marked. Each list is an array of its own, which a look-up can be lent.
 #[repr(C)]
 pub struct Table {
     pub codes: [u64; KEYS],
@@ -32,7 +31,6 @@ pub struct Table {
     pub owners: [u8; PLACES],
     pub numbers: [u8; PLACES],
     pub versions: [u8; PLACES],
-    pub lasts: [bool; PLACES],
     pub used: [bool; KEYS],
 }
 
@@ -48,7 +46,6 @@ pub fn fresh() -> Table
         owners: [0u8; PLACES],
         numbers: [0u8; PLACES],
         versions: [0u8; PLACES],
-        lasts: [false; PLACES],
         used: [false; KEYS],
     }
 }
@@ -69,7 +66,6 @@ pub fn without_key(t: Table, row: usize) -> Table
         free_bytes(&owners, owner, &mut n.owners);
         free_bytes(&owners, owner, &mut n.numbers);
         free_bytes(&owners, owner, &mut n.versions);
-        free_marks(&owners, owner, &mut n.lasts);
     }
     n
 }

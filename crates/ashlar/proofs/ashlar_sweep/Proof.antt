@@ -1,4 +1,4 @@
--- `ashlar_sweep` meets its contract: a walk of its MIR. The table is lent on to `sweep` for good (`gave-ref`), whose counts are returned. Assumes nothing.
+-- `ashlar_sweep` meets its contract: a walk of its MIR. The table is lent on to `sweep` for good (`gave-ref`), whose number is returned. Assumes nothing.
 use mathlib.Core.Path.{_≡_, refl}
 use Prim.Native.Nat.{ℕ, _<_, _^_}
 use mathlib.Core.List.{[], _∷_, List}
@@ -18,12 +18,11 @@ use types.Run.{look, init, forget, stop, hop, from, load, addr, and-then, no-mor
 use sound.WpLaws.{FmC, fmOf, WpFn-mono}
 use denote.RattleType.{owns}
 use denote.Laws.{Is, shows}
-use denote.Plain.{uint-vals, uint-tells}
-use denote.Builtin.{u64}
+use denote.Plain.{uint-vals, uint-tells, uint-lawful}
+use denote.Builtin.{u64, usize}
 use denote.Ref.{RefT, MutRef, ptr-vals, mut-tells}
 use denote.Signature.{plain}
 use denote.Steps.{peeks, heard, nothing}
-use denote.Struct.Laws as LL
 use denote.Triple.Entry.{onEntry}
 use denote.Triple.Spec.{Meets, tripleOf}
 use denote.Triple.Statement.{Contract, Triple}
@@ -33,10 +32,7 @@ use denote.Triple.Table.{entered, cited}
 use denote.Triple.Walked.{says, Stays, gave-ref, stay-dropped, walkOf, AllGo, goes-gave-ref, goes-dropped, Walks, ends-at, walked, walk-meets}
 use denote.Exit.{yes}
 use Rattle.table.specs.declared.Table.{Table}
-use Rattle.sweeping.specs.declared.Counts.{Counts}
 use Rattle.sweeping.specs.Sweep.{swept, sweptAs}
-use Rattle.sweeping.proofs.Counts as N
-use Rattle.sweeping.proofs.Counts.Laws as N′
 use Rattle.table.proofs.Table as T
 use Rattle.reassembler.proofs.sweep as callee
 use Rattle.reassembler.proofs.sweep.Symbol as callee-def
@@ -67,8 +63,8 @@ module _ {M : Type 1} (𝓤 : URA M) (H : Heap 𝓤) (A : Atoms 𝓤) (W : Given
   abbrev Post : Val → SProp 𝓤
   Post = walkOf 𝓤 H A f.ended stayed (f.clauses 𝓤 H A mem run) .post (((κ, tt), (q, tt), tt, a, at), tt)
 
-  -- counts and the table's last value
-  abbrev Says : Counts → Table → Type 0
+  -- the number and the table's last value
+  abbrev Says : ℕ → Table → Type 0
   Says r h′ = sweptAs h′ r ≡ swept h n
 
   -- the call: what is had on entry is what it asks
@@ -78,10 +74,10 @@ module _ {M : Type 1} (𝓤 : URA M) (H : Heap 𝓤) (A : Atoms 𝓤) (W : Given
   handed : ent 𝓤 (onEntry 𝓤 H A f.signature (κ, tt) (q, tt) a at) (Callee 𝓤 H A mem run .pre to)
   handed = qed W ((‵ (flft κ q) ⊛ ‵ ftrue) ∷ ‵ (owns (MutRef (named 0) κ T.the-row ∷ u64 ∷ []) a at) ∷ []) ∵ join ! $ frame ! $ done !
 
-  exits : (r : Counts) (h′ : Table) (w : Val) → Says r h′
-      → ent 𝓤 (⋆ 𝓤 H A ((‵ (flft κ q) ⊛ ‵ ftrue) ∷ ‵ (fres γ (T.the-row .coded .code h′)) ∷ ‵ (N.the-row .own r (w ∷ [])) ∷ [])) (Post w)
+  exits : (r : ℕ) (h′ : Table) (w : Val) → Says r h′
+      → ent 𝓤 (⋆ 𝓤 H A ((‵ (flft κ q) ⊛ ‵ ftrue) ∷ ‵ (fres γ (T.the-row .coded .code h′)) ∷ ‵ (usize .own r (w ∷ [])) ∷ [])) (Post w)
   exits r h′ w e =
-      qed W ((‵ (flft κ q) ⊛ ‵ ftrue) ∷ ‵ (fres γ (T.the-row .coded .code h′)) ∷ ‵ (N.the-row .own r (w ∷ [])) ∷ []) ∵
+      qed W ((‵ (flft κ q) ⊛ ‵ ftrue) ∷ ‵ (fres γ (T.the-row .coded .code h′)) ∷ ‵ (usize .own r (w ∷ [])) ∷ []) ∵
       suffices ! _ (ends-at 𝓤 H A f.ended stayed (f.clauses 𝓤 H A mem run) W (((κ, tt), (q, tt), tt, a, at), tt) w r (h′, (tt, tt)) (tt, (tt, tt))) $ says ! e $ frame ! $
       nothing ! $ nothing ! $ fjoin ! $ move ! (1 ∷ 0 ∷ []) $ fjoin ! $ frame ! $ done !
 
@@ -96,11 +92,11 @@ module _ {M : Type 1} (𝓤 : URA M) (H : Heap 𝓤) (A : Atoms 𝓤) (W : Given
         move ! (8 ∷ 9 ∷ []) $ use2 W (raw (Callee 𝓤 H A mem run .pre to)) handed $
         -- [pre; _3 (1); _2 (3); _1 (5); _0 (7); …]
         calls-at ! fm (Callee 𝓤 H A mem run) known to (and-then ! (load ! (from ! (stop !)) (look ! 1 refl)) (and-then ! (load ! (from ! (stop !)) (look ! 3 refl)) (no-more !))) (λ w.
-        use1 W (later (some (λ (r : Counts). ((‵ (flft κ q) ⊛ ‵ ftrue) ⊛ ‵ (N.the-row .own r (w ∷ []))) ⊛ raw (ensured 𝓤 H A callee.ended (callee.clauses 𝓤 H A mem run) (κ, tt) a tt r)))) (id⊢ 𝓤 _) $ await ! tt $ pick ! (λ r.
+        use1 W (later (some (λ (r : ℕ). ((‵ (flft κ q) ⊛ ‵ ftrue) ⊛ ‵ (usize .own r (w ∷ []))) ⊛ raw (ensured 𝓤 H A callee.ended (callee.clauses 𝓤 H A mem run) (κ, tt) a tt r)))) (id⊢ 𝓤 _) $ await ! tt $ pick ! (λ r.
         split ! $ move ! (1 ∷ []) $ use1 W (some (λ (zs : Table × (Unit {0} × Unit {0})). ‵ (lasts callee.ended (κ, tt) a zs) ⊛ raw (fact 𝓤 (Says r (zs .0))))) (id⊢ 𝓤 _) $ pick ! (λ zs.
-        split ! $ move ! (1 ∷ []) $ heard ! (Says r (zs .0)) (λ e. fsplit ! $ move ! (2 ∷ []) $ split ! $ move ! (1 ∷ []) $ peeks ! N.the-row (Is N.the-row) (shows 𝓤 H A N.the-row) r (w ∷ []) (λ is.
+        split ! $ move ! (1 ∷ []) $ heard ! (Says r (zs .0)) (λ e. fsplit ! $ move ! (2 ∷ []) $ split ! $ move ! (1 ∷ []) $ peeks ! usize (Is usize) (shows 𝓤 H A usize) r (w ∷ []) (λ is.
         -- [the result; the tokens; the table's last value; true; _3 (4); _2 (6); _1 (8); _0 (10); …]
-        land ! (from ! (stop !)) (init ! 10 refl (LL.lawful N.the-type N′.the-laws 𝓤 H A W .typed r _ is .0)) $
+        land ! (from ! (stop !)) (init ! 10 refl (uint-lawful 𝓤 H A W w64 .typed r _ is .0)) $
         returns ! (look ! 10 refl) $ forget ! 4 refl $ forget ! 6 refl $ forget ! 8 refl $ forget ! 10 refl $
         move ! (10 ∷ 11 ∷ []) $ free1 ! $ move ! (8 ∷ 9 ∷ []) $ free1 ! $ move ! (6 ∷ 7 ∷ []) $ free1 ! $ move ! (4 ∷ 5 ∷ []) $ free1 ! $ free0 ! $
         keep ! (1 ∷ 2 ∷ 0 ∷ []) $ by ! (exits r (zs .0) w e))))))))))

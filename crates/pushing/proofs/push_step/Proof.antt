@@ -20,10 +20,10 @@ use Rattle.pushing.proofs.push_step.Tie as tie
 -- once the choice is made
 module _ (c : tie.After-choose) where
   abbrev start : tie.Start
-  start = c .before .before .before .before .before .before .before .before .before .before .before .before .before .before .before .before .before .before
+  start = c .before .before .before .before .before .before .before .before .before .before .before .before .before .before .before .before .before
 
   abbrev searched : tie.After-find-key
-  searched = c .before .before .before .before .before .before .before .before .before .before .before
+  searched = c .before .before .before .before .before .before .before .before .before .before
 
   abbrev t : Table
   t = start .args .t1
@@ -56,18 +56,18 @@ module _ (c : tie.After-choose) where
   did change told = done t s stored arrival payload (length lent) row (searched .find-key .ensures .0) byte (c .choose .result .change) change (c .choose .ensures .changes) told
 
   goes : (t′ : Table) (stored′ : List ℕ) → t′ ≡ tableBy its t arrival (length payload) → stored′ ≡ storeBy its stored payload
-      → Goes its t stored lent arrival payload (c .choose .result .answer) t′ stored′ (c .choose .last .1 .1 .1 .1 .1 .1 .1 .1 .0)
+      → Goes its t stored lent arrival payload (c .choose .result .answer) t′ stored′ (c .choose .last .1 .1 .1 .1 .1 .1 .1 .0)
   goes t′ stored′ keeps stores =
       goes-so _ its (way-is t s stored arrival payload (length lent) row (searched .find-key .ensures .0) byte) t stored lent arrival payload row (c .choose .result)
-      (c .choose .last .1 .1 .1 .1 .1 .1 .1 .1 .0) (c .choose .ensures) t′ stored′ keeps stores
+      (c .choose .last .1 .1 .1 .1 .1 .1 .1 .0) (c .choose .ensures) t′ stored′ keeps stores
 
 find-key-requires : tie.Need-find-key-requires
 find-key-requires c κs = search needs
 
 choose-requires : tie.Need-choose-requires
 choose-requires c κs =
-    let s = sound (c .before .before .before .before .before .before .before .before .before .before .before .before .before .before .before .before .before .pre) in
-    (c .before .before .before .before .before .before .before .before .before .before .find-key .ensures .1, s .small, λ h. no-place (c .before .before .before .before .before .before .before .before .before .before .before .before .before .before .before .before .before .args .t1) s (c .before .before .before .before .before .before .before .before .before .before .find-key .result) (c .before .before .before .before .before .before .before .before .before .before .before .before .before .before .before .before .before .args .a .fragment .number) h)
+    let s = sound (c .before .before .before .before .before .before .before .before .before .before .before .before .before .before .before .before .pre) in
+    (c .before .before .before .before .before .before .before .before .before .find-key .ensures .1, s .small, λ h. no-place (c .before .before .before .before .before .before .before .before .before .before .before .before .before .before .before .before .args .t1) s (c .before .before .before .before .before .before .before .before .before .find-key .result) (c .before .before .before .before .before .before .before .before .before .before .before .before .before .before .before .before .args .a .fragment .number) h)
 
 enum-told : tie.Need-enum-told
 enum-told c = search needs
@@ -103,7 +103,7 @@ same-length-2 c = search needs
 returns : tie.Need-returns
 returns c =
     let does = did (c .before .before .before .before) _ (c .enum-told .given .1) in
-    goes (c .before .before .before .before) (c .before .before .before .before .before .before .before .before .before .before .before .before .before .before .before .before .before .before .before .before .before .before .args .t1) (now (c .before .before .before .before .before .before .before .before .before .before .before .before .before .before .before .before .before .before .before .before .before .before .args .store)) (does .0) (does .1)
+    goes (c .before .before .before .before) (c .before .before .before .before .before .before .before .before .before .before .before .before .before .before .before .before .before .before .before .before .before .args .t1) (now (c .before .before .before .before .before .before .before .before .before .before .before .before .before .before .before .before .before .before .before .before .before .args .store)) (does .0) (does .1)
 
 same-length-3 : tie.Need-same-length-3
 same-length-3 c = search needs
@@ -125,7 +125,7 @@ same-length-6 c = search needs
 returns-3 : tie.Need-returns-3
 returns-3 c =
     let does = did (c .before .before .before .before .before) _ (c .before .enum-told2 .given .1) in
-    goes (c .before .before .before .before .before) (c .without-key .result) (now (c .before .before .before .before .before .before .before .before .before .before .before .before .before .before .before .before .before .before .before .before .before .before .before .args .store)) (c .without-key .ensures ∙ does .0) (does .1)
+    goes (c .before .before .before .before .before) (c .without-key .result) (now (c .before .before .before .before .before .before .before .before .before .before .before .before .before .before .before .before .before .before .before .before .before .before .args .store)) (c .without-key .ensures ∙ does .0) (does .1)
 
 pub push-step-spec : {M : Type 1} → statement M
 push-step-spec =

@@ -23,7 +23,7 @@ use denote.RattleType.{owns}
 use denote.Laws.{Is, shows}
 use denote.Memory.{mem}
 use denote.Plain.{uint-vals, uint-tells, uint-makes}
-use denote.Builtin.{u64}
+use denote.Builtin.{u64, usize}
 use denote.Ref.{RefT, MutRef, ptr-vals, mut-tells, now}
 use denote.Signature.{plain}
 use denote.Steps.{only, opens, closes, owned, peeks, heard, nothing}
@@ -40,8 +40,6 @@ use denote.Exit.{yes}
 use Rattle.table.specs.declared.Table.{Table}
 use Rattle.sweeping.specs.declared.Swept.{Swept}
 use Rattle.sweeping.specs.Sweep.{swept}
-use Rattle.sweeping.proofs.Counts as N
-use Rattle.sweeping.proofs.Counts.Laws as N′
 use Rattle.table.proofs.Table as T
 use Rattle.table.proofs.Table.Laws as T′
 use Rattle.sweeping.proofs.Swept as S
@@ -67,10 +65,10 @@ new-is : (r : Swept) (w : Val) → Is S.the-row r (w ∷ []) → Is T.the-row (r
 new-is r w is = LL.owed S.the-type S′.the-laws r _ is .0
 
 abbrev cv : Swept → Val
-cv r = LL.val N.the-type N′.the-laws (r .counts)
+cv r = vint w64 (r .dropped)
 
-counts-are : (r : Swept) (w : Val) → Is S.the-row r (w ∷ []) → Is N.the-row (r .counts) (cv r ∷ [])
-counts-are r w is = LL.owed S.the-type S′.the-laws r _ is .1 .0
+number-is : (r : Swept) (w : Val) → Is S.the-row r (w ∷ []) → Is usize (r .dropped) (cv r ∷ [])
+number-is r w is = LL.owed S.the-type S′.the-laws r _ is .1 .0
 
 module _ {M : Type 1} (𝓤 : URA M) (H : Heap 𝓤) (A : Atoms 𝓤) (W : Given 𝓤 H A) (at-mem : Memory → SProp 𝓤) (run : Routine → Fun 𝓤) (κ₀ : Lft) (q₀ : Share) (b o : ℕ) (γ : GName) (h : Table) (n : ℕ) (n-fits : n < 2 ^ 64) where
   abbrev Arg : Type 0
@@ -100,15 +98,15 @@ module _ {M : Type 1} (𝓤 : URA M) (H : Heap 𝓤) (A : Atoms 𝓤) (W : Given
       nothing ! $ owned ! u64 (Is u64) (uint-makes 𝓤 H A W w64) n _ (refl, n-fits) $ fjoin ! $ owned ! T.the-row (Is T.the-row) (LL.makes T.the-type T′.the-plain 𝓤 H A) h _ h-is $ fjoin ! $
       nothing ! $ join ! $ frame ! $ done !
 
-  exits : (r : Swept) → Is N.the-row (r .counts) (cv r ∷ []) → Says r
+  exits : (r : Swept) → Is usize (r .dropped) (cv r ∷ []) → Says r
       → ent 𝓤 (⋆ 𝓤 H A (‵ (fobs γ (T.the-row .coded .code (r .table))) ∷ ‵ (fbor κ₀ (Body (mem T.the-row) b o γ)) ∷ ‵ (flft κ₀ q₀) ∷ [])) (Post (cv r))
   exits r fits e =
       qed W (‵ (fobs γ (T.the-row .coded .code (r .table))) ∷ ‵ (fbor κ₀ (Body (mem T.the-row) b o γ)) ∷ ‵ (flft κ₀ q₀) ∷ []) ∵
-      suffices ! _ (ends-at 𝓤 H A f.ended stayed (f.clauses 𝓤 H A at-mem run) W (((κ₀, tt), (q₀, tt), tt, a, at), tt) (cv r) (r .counts) (r .table, (tt, tt)) (tt, (tt, tt))) $ says ! e $
+      suffices ! _ (ends-at 𝓤 H A f.ended stayed (f.clauses 𝓤 H A at-mem run) W (((κ₀, tt), (q₀, tt), tt, a, at), tt) (cv r) (r .dropped) (r .table, (tt, tt)) (tt, (tt, tt))) $ says ! e $
       nothing ! $ move ! (3 ∷ 0 ∷ []) $ join ! $ frame ! $
       -- [obs; the borrow]
       nothing ! $ owned ! u64 (Is u64) (uint-makes 𝓤 H A W w64) n _ (refl, n-fits) $ fjoin ! $
-      move ! (1 ∷ 2 ∷ 0 ∷ []) $ feqI ! (List Val) (vptr b o ∷ []) (vptr b o ∷ []) refl $ fjoin3 ! $ fjoin ! $ owned ! N.the-row (Is N.the-row) (LL.makes N.the-type N′.the-plain 𝓤 H A) (r .counts) _ fits $ move ! (1 ∷ 0 ∷ []) $ done !
+      move ! (1 ∷ 2 ∷ 0 ∷ []) $ feqI ! (List Val) (vptr b o ∷ []) (vptr b o ∷ []) refl $ fjoin3 ! $ fjoin ! $ owned ! usize (Is usize) (uint-makes 𝓤 H A W w64) (r .dropped) _ fits $ move ! (1 ∷ 0 ∷ []) $ done !
 
   module _ (C : Calls 𝓤 H) (Λ : Loops 𝓤 H) (fm : FmC 𝓤 H (W .laws) C) (known : Triple 𝓤 (C #callee) (Callee 𝓤 H A at-mem run)) where
     walk : ent 𝓤 (onEntry 𝓤 H A f.signature (κ₀, tt) (q₀, tt) a at) (WpFn 𝓤 H C Λ code.function (vptr b o ∷ vint w64 n ∷ []) Post)
@@ -134,12 +132,12 @@ module _ {M : Type 1} (𝓤 : URA M) (H : Heap 𝓤) (A : Atoms 𝓤) (W : Given
         land ! (from ! (stop !)) (init ! 9 refl (LL.lawful S.the-type S′.the-laws 𝓤 H A W .typed r _ is .0)) $
         rewrite ! 9 (λ (u : Val). ‵ (fat fullShare S′.mir l₃ 0 u)) (ap only (LL.tells S.the-type S′.the-laws r _ is)) refl $
         assigns ! (of-opd ! (load ! (from ! (fld ! refl (stop !))) (look-in ! 9 (sub ! 0 refl (whole !))))) (from ! (hop ! (look ! 13 refl) (stop !))) (store-raw ! 2 refl (LL.lawful T.the-type T′.the-laws 𝓤 H A W .typed (r .table) _ (new-is r w is) .0)) $
-        assigns ! (of-opd ! (load ! (from ! (fld ! refl (stop !))) (look-in ! 9 (sub ! 1 refl (whole !))))) (from ! (stop !)) (init ! 15 refl (LL.lawful N.the-type N′.the-laws 𝓤 H A W .typed (r .counts) _ (counts-are r w is) .0)) $
+        assigns ! (of-opd ! (load ! (from ! (fld ! refl (stop !))) (look-in ! 9 (sub ! 1 refl (whole !))))) (from ! (stop !)) (init ! 15 refl (tt, record { fits = number-is r w is .1 })) $
         move ! (2 ∷ 3 ∷ 4 ∷ 5 ∷ 6 ∷ []) $ move ! (1 ∷ []) $ drop ! $ owned ! T.the-row (Is T.the-row) (LL.makes T.the-type T′.the-plain 𝓤 H A) (r .table) _ (new-is r w is) $ move ! (1 ∷ 0 ∷ []) $ closes ! tt T.the-row (r .table) (LL.vals T.the-type T′.the-laws (r .table)) b o $
         -- [obs; the borrow; the table's token; the result; true; _4 (5); …; _0 (13); …; true (15)]
         returns ! (look ! 13 refl) $ forget ! 5 refl $ forget ! 7 refl $ forget ! 9 refl $ forget ! 11 refl $ forget ! 13 refl $
         move ! (13 ∷ 14 ∷ []) $ free1 ! $ move ! (11 ∷ 12 ∷ []) $ free1 ! $ move ! (9 ∷ 10 ∷ []) $ free1 ! $ move ! (7 ∷ 8 ∷ []) $ free1 ! $ move ! (5 ∷ 6 ∷ []) $ free1 ! $ free0 ! $
-        keep ! (0 ∷ 1 ∷ 2 ∷ []) $ by ! (exits r (counts-are r w is) e)))))))))))))
+        keep ! (0 ∷ 1 ∷ 2 ∷ []) $ by ! (exits r (number-is r w is) e)))))))))))))
 
 module _ {M : Type 1} (𝓤 : URA M) (H : Heap 𝓤) (A : Atoms 𝓤) (W : Given 𝓤 H A) (at-mem : Memory → SProp 𝓤) (run : Routine → Fun 𝓤) where
   f-walks : (C : Calls 𝓤 H) (Λ : Loops 𝓤 H) → FmC 𝓤 H (W .laws) C → Triple 𝓤 (C #callee) (Callee 𝓤 H A at-mem run) → Walks 𝓤 H A f.ended stayed (WpFn 𝓤 H C Λ code.function) (f.clauses 𝓤 H A at-mem run)

@@ -48,23 +48,19 @@ free-bytes-requires-2 c κs = (omega arith, long (c .before .before .before .bef
 free-bytes-requires-3 : tie.Need-free-bytes-requires-3
 free-bytes-requires-3 c κs = (omega arith, long (c .before .before .before .before .before .before .before .before .before .before .before .before .before .before))
 
-free-marks-requires : tie.Need-free-marks-requires
-free-marks-requires c κs = (omega arith, long (c .before .before .before .before .before .before .before .before .before .before .before .before .before .before .before .before .before))
-
 returns : tie.Need-returns
 unfolding without
 returns c =
-    let e = c .before .before .before .before .before .before .before .before .before .before .before .before .before .before .before .before .before .before .before in
+    let e = c .before .before .before .before .before .before .before .before .before .before .before .before .before .before .before .before in
     let a = e .before .args in
     rw (lt-ltb (a .row) 16 (e .if1 .taken)) (λ j. record {
       codes = set (a .t .codes) (a .row) 0;
       firsts = set (a .t .firsts) (a .row) 0;
-      «message_types» = c .before .before .before .before .before .before .before .before .before .before .before .before .before .before .before .free-numbers .ensures j;
-      sizes = c .before .before .before .before .before .before .before .before .before .before .before .before .free-numbers2 .ensures j;
-      owners = c .before .before .before .before .before .before .before .before .before .free-bytes .ensures j;
-      numbers = c .before .before .before .before .before .before .free-bytes2 .ensures j;
-      versions = c .before .before .before .free-bytes3 .ensures j;
-      lasts = c .free-marks .ensures j;
+      «message_types» = c .before .before .before .before .before .before .before .before .before .before .before .before .free-numbers .ensures j;
+      sizes = c .before .before .before .before .before .before .before .before .before .free-numbers2 .ensures j;
+      owners = c .before .before .before .before .before .before .free-bytes .ensures j;
+      numbers = c .before .before .before .free-bytes2 .ensures j;
+      versions = c .free-bytes3 .ensures j;
       used = set (a .t .used) (a .row) false;
     })
 
@@ -88,6 +84,5 @@ without-key-spec =
     free-bytes-requires
     free-bytes-requires-2
     free-bytes-requires-3
-    free-marks-requires
     returns
     returns-2)

@@ -19,7 +19,7 @@ module _ (c : tie.Start) where
 
   abbrev joins : Way
   joins =
-      joinWayIn (placesIn (now (c .args .types)) (now (c .args .sizes)) (now (c .args .owners)) (now (c .args .numbers)) (now (c .args .versions)) (now (c .args .lasts))) (now (c .args .store)) (c .args .row) (c .args .f) (now (c .args .payload))
+      joinWayIn (placesIn (now (c .args .types)) (now (c .args .sizes)) (now (c .args .owners)) (now (c .args .numbers)) (now (c .args .versions))) (now (c .args .store)) (c .args .row) (c .args .f) (now (c .args .payload))
       (length (now (c .args .out)))
 
   abbrev keeps : Way

@@ -21,7 +21,7 @@ module _ (c : tie.After-judge) where
   start = c .before .before .before .before
 
   abbrev places : Table
-  places = placesIn (now (start .args .types)) (now (start .args .sizes)) (now (start .args .owners)) (now (start .args .numbers)) (now (start .args .versions)) (now (start .args .lasts))
+  places = placesIn (now (start .args .types)) (now (start .args .sizes)) (now (start .args .owners)) (now (start .args .numbers)) (now (start .args .versions))
 
   abbrev upto : ℕ → List ℕ
   upto = piecesTo (now (start .args .sizes)) (now (start .args .owners)) (now (start .args .numbers)) (now (start .args .store)) (start .args .row) (start .args .f .number) (now (start .args .payload))

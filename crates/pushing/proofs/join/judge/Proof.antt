@@ -24,7 +24,7 @@ find-unlike-requires c κs = search needs
 returns : tie.Need-returns
 returns c =
     let a = c .before .before .args in
-    sym (verdict-unlike (placesIn (now (a .types)) (now (a .sizes)) (now (a .owners)) (now (a .numbers)) (now (a .versions)) (now (a .lasts))) (a .row) (a .f) (a .size) (omega (arith, c .before .find-unlike .ensures .0, c .if1 .taken)))
+    sym (verdict-unlike (placesIn (now (a .types)) (now (a .sizes)) (now (a .owners)) (now (a .numbers)) (now (a .versions))) (a .row) (a .f) (a .size) (omega (arith, c .before .find-unlike .ensures .0, c .if1 .taken)))
 
 reach-of-requires : tie.Need-reach-of-requires
 reach-of-requires c κs = (c .before .before .pre .0, c .before .before .pre .1, c .before .before .pre .2)
@@ -36,7 +36,7 @@ returns-2 : tie.Need-returns-2
 returns-2 c =
     let a = c .before .before .before .before .before .args in
     let count-is : c .before .before .reach-of .result .count ≡ countFor (now (a .owners)) (now (a .numbers)) (a .row) (a .f .number) = ap (λ (z : Reach). z .count) (c .before .before .reach-of .ensures .0) in
-    sym (verdict-new (placesIn (now (a .types)) (now (a .sizes)) (now (a .owners)) (now (a .numbers)) (now (a .versions)) (now (a .lasts))) (a .row) (a .f) (a .size) (omega (arith, c .before .before .before .before .find-unlike .ensures .0, c .before .before .before .if1 .left)) (omega (arith, c .if2 .taken)))
+    sym (verdict-new (placesIn (now (a .types)) (now (a .sizes)) (now (a .owners)) (now (a .numbers)) (now (a .versions))) (a .row) (a .f) (a .size) (omega (arith, c .before .before .before .before .find-unlike .ensures .0, c .before .before .before .if1 .left)) (omega (arith, c .if2 .taken)))
 
 find-beyond-requires : tie.Need-find-beyond-requires
 find-beyond-requires c κs = search needs
@@ -46,7 +46,7 @@ returns-3 c =
     let a = c .before .before .before .before .before .before .before .args in
     let count-is : c .before .before .before .before .reach-of .result .count ≡ countFor (now (a .owners)) (now (a .numbers)) (a .row) (a .f .number) = ap (λ (z : Reach). z .count) (c .before .before .before .before .reach-of .ensures .0) in
     let beyond-is : c .before .find-beyond .result ≡ beyondIn (now (a .owners)) (now (a .numbers)) (ownerOf (a .row)) (countFor (now (a .owners)) (now (a .numbers)) (a .row) (a .f .number)) = c .before .find-beyond .ensures .0 ∙ ap (beyondIn (now (a .owners)) (now (a .numbers)) (ownerOf (a .row))) count-is in
-    sym (verdict-beyond (placesIn (now (a .types)) (now (a .sizes)) (now (a .owners)) (now (a .numbers)) (now (a .versions)) (now (a .lasts))) (a .row) (a .f) (a .size) (omega (arith, c .before .before .before .before .before .before .find-unlike .ensures .0, c .before .before .before .before .before .if1 .left)) (omega (arith, c .before .before .if2 .left)) (omega (arith, c .if3 .taken)))
+    sym (verdict-beyond (placesIn (now (a .types)) (now (a .sizes)) (now (a .owners)) (now (a .numbers)) (now (a .versions))) (a .row) (a .f) (a .size) (omega (arith, c .before .before .before .before .before .before .find-unlike .ensures .0, c .before .before .before .before .before .if1 .left)) (omega (arith, c .before .before .if2 .left)) (omega (arith, c .if3 .taken)))
 
 sub-piece-at : tie.Need-sub-piece-at
 sub-piece-at c =
@@ -68,19 +68,19 @@ returns-4 c =
     let a = c .before .before .before .before .before .before .before .before .before .before .args in
     let count-is : c .before .before .before .before .before .before .before .reach-of .result .count ≡ countFor (now (a .owners)) (now (a .numbers)) (a .row) (a .f .number) = ap (λ (z : Reach). z .count) (c .before .before .before .before .before .before .before .reach-of .ensures .0) in
     let beyond-is : c .before .before .before .before .find-beyond .result ≡ beyondIn (now (a .owners)) (now (a .numbers)) (ownerOf (a .row)) (countFor (now (a .owners)) (now (a .numbers)) (a .row) (a .f .number)) = c .before .before .before .before .find-beyond .ensures .0 ∙ ap (beyondIn (now (a .owners)) (now (a .numbers)) (ownerOf (a .row))) count-is in
-    let marked-is : c .before .marked-at .result ≡ markedAt (now (a .lasts)) (a .f .last) (pieceAt (now (a .owners)) (now (a .numbers)) (a .row) (a .f .number) (countFor (now (a .owners)) (now (a .numbers)) (a .row) (a .f .number) - 1)) =
-    c .before .marked-at .ensures ∙ ap (markedAt (now (a .lasts)) (a .f .last)) (c .before .before .piece-at .ensures ∙ ap (λ (n : ℕ). pieceAt (now (a .owners)) (now (a .numbers)) (a .row) (a .f .number) (n - 1)) count-is) in
+    let marked-is : c .before .marked-at .result ≡ markedAt (a .f .last) (pieceAt (now (a .owners)) (now (a .numbers)) (a .row) (a .f .number) (countFor (now (a .owners)) (now (a .numbers)) (a .row) (a .f .number) - 1)) =
+    c .before .marked-at .ensures ∙ ap (markedAt (a .f .last)) (c .before .before .piece-at .ensures ∙ ap (λ (n : ℕ). pieceAt (now (a .owners)) (now (a .numbers)) (a .row) (a .f .number) (n - 1)) count-is) in
     let total-is : c .before .before .before .before .before .before .before .reach-of .result .total ≡ sizeTo (now (a .sizes)) (now (a .owners)) (now (a .numbers)) (a .row) (a .f .number) (a .size) (countFor (now (a .owners)) (now (a .numbers)) (a .row) (a .f .number)) = ap (λ (z : Reach). z .total) (c .before .before .before .before .before .before .before .reach-of .ensures .0) in
-    (λ j. Message (count-is j) (total-is j)) ∙ sym (verdict-message (placesIn (now (a .types)) (now (a .sizes)) (now (a .owners)) (now (a .numbers)) (now (a .versions)) (now (a .lasts))) (a .row) (a .f) (a .size) (omega (arith, c .before .before .before .before .before .before .before .before .before .find-unlike .ensures .0, c .before .before .before .before .before .before .before .before .if1 .left)) (omega (arith, c .before .before .before .before .before .if2 .left)) (omega (arith, c .before .before .before .if3 .left)) (sym marked-is ∙ c .if4 .taken))
+    (λ j. Message (count-is j) (total-is j)) ∙ sym (verdict-message (placesIn (now (a .types)) (now (a .sizes)) (now (a .owners)) (now (a .numbers)) (now (a .versions))) (a .row) (a .f) (a .size) (omega (arith, c .before .before .before .before .before .before .before .before .before .find-unlike .ensures .0, c .before .before .before .before .before .before .before .before .if1 .left)) (omega (arith, c .before .before .before .before .before .if2 .left)) (omega (arith, c .before .before .before .if3 .left)) (sym marked-is ∙ c .if4 .taken))
 
 returns-5 : tie.Need-returns-5
 returns-5 c =
     let a = c .before .before .before .before .before .before .before .before .before .before .args in
     let count-is : c .before .before .before .before .before .before .before .reach-of .result .count ≡ countFor (now (a .owners)) (now (a .numbers)) (a .row) (a .f .number) = ap (λ (z : Reach). z .count) (c .before .before .before .before .before .before .before .reach-of .ensures .0) in
     let beyond-is : c .before .before .before .before .find-beyond .result ≡ beyondIn (now (a .owners)) (now (a .numbers)) (ownerOf (a .row)) (countFor (now (a .owners)) (now (a .numbers)) (a .row) (a .f .number)) = c .before .before .before .before .find-beyond .ensures .0 ∙ ap (beyondIn (now (a .owners)) (now (a .numbers)) (ownerOf (a .row))) count-is in
-    let marked-is : c .before .marked-at .result ≡ markedAt (now (a .lasts)) (a .f .last) (pieceAt (now (a .owners)) (now (a .numbers)) (a .row) (a .f .number) (countFor (now (a .owners)) (now (a .numbers)) (a .row) (a .f .number) - 1)) =
-    c .before .marked-at .ensures ∙ ap (markedAt (now (a .lasts)) (a .f .last)) (c .before .before .piece-at .ensures ∙ ap (λ (n : ℕ). pieceAt (now (a .owners)) (now (a .numbers)) (a .row) (a .f .number) (n - 1)) count-is) in
-    sym (verdict-unmarked (placesIn (now (a .types)) (now (a .sizes)) (now (a .owners)) (now (a .numbers)) (now (a .versions)) (now (a .lasts))) (a .row) (a .f) (a .size) (omega (arith, c .before .before .before .before .before .before .before .before .before .find-unlike .ensures .0, c .before .before .before .before .before .before .before .before .if1 .left)) (omega (arith, c .before .before .before .before .before .if2 .left)) (omega (arith, c .before .before .before .if3 .left)) (sym marked-is ∙ c .if4 .left))
+    let marked-is : c .before .marked-at .result ≡ markedAt (a .f .last) (pieceAt (now (a .owners)) (now (a .numbers)) (a .row) (a .f .number) (countFor (now (a .owners)) (now (a .numbers)) (a .row) (a .f .number) - 1)) =
+    c .before .marked-at .ensures ∙ ap (markedAt (a .f .last)) (c .before .before .piece-at .ensures ∙ ap (λ (n : ℕ). pieceAt (now (a .owners)) (now (a .numbers)) (a .row) (a .f .number) (n - 1)) count-is) in
+    sym (verdict-unmarked (placesIn (now (a .types)) (now (a .sizes)) (now (a .owners)) (now (a .numbers)) (now (a .versions))) (a .row) (a .f) (a .size) (omega (arith, c .before .before .before .before .before .before .before .before .before .find-unlike .ensures .0, c .before .before .before .before .before .before .before .before .if1 .left)) (omega (arith, c .before .before .before .before .before .if2 .left)) (omega (arith, c .before .before .before .if3 .left)) (sym marked-is ∙ c .if4 .left))
 
 pub judge-spec : {M : Type 1} → statement M
 judge-spec =

@@ -55,9 +55,6 @@ element-write-n-7 c = search needs
 element-write-n-8 : tie.Need-element-write-n-8
 element-write-n-8 c = search needs
 
-element-write-n-9 : tie.Need-element-write-n-9
-element-write-n-9 c = search needs
-
 returns : tie.Need-returns
 returns c =
     let a = c .before .args in
@@ -84,5 +81,4 @@ with-fragment-spec =
     element-write-n-6
     element-write-n-7
     element-write-n-8
-    element-write-n-9
     returns)
