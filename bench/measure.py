@@ -190,7 +190,7 @@ def main():
 Made by `bench/run` on {datetime.date.today().isoformat()}; not to be edited by hand. Instructions of x86-64 executed for one turn, counted by an emulator's plugin:
 the difference of runs with {2 * TURNS} and {TURNS} turns, over {TURNS}. Before it is counted, a row's answers are seen to be the same.
 
-- The programs run in one fixed environment, because a copy of the table on the stack costs more or less as the stack lies. With environments of ten lengths ours moved by 48 in a push
+- The programs run in one fixed environment, because a copy of the table on the stack costs more or less as the stack lies. With environments of ten lengths, tried before the requests of document 02, ours moved by 48 in a push
   that completes, by 12 in one that waits and in a sweep that drops none, and by 204 in one that drops all; every bar was kept at each. Walk, typed reads and find did not move. The
   original's rows of push differ a little from run to run.
 - Plain C is `bench/plain.c`: written by hand, zero-copy, with the same checks, refusals and calls as ours.

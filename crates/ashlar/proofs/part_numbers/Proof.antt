@@ -1,7 +1,6 @@
 -- `part_numbers` meets its contract, case by case: a part that was located doesn't end before it starts.
 use Prim.Native.Nat.{_≤_}
 use borrow.Author.Needs.{needs}
-use Rattle.ashlar.specs.PrivateParts.{Ordered}
 use Rattle.ashlar.proofs.part_numbers.Statement.{statement}
 use Rattle.ashlar.proofs.part_numbers.Tie as tie
 
