@@ -6,7 +6,7 @@ use Rattle.records.specs.Reading.{empty, fixed, readRecord}
 use Rattle.layouts.specs.Layouts.{layoutOf, isList}
 use Rattle.layouts.specs.Reading.{countAt, listOf, entriesEnd, endOf, consumedTo, readAs, readValue}
 use Rattle.layouts.specs.Access.{childAt, findEntry, spanOf, ofValue, locateEntry}
-use Rattle.texts.specs.Utf8.{passes}
+use Rattle.utf8.specs.Utf8.{passes}
 use Rattle.texts.specs.Texts.{textKind, isText}
 use Rattle.texts.specs.Reading.{untilZero, pieceAt, piecesAt, radioList, laidOf, validOf, wholeOf, readText}
 use Rattle.texts.specs.Access.{ofText, locateRadio, locateText, locateRadioText}

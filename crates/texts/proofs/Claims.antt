@@ -17,12 +17,11 @@ use Rattle.layouts.specs.Reading.{Consumed, readingOf}
 use Rattle.layouts.specs.Access.{numbersOf, Span, locatedOf, partOf, countedOf}
 use Rattle.layouts.specs.Claims.{Shown}
 use Rattle.layouts.proofs.Claims.{reading-told, located-told, counted-told, part-alone}
-use Rattle.texts.specs.Utf8.{isUtf8}
+use Rattle.utf8.specs.Utf8.{isUtf8}
 use Rattle.texts.specs.Texts.{Piece, field, string, to-end, TextKind, textKind, isText}
 use Rattle.texts.specs.Reading.{Held, pieceAt, Pieces, before, piecesAt, Laid, textIn, allValid, wholeOf, consumedIn, readText}
 use Rattle.texts.specs.Access.{numbered, wholeSpan, textSpan, ofText, radioIn, countIn, locateRadio, countRadios, locateText, locateRadioText}
-use Rattle.texts.specs.Claims.{Firmness, Exactly, Cut, Text, Values, Alone, ConsumedAlone}
-use Rattle.texts.proofs.Exactly as grammar
+use Rattle.texts.specs.Claims.{Firmness, Text, Values, Alone, ConsumedAlone}
 use Rattle.texts.proofs.Whole.{parts, valid, own-within, list-within, each-within}
 use Rattle.texts.proofs.Asked.{asked, answers, Among, text-among, radio-among, one-radio}
 use Rattle.texts.proofs.Local.{all-consumed, whole-alone}
@@ -39,12 +38,6 @@ firmness = record {
   locate-radio-text = λ number s. by-telling locatedOf located-told _;
   radio-text = λ number s. both _ _ (by-equation _) (by-equation _);
 }
-
-pub exactly : Exactly
-exactly = grammar.exactly
-
-pub cut : Cut
-cut = grammar.cut
 
 -- the three kinds, by what a code is compared with
 abbrev picked : Bool → Bool → Bool → Answer TextKind

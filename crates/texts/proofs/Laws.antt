@@ -15,7 +15,7 @@ use Rattle.numbers.proofs.Firm.{never}
 use Rattle.numbers.proofs.Answers.{Given, given, gave, mapped-gave, follows, stops}
 use Rattle.layouts.specs.Reading.{reaching, Listed}
 use Rattle.layouts.proofs.Within.{Within, reaches, cut, reached}
-use Rattle.texts.specs.Utf8.{isUtf8}
+use Rattle.utf8.specs.Utf8.{isUtf8}
 use Rattle.texts.specs.Texts.{Piece, field, string, to-end}
 use Rattle.texts.specs.Reading.{untilZero, Held, held, stringAt, pieceAt, Pieces, before, piecesAt, radioList, textIn, allValid}
 use Rattle.texts.specs.Access.{numbered}

@@ -4,7 +4,7 @@ use mathlib.Core.Bool.{true, false}
 use mathlib.Core.List.{List, [], _∷_}
 use Prim.Native.Nat.{ℕ, _+_, _<_, _≤_}
 use denote.Ref.{RefT, now}
-use lib.ListN.{length, take, drop}
+use lib.ListN.{length, take}
 use Rattle.numbers.specs.Numbers.{Answer, gives, refuses}
 use Rattle.numbers.specs.Firmness.{Firm}
 use Rattle.numbers.specs.Parts.{behind}
@@ -12,7 +12,7 @@ use Rattle.layouts.specs.declared.Path.{Path}
 use Rattle.layouts.specs.Reading.{Consumed, readingOf}
 use Rattle.layouts.specs.Access.{numbersOf, Span, locatedOf, partOf, startIn, countedOf}
 use Rattle.layouts.specs.Claims.{Shown}
-use Rattle.texts.specs.Utf8.{joined, Octets, isUtf8}
+use Rattle.utf8.specs.Utf8.{isUtf8}
 use Rattle.texts.specs.Texts.{TextKind, textKind, isText}
 use Rattle.texts.specs.Reading.{readText}
 use Rattle.texts.specs.Access.{locateRadio, countRadios, locateText, locateRadioText}
@@ -31,18 +31,6 @@ pub record Firmness : Type 0 where
   pub text : (code number : ℕ) (s : RefT (List ℕ)) → FirmPart (locateText code number (now s)) s
   pub locate-radio-text : (number : ℕ) (s : List ℕ) → Firm (λ r. locatedOf r ≡ locateRadioText number s)
   pub radio-text : (number : ℕ) (s : RefT (List ℕ)) → FirmPart (locateRadioText number (now s)) s
-
--- what the test passes is exactly a sequence of RFC 3629's characters
-abbrev pub Exactly : Type 0
-Exactly = (s : List ℕ) → (isUtf8 s ≡ true → Octets s) × (Octets s → isUtf8 s ≡ true)
-
--- where character n of a text starts, and so where the one before it ends
-abbrev pub startOf : {s : List ℕ} → Octets s → ℕ → ℕ
-startOf o n = length (joined (take n (o .list)))
-
--- a text that is cut there is two texts
-abbrev pub Cut : Type 0
-Cut = (s : List ℕ) (o : Octets s) (n : ℕ) → (isUtf8 (take (startOf o n) s) ≡ true) × (isUtf8 (drop (startOf o n) s) ≡ true)
 
 -- a text that is found lies in the q bytes consumed, and is valid
 pub record Text (x : Answer Span) (s : List ℕ) (q : ℕ) : Type 0 where

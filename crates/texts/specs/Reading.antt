@@ -7,7 +7,7 @@ use lib.ListN.{length, getD, take, drop}
 use Rattle.numbers.specs.Numbers.{Answer, gives, refuses, andThen, mapped}
 use Rattle.layouts.specs.Reading.{reaching, Listed, Consumed}
 use Rattle.layouts.specs.Access.{Span, partOf}
-use Rattle.texts.specs.Utf8.{isUtf8}
+use Rattle.utf8.specs.Utf8.{isUtf8}
 use Rattle.texts.specs.Texts.{Piece, field, string, to-end, TextKind, textKind, radio}
 
 -- "In a 64-byte field the text ends before the first zero byte": so many bytes stand before it; all of them, without one

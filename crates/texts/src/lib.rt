@@ -1,9 +1,8 @@
-// Values that hold text, names and addresses of devices: UTF-8 by RFC 3629, the pieces that a text stands in, and a text and a radio asked for by its number.
+// Values that hold text, names and addresses of devices: the pieces that a text stands in, each text UTF-8, and a text and a radio asked for by its number.
 mod access;
 mod pieces;
 mod reading;
 mod rows;
-mod utf8;
 
 use layouts::Counted;
 use layouts::Located;

@@ -1,8 +1,8 @@
 // Pieces that hold text, one behind the other.
 use crate::rows::Piece;
 use crate::rows::wide;
-use crate::utf8::is_utf8;
 use numbers::Refusal;
+use utf8::is_utf8;
 ghost use mathlib.Core.Path.{_≡_};
 ghost use Prim.Native.Nat.{_≤_, _<_};
 ghost use lib.ListN.{length};

@@ -1,13 +1,13 @@
 -- Eight bytes below 0x80 are eight characters.
-use Rattle.texts.proofs.utf8.past_ascii.Statement.{statement}
-use Rattle.texts.proofs.utf8.past_ascii.Tie as tie
+use Rattle.utf8.proofs.past_ascii.Statement.{statement}
+use Rattle.utf8.proofs.past_ascii.Tie as tie
 use borrow.Author.Needs.{needs}
 use mathlib.Core.Path.{_≡_, refl, _∙_}
 use Prim.Native.Nat.{_-_, _≤_}
 use native.Mathlib.Omega.{arith}
 use lib.ListN.{length, drop}
-use Rattle.texts.specs.Utf8.{isUtf8}
-use Rattle.texts.proofs.Grammar.{ascii-eight}
+use Rattle.utf8.specs.Utf8.{isUtf8}
+use Rattle.utf8.proofs.Grammar.{ascii-eight}
 
 abbrev Inv-loop : tie.InvT-loop
 Inv-loop s from i₀ i = (i ≤ length s) × (isUtf8 (drop i₀ s) ≡ isUtf8 (drop i s))

@@ -2,17 +2,17 @@
 ghost use mathlib.Core.Path.{_≡_};
 ghost use Prim.Native.Nat.{_≤_};
 ghost use lib.ListN.{length, drop};
-ghost use Rattle.texts.specs.Utf8.{forms, begun, onward, passes, isUtf8};
-ghost use Rattle.texts.specs.PrivateUtf8.{ranges, awaits, stepTold};
+ghost use Rattle.utf8.specs.Utf8.{forms, begun, onward, isUtf8};
+ghost use Rattle.utf8.specs.PrivateUtf8.{awaits, stepTold};
 
 // Of a character that has begun, so many bytes are still to come: the next one from `low` to `high`, and then tails. None: a character may begin, or the text end.
-pub struct Awaited {
-    pub left: usize,
-    pub low: u8,
-    pub high: u8,
+struct Awaited {
+    left: usize,
+    low: u8,
+    high: u8,
 }
 
-pub enum After {
+enum After {
     Onward(Awaited),
     Refused,
 }
@@ -76,7 +76,7 @@ fn past_ascii(s: &[u8], from: usize) -> usize
 }
 
 // Whether these bytes are characters, one behind the other.
-pub(crate) fn is_utf8(s: &[u8]) -> bool
+pub fn is_utf8(s: &[u8]) -> bool
     ensures { λ r. ⌜ r ≡ isUtf8 (now (s .entry)) ⌝ }
 {
     let mut awaited = Awaited {

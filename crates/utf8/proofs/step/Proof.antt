@@ -1,16 +1,16 @@
 -- A byte begins a character, or is the next of one that has begun.
 use borrow.Author.Needs.{needs}
-use Rattle.texts.proofs.utf8.step.Statement.{statement}
-use Rattle.texts.proofs.utf8.step.Tie as tie
+use Rattle.utf8.proofs.step.Statement.{statement}
+use Rattle.utf8.proofs.step.Tie as tie
 use mathlib.Core.Path.{_≡_, refl, sym, ap, _∙_}
 use mathlib.Core.Option.{none, some}
 use Prim.Native.Nat.{ℕ, zero, suc, _-_, _<_, _≤_}
 use native.Mathlib.Numerals.{sub-one}
 use native.Mathlib.Omega.{arith}
 use lib.ListN.{replicate}
-use Rattle.texts.specs.Utf8.{_to_, tail, onward}
-use Rattle.texts.specs.PrivateUtf8.{ranges, stepTold}
-use Rattle.texts.proofs.Grammar.{in-range, below-range, above-range}
+use Rattle.utf8.specs.Utf8.{_to_, tail, onward}
+use Rattle.utf8.specs.PrivateUtf8.{ranges, stepTold}
+use Rattle.utf8.proofs.Grammar.{in-range, below-range, above-range}
 
 -- what is awaited of a character that has begun
 some-left : (n low high b : ℕ) → 0 < n → low ≤ b → b ≤ high → onward (ranges n low high) b ≡ some (ranges (n - 1) 0x80 0xBF)

@@ -3,10 +3,10 @@ use mathlib.Core.List.{List, [], _∷_}
 use mathlib.Core.Option.{Option, none, some}
 use Prim.Native.Nat.{ℕ, zero, suc}
 use lib.ListN.{replicate}
-use Rattle.texts.specs.Utf8.{Range, _to_, tail}
-use Rattle.texts.specs.declared.utf8.Awaited.{Awaited}
-use Rattle.texts.specs.declared.utf8.After.{After}
-use Rattle.texts.specs.declared.utf8.After.the-variants.{Onward, Refused}
+use Rattle.utf8.specs.Utf8.{Range, _to_, tail}
+use Rattle.utf8.specs.declared.Awaited.{Awaited}
+use Rattle.utf8.specs.declared.After.{After}
+use Rattle.utf8.specs.declared.After.the-variants.{Onward, Refused}
 
 -- so many bytes: the next one from `low` to `high`, and then tails
 abbrev pub ranges : ℕ → ℕ → ℕ → List Range

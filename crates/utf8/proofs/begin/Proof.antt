@@ -1,14 +1,14 @@
 -- Each arm's bytes begin one form of the grammar, and those of the last arm none.
 use borrow.Author.Needs.{needs}
-use Rattle.texts.proofs.utf8.begin.Statement.{statement}
-use Rattle.texts.proofs.utf8.begin.Tie as tie
+use Rattle.utf8.proofs.begin.Statement.{statement}
+use Rattle.utf8.proofs.begin.Tie as tie
 use mathlib.Core.Path.{_≡_, refl, sym, ap, _∙_}
 use mathlib.Core.Logic.{inl, inr}
 use native.Mathlib.Omega.{arith}
 use Prim.Native.Nat.{ℕ, _<_}
-use Rattle.texts.specs.Utf8.{forms}
-use Rattle.texts.specs.PrivateUtf8.{stepTold}
-use Rattle.texts.proofs.Grammar.{Outside, begun-is, begun-none}
+use Rattle.utf8.specs.Utf8.{forms}
+use Rattle.utf8.specs.PrivateUtf8.{stepTold}
+use Rattle.utf8.proofs.Grammar.{Outside, begun-is, begun-none}
 
 -- above the last form
 beyond : (b : ℕ) → 0xF3 < b → (b ≡ 0xF4 → ⊥) → 0xF4 < b

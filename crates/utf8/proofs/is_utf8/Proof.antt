@@ -1,15 +1,15 @@
 -- What is awaited of the bytes from i on decides over all.
-use Rattle.texts.proofs.utf8.is_utf8.Statement.{statement}
-use Rattle.texts.proofs.utf8.is_utf8.Tie as tie
+use Rattle.utf8.proofs.is_utf8.Statement.{statement}
+use Rattle.utf8.proofs.is_utf8.Tie as tie
 use borrow.Author.Needs.{needs}
 use mathlib.Core.Path.{_≡_, sym, _∙_}
 use mathlib.Core.Option.{some}
 use Prim.Native.Nat.{_-_, _≤_}
 use native.Mathlib.Omega.{arith}
 use lib.ListN.{length, getD, drop}
-use Rattle.texts.specs.Utf8.{onward, passes, isUtf8}
-use Rattle.texts.specs.PrivateUtf8.{awaits}
-use Rattle.texts.proofs.Grammar.{goes-on, goes-off, comes-to-end}
+use Rattle.utf8.specs.Utf8.{onward, passes, isUtf8}
+use Rattle.utf8.specs.PrivateUtf8.{awaits}
+use Rattle.utf8.proofs.Grammar.{goes-on, goes-off, comes-to-end}
 
 abbrev Inv-loop : tie.InvT-loop
 Inv-loop s awaited₀ i₀ awaited i = (i ≤ length s) × (isUtf8 s ≡ passes (awaits awaited) (drop i s))

@@ -12,8 +12,8 @@ use lib.Seq.{drop-cons}
 use lib.Bits.{bitOr, and-le-l, and-le-r, or-add-and}
 use lib.Dec.{leb, ltb, eqb, T, eqb·suc-zero}
 use borrow.Author.Tests.{le-leb, lt-leb, leb-true, ltb-true}
-use Rattle.texts.specs.Utf8.{Range, Form, forms, inRange, begun, onward, ended, goesOn, passes, isUtf8}
-use Rattle.texts.specs.PrivateUtf8.{ranges}
+use Rattle.utf8.specs.Utf8.{Range, Form, forms, inRange, begun, onward, ended, goesOn, passes, isUtf8}
+use Rattle.utf8.specs.PrivateUtf8.{ranges}
 
 -- a byte is in a range, or below it, or above it
 pub in-range : (r : Range) (b : ℕ) → r .low ≤ b → b ≤ r .high → inRange r b ≡ true

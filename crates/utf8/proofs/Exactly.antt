@@ -10,9 +10,9 @@ use lib.ListN.{length, take, drop}
 use lib.Seq.{take-append-seam, drop-append-seam}
 use lib.Dec.{leb}
 use borrow.Author.Tests.{leb-true}
-use Rattle.texts.specs.Utf8.{Range, Form, forms, Fits, OneOf, Characters, joined, Octets, inRange, begun, onward, ended, goesOn, passes, isUtf8}
-use Rattle.texts.specs.Claims.{Exactly, startOf, Cut}
-use Rattle.texts.proofs.Grammar.{in-range, increasing, Begins, begun-is}
+use Rattle.utf8.specs.Utf8.{Range, Form, forms, Fits, OneOf, Characters, joined, Octets, inRange, begun, onward, ended, goesOn, passes, isUtf8}
+use Rattle.utf8.specs.Claims.{Exactly, startOf, Cut}
+use Rattle.utf8.proofs.Grammar.{in-range, increasing, Begins, begun-is}
 
 never-true : {A : Type 0} → false ≡ true → A
 never-true e = let z : _≡_ {A = ℕ} 0 1 = cc in absurd (omega arith)

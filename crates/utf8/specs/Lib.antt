@@ -1,0 +1,3 @@
+pub mod Utf8
+pub mod PrivateUtf8
+pub mod Claims
