@@ -25,6 +25,7 @@ measured-one (Measured.Refused f) (Measured.Refused g) e = ap Measured.Refused (
 pub firmness : Firmness
 firmness = record {
   read-record = λ code s. by-telling gotOf read-one _;
+  read-client-association = λ s. by-telling gotOf read-one _;
   code-of = λ item. by-equation _;
   is-record = λ code. by-equation _;
   measure = λ code s. by-telling measuredOf measured-one _;

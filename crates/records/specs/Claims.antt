@@ -13,6 +13,7 @@ use Rattle.records.specs.Reading.{Reading, gotOf, measuredOf, isRecord, 
 -- each public call by its name: any two answers that its contract allows are one
 pub record Firmness : Type 0 where
   pub read-record : (code : ℕ) (s : List ℕ) → Firm (λ r. gotOf r ≡ readRecord code s)
+  pub read-client-association : (s : List ℕ) → Firm (λ r. gotOf r ≡ ofKind Kind.ClientAssociation s)
   pub code-of : (item : Record) → Firm (λ n. n ≡ codeOf (kindOf item))
   pub is-record : (code : ℕ) → Firm (λ b. b ≡ isRecord code)
   pub measure : (code : ℕ) (s : List ℕ) → Firm (λ m. measuredOf m ≡ mapped (λ x. x .consumed) (readRecord code s))

@@ -3,6 +3,8 @@ use numbers::Refusal;
 
 mod reading;
 
+// Who reads client associations and no other kind asks their own reader.
+pub use reading::read_client_association;
 ghost use mathlib.Core.Path.{_≡_};
 ghost use Rattle.records.specs.Values.{bandOf, versionOf, resultOf, profileOf, stateOf, unitsOf};
 ghost use Rattle.numbers.specs.Numbers.{mapped};

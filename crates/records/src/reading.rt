@@ -120,7 +120,7 @@ fn read_link_metric_query(s: &[u8]) -> Read
     fixed(2, true, Record::LinkMetricQuery(query), s)
 }
 
-fn read_client_association(s: &[u8]) -> Read
+pub fn read_client_association(s: &[u8]) -> Read
     ensures { λ r. ⌜ gotOf r ≡ ofKind Kind.ClientAssociation (now (s .entry)) ⌝ }
 {
     let last = byte_at(s, 12);

@@ -10,7 +10,7 @@ use Rattle.records.specs.declared.ClientAssociation.{ClientAssociation}
 use Rattle.records.specs.declared.Kind.{Kind}
 use Rattle.records.specs.declared.Record.{Record}
 use Rattle.records.specs.declared.Read.{Read}
-use Rattle.records.specs.Reading.{Reading, gotOf, readRecord}
+use Rattle.records.specs.Reading.{Reading, gotOf, ofKind, readRecord}
 use Rattle.records.specs.Values.{associationIn}
 use Rattle.records.proofs.Ways.{by-kind}
 use Rattle.records.proofs.Given.{reads}
@@ -27,19 +27,23 @@ module _ (s : List ℕ) where
   abbrev found : Answer Found
   found = shape (readRecord 146 s)
 
-  pub is-association : (r : Read) (item : Record) (n : ℕ) → gotOf r ≡ readRecord 146 s → r ≡ Read.Got item n → item ≡ Record.ClientAssociation (associationIn s)
+  -- the kind's own reader gives what reading by its code does
+  by-code : (r : Read) → gotOf r ≡ ofKind Kind.ClientAssociation s → gotOf r ≡ readRecord 146 s
+  by-code r own = own ∙ sym (by-kind Kind.ClientAssociation s)
+
+  pub is-association : (r : Read) (item : Record) (n : ℕ) → gotOf r ≡ ofKind Kind.ClientAssociation s → r ≡ Read.Got item n → item ≡ Record.ClientAssociation (associationIn s)
   is-association r item n e g =
-      let given : readRecord 146 s ≡ gives (record { value = item; consumed = n }) = sym e ∙ ap gotOf g in
+      let given : readRecord 146 s ≡ gives (record { value = item; consumed = n }) = sym (by-code r e) ∙ ap gotOf g in
       sym (ap (λ (x : Reading). x .value) (reads _ _ _ s _ (sym (by-kind Kind.ClientAssociation s) ∙ given) .is))
 
-  pub got : (r : Read) (item : Record) (a : ClientAssociation) (n : ℕ) → gotOf r ≡ readRecord 146 s → r ≡ Read.Got item n → item ≡ Record.ClientAssociation a → gives (record { association = a; consumed = n }) ≡ found
+  pub got : (r : Read) (item : Record) (a : ClientAssociation) (n : ℕ) → gotOf r ≡ ofKind Kind.ClientAssociation s → r ≡ Read.Got item n → item ≡ Record.ClientAssociation a → gives (record { association = a; consumed = n }) ≡ found
   got r item a n e g i =
       let same : Record.ClientAssociation a ≡ Record.ClientAssociation (associationIn s) = sym i ∙ is-association r item n e g in
       let one : a ≡ associationIn s = cc in
-      rw one (sym (mapped-given (λ (x : Reading). record { association = associationIn s; consumed = x .consumed }) (readRecord 146 s) (record { value = item; consumed = n }) (sym e ∙ ap gotOf g)))
+      rw one (sym (mapped-given (λ (x : Reading). record { association = associationIn s; consumed = x .consumed }) (readRecord 146 s) (record { value = item; consumed = n }) (sym (by-code r e) ∙ ap gotOf g)))
 
-  pub refused : (r : Read) (f : Refusal) → gotOf r ≡ readRecord 146 s → r ≡ Read.Refused f → told f ≡ found
-  refused r f e g = sym (mapped-refused (λ (x : Reading). record { association = associationIn s; consumed = x .consumed }) (readRecord 146 s) _ _ (sym e ∙ ap gotOf g))
+  pub refused : (r : Read) (f : Refusal) → gotOf r ≡ ofKind Kind.ClientAssociation s → r ≡ Read.Refused f → told f ≡ found
+  refused r f e g = sym (mapped-refused (λ (x : Reading). record { association = associationIn s; consumed = x .consumed }) (readRecord 146 s) _ _ (sym (by-code r e) ∙ ap gotOf g))
 
   -- the event that was read, applied; and nothing, where none was
   pub applied : (t after : Stations) (a : ClientAssociation) (n : ℕ) (answer : Answer Heard) → gives (record { association = a; consumed = n }) ≡ found → answer ≡ answerTo t (eventOf a) → after ≡ tableAfter t (eventOf a)

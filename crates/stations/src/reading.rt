@@ -24,7 +24,7 @@ pub(crate) enum Association {
 pub(crate) fn association_in(value: &[u8]) -> Association
     ensures { λ r. ⌜ associationOf r ≡ mapped (λ x. record { association = associationIn (now (value .entry)); consumed = x .consumed }) (readRecord 146 (now (value .entry))) ⌝ }
 {
-    match records::read_record(0x92, value) {
+    match records::read_client_association(value) {
         Read::Got { record, consumed } => {
             // Of this kind reading gives no other record.
             let Record::ClientAssociation(e) = record else {
