@@ -13,7 +13,7 @@
    Where bytes come piece by piece, a header or a row of TLVs that ends too early is told with the number of bytes that are missing: a receive loop waits for as many
    more and calls again.
 
-   The archive libashlar.a is for x86-64 with the System V calling convention. It wants nothing but memcpy and memset, and takes no heap and at most 2,048 bytes of stack, the calls
+   The archive libashlar.a is for x86-64 with the System V calling convention. It wants nothing but memcpy and memset, and takes no heap and at most 1,536 bytes of stack, the calls
    of the station table at most 1,024.
 
    Every call takes any bytes, lengths and numbers, and answers or refuses by a number of AshlarRefusal. A call that refuses leaves all that it was lent as it was.

@@ -1,5 +1,6 @@
 pub mod Search
 pub mod Wiped
+mod Freed
 pub mod Places
 pub mod Sound
 pub mod Apart

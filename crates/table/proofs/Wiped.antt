@@ -47,10 +47,24 @@ module _ {A : Type 0} (owner : ℕ) (blank : A) where
   wiped-next h (o ∷ os) (x ∷ xs) zero d = refl
   wiped-next h (o ∷ os) (x ∷ xs) (suc i) d = ap (λ (r : List A). cond (eqb o owner) blank x ∷ r) (wiped-next h os xs i d)
 
-  -- one turn of such a loop: the element that was read is stored, or a blank
-  pub wiped-more : 1 ≤ owner → (os : List ℕ) (xs : List A) (i : ℕ) (l : List A) → l ≡ wipedTo os xs i → (x : A) → x ≡ cond (eqb (getD os i 0) owner) blank (getD l i blank) → set l i x ≡ wipedTo os xs (i + 1)
-  wiped-more h os xs i l e x f =
-      ap (set l i) f ∙ ap (λ (r : List A). set r i (cond (eqb (getD os i 0) owner) blank (getD r i blank))) e ∙ wiped-next h os xs i blank ∙ ap (wipedTo os xs) (sym (add-one i))
+  -- what stands at i is as it was: the loop comes to it next
+  pub wiped-ahead : (os : List ℕ) (xs : List A) (i : ℕ) (d : A) → getD (wipedTo os xs i) i d ≡ getD xs i d
+  unfolding wiped
+  wiped-ahead [] xs zero d = refl
+  wiped-ahead [] xs (suc i) d = refl
+  wiped-ahead (o ∷ os) [] zero d = refl
+  wiped-ahead (o ∷ os) [] (suc i) d = refl
+  wiped-ahead (o ∷ os) (x ∷ xs) zero d = refl
+  wiped-ahead (o ∷ os) (x ∷ xs) (suc i) d = wiped-ahead os xs i d
+
+  -- one turn of such a loop: a blank is stored where the owner is met, and else nothing
+  pub wiped-met : 1 ≤ owner → (os : List ℕ) (xs : List A) (i : ℕ) → eqb (getD os i 0) owner ≡ true → set (wipedTo os xs i) i blank ≡ wipedTo os xs (i + 1)
+  wiped-met h os xs i met =
+      ap (λ (b : Bool). set (wipedTo os xs i) i (cond b blank (getD (wipedTo os xs i) i blank))) (sym met) ∙ wiped-next h os xs i blank ∙ ap (wipedTo os xs) (sym (add-one i))
+
+  pub wiped-passed : 1 ≤ owner → (os : List ℕ) (xs : List A) (i : ℕ) → eqb (getD os i 0) owner ≡ false → wipedTo os xs i ≡ wipedTo os xs (i + 1)
+  wiped-passed h os xs i other =
+      sym (set-getD (wipedTo os xs i) i blank) ∙ ap (λ (b : Bool). set (wipedTo os xs i) i (cond b blank (getD (wipedTo os xs i) i blank))) (sym other) ∙ wiped-next h os xs i blank ∙ ap (wipedTo os xs) (sym (add-one i))
 
   pub wiped-all : (os : List ℕ) (xs : List A) (i : ℕ) → length os ≤ i → wipedTo os xs i ≡ wiped owner blank os xs
   wiped-all os xs i h = ap (λ (l : List ℕ). wiped owner blank l xs) (take-all i os h)

@@ -1,10 +1,6 @@
 // The fragment table as it stands: messages that come in fragments, kept until they are whole or too old. What a push and a sweep do to it is said in the
 // crates pushing and sweeping.
 
-mod freeing;
-
-use freeing::free_bytes;
-use freeing::free_numbers;
 ghost use mathlib.Core.Path.{_≡_};
 ghost use Rattle.table.specs.Rows.{freshTable, droppedKey};
 
@@ -50,22 +46,28 @@ pub fn fresh() -> Table
     }
 }
 
-// The table without a row's key: the row and its places are as fresh ones. Behind the rows there is no key to drop.
+// The table without a row's key: the row and its places are as fresh ones. Behind the rows there is no key to drop. One pass over the places, so that the compiler puts
+// it into push and sweep: as a call it would keep a copy of the table on the stack.
 pub fn without_key(t: Table, row: usize) -> Table
     ensures { λ r. ⌜ r ≡ droppedKey t row ⌝ }
 {
     let mut n = t;
     if row < KEYS {
         let owner = row as u8 + 1;
-        let owners = n.owners;
         n.codes[row] = 0;
         n.firsts[row] = 0;
         n.used[row] = false;
-        free_numbers(&owners, owner, &mut n.message_types);
-        free_numbers(&owners, owner, &mut n.sizes);
-        free_bytes(&owners, owner, &mut n.owners);
-        free_bytes(&owners, owner, &mut n.numbers);
-        free_bytes(&owners, owner, &mut n.versions);
+        let mut i: usize = 0;
+        while i < PLACES {
+            if n.owners[i] == owner {
+                n.message_types[i] = 0;
+                n.sizes[i] = 0;
+                n.owners[i] = 0;
+                n.numbers[i] = 0;
+                n.versions[i] = 0;
+            }
+            i += 1;
+        }
     }
     n
 }

@@ -1,88 +1,76 @@
--- Each list is freed; the row was cleared before.
-use mathlib.Core.Path.{_≡_}
+-- The row is cleared; the loop has freed the places below i that the row owned.
+use mathlib.Core.Path.{_≡_, _∙_}
+use mathlib.Core.Logic.{⊎-elim}
+use Prim.Native.Nat.{_≤_, _-_}
 use native.Mathlib.Omega.{arith}
-use lib.ListN.{length, set}
-use mathlib.Core.Bool.{false}
-use borrow.Author.Tests.{le-ltb, lt-ltb}
-use Rattle.table.specs.Rows.{without}
+use lib.ListN.{length}
 use borrow.Author.Needs.{needs}
+use borrow.Author.Tests.{le-ltb, lt-ltb}
+use Rattle.table.proofs.Freed.{cleared, freedTo, freed-none, freed-met, freed-passed, freed-all}
+use Rattle.table.specs.Rows.{ownerOf}
 use Rattle.table.proofs.without_key.Statement.{statement}
 use Rattle.table.proofs.without_key.Tie as tie
 
-long : (c : tie.After-owners) → length (c .before .before .args .t .owners) ≡ 32
-long c = search needs
+abbrev Inv-loop : tie.InvT-loop
+Inv-loop row n₀ owner i₀ n i = (i ≤ 32) × (n ≡ freedTo owner n₀ i)
 
-cast-owner : tie.Need-cast-owner
-cast-owner c = search needs
+abbrev μ-loop : tie.MeasureT-loop
+μ-loop row n₀ owner i₀ n i = 32 - i
 
-add-owner : tie.Need-add-owner
-add-owner c = search needs
+loop-holds : tie.Need-loop-holds Inv-loop μ-loop
+loop-holds c = let a = c .before .args in (omega arith, freed-none (ownerOf (a .row)) (omega arith) (cleared (a .t) (a .row)))
 
-mul-n : tie.Need-mul-n
-mul-n c = search needs
+loop-again : tie.Need-loop-again Inv-loop μ-loop
+loop-again c =
+    let b = c .before .before .before in
+    let a = b .before .before .args in
+    let row = a .row in
+    let start = cleared (a .t) row in
+    let n = b .loop .n in
+    let i = b .loop .i in
+    let so-far = b .loop .inv .1 in (
+      search needs,
+      ⊎-elim
+          (λ w. w .1 ∙ freed-met (ownerOf row) (omega arith) start n i so-far (w .0 .taken))
+          (λ w. w .1 ∙ freed-passed (ownerOf row) (omega arith) start n i so-far (w .0 .left))
+          (c .if2 .came),
+    )
 
-element-write-n : tie.Need-element-write-n
-element-write-n c = search needs
-
-mul-n-2 : tie.Need-mul-n-2
-mul-n-2 c = search needs
-
-element-write-n-2 : tie.Need-element-write-n-2
-element-write-n-2 c = search needs
-
-element-write-n-3 : tie.Need-element-write-n-3
-element-write-n-3 c = search needs
-
-free-numbers-requires : tie.Need-free-numbers-requires
-free-numbers-requires c κs = (omega arith, long (c .before .before))
-
-free-numbers-requires-2 : tie.Need-free-numbers-requires-2
-free-numbers-requires-2 c κs = (omega arith, long (c .before .before .before .before .before))
-
-free-bytes-requires : tie.Need-free-bytes-requires
-free-bytes-requires c κs = (omega arith, long (c .before .before .before .before .before .before .before .before))
-
-free-bytes-requires-2 : tie.Need-free-bytes-requires-2
-free-bytes-requires-2 c κs = (omega arith, long (c .before .before .before .before .before .before .before .before .before .before .before))
-
-free-bytes-requires-3 : tie.Need-free-bytes-requires-3
-free-bytes-requires-3 c κs = (omega arith, long (c .before .before .before .before .before .before .before .before .before .before .before .before .before .before))
-
-returns : tie.Need-returns
-unfolding without
+returns : tie.Need-returns Inv-loop μ-loop
 returns c =
-    let e = c .before .before .before .before .before .before .before .before .before .before .before .before .before .before .before .before in
+    let b = c .before in
+    let e = b .before in
     let a = e .before .args in
-    rw (lt-ltb (a .row) 16 (e .if1 .taken)) (λ j. record {
-      codes = set (a .t .codes) (a .row) 0;
-      firsts = set (a .t .firsts) (a .row) 0;
-      «message_types» = c .before .before .before .before .before .before .before .before .before .before .before .before .free-numbers .ensures j;
-      sizes = c .before .before .before .before .before .before .before .before .before .free-numbers2 .ensures j;
-      owners = c .before .before .before .before .before .before .free-bytes .ensures j;
-      numbers = c .before .before .before .free-bytes2 .ensures j;
-      versions = c .free-bytes3 .ensures j;
-      used = set (a .t .used) (a .row) false;
-    })
+    let long : length (a .t .owners) ≡ 32 = search needs in
+    rw (lt-ltb (a .row) 16 (e .if1 .taken)) (b .loop .inv .1 ∙ freed-all (a .t) (a .row) (b .loop .i) (omega (arith, long)))
 
--- there is no such row
-returns-2 : tie.Need-returns-2
+returns-2 : tie.Need-returns-2 Inv-loop μ-loop
 returns-2 c = rw (le-ltb (c .before .args .row) 16 (c .if1 .left))
 
 pub without-key-spec : {M : Type 1} → statement M
 without-key-spec =
     tie.close
     (tie.spec
-    cast-owner
-    add-owner
-    mul-n
-    element-write-n
-    mul-n-2
-    element-write-n-2
-    element-write-n-3
-    free-numbers-requires
-    free-numbers-requires-2
-    free-bytes-requires
-    free-bytes-requires-2
-    free-bytes-requires-3
+    Inv-loop
+    μ-loop
+    (λ c. search needs)
+    (λ c. search needs)
+    (λ c. search needs)
+    (λ c. search needs)
+    (λ c. search needs)
+    (λ c. search needs)
+    (λ c. search needs)
+    loop-holds
+    (λ c. search needs)
+    (λ c. search needs)
+    (λ c. search needs)
+    (λ c. search needs)
+    (λ c. search needs)
+    (λ c. search needs)
+    (λ c. search needs)
+    (λ c. search needs)
+    (λ c. search needs)
+    (λ c. search needs)
+    loop-again
     returns
     returns-2)
