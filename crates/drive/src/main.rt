@@ -13,7 +13,6 @@ use pushes::Served;
 use show::Text;
 use stations::Stations;
 use table::Table;
-ghost use Prim.Native.Nat.{_≤_};
 ghost use Rattle.pushing.specs.Made.{Made};
 
 // The table, where the text of answers ends, what of the input is still to be answered, from `at` to `have`, and whether it has ended and all is done.

@@ -2,7 +2,6 @@
 use crate::parse;
 use libc::STDOUT_FILENO;
 use numbers::Refusal;
-ghost use Prim.Native.Nat.{_≤_};
 
 // No answer is longer: the contents of a full table take some 5,500 bytes.
 const ROOM: usize = 8192;

@@ -1,17 +1,16 @@
 -- The shortfall of 1 and 2 is exact.
 use mathlib.Core.Path.{_≡_, refl, sym, ap, _∙_}
-use mathlib.Core.Bool.{Bool, true, false, cond}
+use mathlib.Core.Bool.{Bool, true, false}
 use mathlib.Core.List.{List, [], _∷_, _++_}
-use Prim.Native.Nat.{ℕ, _+_, _-_, _*_, _<_, _≤_}
+use Prim.Native.Nat.{ℕ, _+_, _-_, _<_, _≤_}
 use native.Mathlib.Omega.{arith}
 use lib.Dec.{ltb}
-use lib.ListN.{length, getD, length-append, List·getD-append}
+use lib.ListN.{length, length-append, List·getD-append}
 use borrow.Author.Tests.{ltb-true, ltb-false}
 use Rattle.numbers.specs.Numbers.{Answer, gives, refuses}
 use Rattle.numbers.proofs.Firm.{never}
 use Rattle.framing.specs.Tlv.{TlvRead, readTlv, declared}
 use Rattle.framing.specs.Cmdu.{readHeader}
-use Rattle.framing.specs.declared.CmduHeader.{CmduHeader}
 use Rattle.framing.specs.Claims.{numberIn, Missing}
 use Rattle.framing.proofs.Reading as tlv
 use Rattle.framing.proofs.Heading as heading

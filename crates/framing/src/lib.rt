@@ -2,8 +2,8 @@
 use numbers::Refusal;
 ghost use mathlib.Core.Path.{_≡_};
 ghost use mathlib.Core.List.{_++_};
-ghost use Prim.Native.Nat.{ℕ, _+_, _*_, _-_, _<_, _≤_};
-ghost use lib.ListN.{length, take, drop, getD};
+ghost use Prim.Native.Nat.{_+_, _*_, _-_, _<_, _≤_};
+ghost use lib.ListN.{length, drop};
 ghost use Rattle.numbers.specs.Parts.{behind};
 ghost use Rattle.framing.specs.Tlv.{readOf, readTlv, valueIn, valueFrom, writtenOf, writeSize, header, tlvBytes, leaves};
 ghost use Rattle.framing.specs.Cmdu.{headerOf, readHeader};

@@ -5,7 +5,7 @@ use mathlib.Core.List.{List, []}
 use Prim.Native.Nat.{ℕ, _+_, _≤_}
 use native.Mathlib.Omega.{arith}
 use lib.ListN.{length, take}
-use Rattle.numbers.specs.Numbers.{Answer, gives, refuses}
+use Rattle.numbers.specs.Numbers.{Answer, gives}
 use Rattle.layouts.specs.Layouts.{isList}
 use Rattle.layouts.specs.Reading.{Consumed, readValue}
 use Rattle.layouts.specs.Access.{Span, locateEntry, countEntries, partOf}

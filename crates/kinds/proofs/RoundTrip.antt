@@ -20,7 +20,6 @@ use Rattle.records.proofs.Given.{consumed-within}
 use Rattle.record_writing.proofs.Claims.{round-trips}
 use Rattle.layouts.specs.Reading.{Consumed}
 use Rattle.layouts.specs.Access.{Span, partOf}
-use Rattle.texts.specs.Access.{locateText, locateRadioText}
 use Rattle.kinds.specs.Kinds.{Typed, one, isListed, readListed, oneRecord, oneList, readKind, locateKind, countKind}
 use Rattle.kinds.specs.Writing.{kindBytes}
 use Rattle.kinds.specs.Claims.{valueAt, Same, ReadsBack, RecordReadsBack}

@@ -1,6 +1,5 @@
 -- What is claimed of this crate's calls; proofs/Claims.antt proves it.
 use mathlib.Core.Path.{_≡_}
-use Prim.Native.Nat.{ℕ}
 use Rattle.numbers.specs.Numbers.{number, values, carried}
 use Rattle.numbers.specs.Firmness.{Firm}
 use Rattle.numbers.specs.declared.Refusal.{Refusal}

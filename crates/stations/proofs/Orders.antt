@@ -5,7 +5,7 @@ use mathlib.Core.List.{List, [], _∷_, _++_}
 use Prim.Native.Nat.{ℕ}
 use borrow.Author.Tests.{eqb-true, eqb-false}
 use Rattle.numbers.specs.Numbers.{Answer}
-use Rattle.machines.specs.Machine.{those, run}
+use Rattle.machines.specs.Machine.{those}
 use Rattle.machines.proofs.Lists.{those-append, every-remains, every-gathered}
 use Rattle.machines.proofs.Story.{Machine}
 use Rattle.machines.proofs.Story as Y

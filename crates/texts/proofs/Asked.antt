@@ -16,7 +16,7 @@ use Rattle.texts.specs.Reading.{Held, pieceAt, Pieces, before, piecesAt,
 use Rattle.texts.specs.Access.{numbered, wholeSpan, textSpan, ofText, radioIn, countIn, locateRadio, locateText, locateRadioText}
 use Rattle.texts.specs.PrivatePieces.{InValue}
 use Rattle.texts.proofs.Laws.{Lies, piece-lies, pieces-within}
-use Rattle.texts.proofs.Whole.{parts, valid, own-within, list-within, each-within}
+use Rattle.texts.proofs.Whole.{parts, valid, list-within}
 
 pub record Asked (A : Type 0) (code : ℕ) (f : TextKind → Laid → Answer A) (s : List ℕ) (a : A) : Type 0 where
   pub kind : TextKind

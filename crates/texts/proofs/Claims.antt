@@ -5,16 +5,15 @@ use mathlib.Core.List.{List, [], _∷_}
 use Prim.Native.Nat.{ℕ, zero, suc, _+_, _-_, _<_, _≤_}
 use native.Mathlib.Nat.{le-of-suc-le-suc}
 use native.Mathlib.Omega.{arith}
-use denote.Ref.{now}
-use lib.ListN.{length, take, drop}
+use lib.ListN.{length, take}
 use lib.Seq.{length-take-le}
 use lib.Dec.{eqb, ltb, T, ltb→lt}
 use borrow.Author.Tests.{eqb-true}
-use Rattle.numbers.specs.Numbers.{Answer, gives, refuses, mapped, andThen, isGiven}
+use Rattle.numbers.specs.Numbers.{Answer, gives, refuses, mapped, isGiven}
 use Rattle.numbers.proofs.Firm.{by-equation, by-telling, both, never}
 use Rattle.numbers.proofs.Answers.{given, gave, mapped-gave, follows, stops, mapped-given, mapped-refused}
 use Rattle.layouts.specs.Reading.{Consumed, readingOf}
-use Rattle.layouts.specs.Access.{numbersOf, Span, locatedOf, partOf, countedOf}
+use Rattle.layouts.specs.Access.{Span, locatedOf, partOf, countedOf}
 use Rattle.layouts.specs.Claims.{Shown}
 use Rattle.layouts.proofs.Claims.{reading-told, located-told, counted-told, part-alone}
 use Rattle.utf8.specs.Utf8.{isUtf8}
@@ -22,8 +21,8 @@ use Rattle.texts.specs.Texts.{Piece, field, string, to-end, TextKind, te
 use Rattle.texts.specs.Reading.{Held, pieceAt, Pieces, before, piecesAt, Laid, textIn, allValid, wholeOf, consumedIn, readText}
 use Rattle.texts.specs.Access.{numbered, wholeSpan, textSpan, ofText, radioIn, countIn, locateRadio, countRadios, locateText, locateRadioText}
 use Rattle.texts.specs.Claims.{Firmness, Text, Values, Alone, ConsumedAlone}
-use Rattle.texts.proofs.Whole.{parts, valid, own-within, list-within, each-within}
-use Rattle.texts.proofs.Asked.{asked, answers, Among, text-among, radio-among, one-radio}
+use Rattle.texts.proofs.Whole.{parts, valid, list-within, each-within}
+use Rattle.texts.proofs.Asked.{answers, Among, text-among, radio-among, one-radio}
 use Rattle.texts.proofs.Local.{all-consumed, whole-alone}
 
 pub firmness : Firmness

@@ -3,21 +3,20 @@ use mathlib.Core.Path.{_≡_, refl, sym, ap, _∙_}
 use mathlib.Core.Bool.{Bool, true, false, cond}
 use mathlib.Core.List.{List, [], _∷_}
 use Prim.Native.Nat.{ℕ, zero, suc, _+_, _-_, _<_, _≤_}
-use native.Mathlib.Nat.{sub-zero, le-of-suc-le-suc}
+use native.Mathlib.Nat.{sub-zero}
 use native.Mathlib.Numerals.{add-one}
 use native.Mathlib.Omega.{arith}
 use lib.ListN.{length, getD, take, drop, length-drop, drop-of-length-le}
 use lib.Seq.{drop-cons, length-take-le}
-use lib.Dec.{leb, eqb, ltb}
+use lib.Dec.{eqb, ltb}
 use borrow.Author.Tests.{eq-eqb, ne-eqb, lt-ltb, le-ltb, ltb-true, ltb-false}
 use Rattle.numbers.specs.Numbers.{Answer, gives, refuses, andThen, mapped}
-use Rattle.numbers.proofs.Firm.{never}
 use Rattle.numbers.proofs.Answers.{Given, given, gave, mapped-gave, follows, stops}
 use Rattle.layouts.specs.Reading.{reaching, Listed}
 use Rattle.layouts.proofs.Within.{Within, reaches, cut, reached}
 use Rattle.utf8.specs.Utf8.{isUtf8}
 use Rattle.texts.specs.Texts.{Piece, field, string, to-end}
-use Rattle.texts.specs.Reading.{untilZero, Held, held, stringAt, pieceAt, Pieces, before, piecesAt, radioList, textIn, allValid}
+use Rattle.texts.specs.Reading.{untilZero, Held, held, stringAt, pieceAt, Pieces, before, piecesAt, radioList, textIn}
 use Rattle.texts.specs.Access.{numbered}
 use Rattle.texts.specs.PrivatePieces.{endIn, validIn, nthAt}
 

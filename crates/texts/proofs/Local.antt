@@ -6,15 +6,14 @@ use Prim.Native.Nat.{ℕ, zero, suc, _+_, _-_, _<_, _≤_}
 use native.Mathlib.Omega.{arith}
 use lib.ListN.{length, getD, take, drop}
 use lib.Seq.{getD-take, length-take-le, take-all}
-use lib.Dec.{T, ltb, ltb→lt}
 use Rattle.numbers.specs.Numbers.{gives, mapped}
 use Rattle.numbers.proofs.Answers.{given, gave, mapped-gave, follows, mapped-given}
 use Rattle.layouts.specs.Reading.{reaching, Listed}
 use Rattle.layouts.proofs.Within.{Within, reaches, reached}
 use Rattle.layouts.proofs.Claims.{part-alone}
-use Rattle.texts.specs.Texts.{Piece, field, string, to-end, TextKind, textKind, radio}
-use Rattle.texts.specs.Reading.{untilZero, Held, held, stringAt, pieceAt, Pieces, before, piecesAt, radioList, Laid, laidOf, textIn, allValid, validOf, wholeOf}
-use Rattle.texts.proofs.Laws.{field-there, string-there, Lies, piece-lies, pieces-within, radios-within}
+use Rattle.texts.specs.Texts.{Piece, field, string, to-end, TextKind, radio}
+use Rattle.texts.specs.Reading.{Held, held, stringAt, pieceAt, Pieces, before, piecesAt, radioList, Laid, laidOf, textIn, allValid, wholeOf}
+use Rattle.texts.proofs.Laws.{piece-lies, pieces-within}
 use Rattle.texts.proofs.Whole.{Parts, parts, valid, valid-all, own-within, list-within, each-within}
 
 -- a piece whose end depends on its own bytes

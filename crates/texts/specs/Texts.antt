@@ -1,6 +1,6 @@
 -- The kinds that hold text: document 02, 2026-04, "Names and addresses of devices".
 use mathlib.Core.Bool.{Bool, true, false, cond}
-use mathlib.Core.List.{List, []}
+use mathlib.Core.List.{[]}
 use Prim.Native.Nat.{ℕ}
 use lib.Dec.{eqb}
 use Rattle.numbers.specs.Numbers.{Answer, gives, refuses, isGiven}

@@ -2,17 +2,17 @@
 use mathlib.Core.Path.{_≡_, refl, sym, ap, _∙_}
 use mathlib.Core.Bool.{Bool, true, false, cond}
 use mathlib.Core.List.{List, [], _∷_, _++_, append-assoc}
-use mathlib.Core.Logic.{_⊎_, inl, inr}
+use mathlib.Core.Logic.{inl, inr}
 use mathlib.Core.Option.{Option, none, some}
 use Prim.Native.Nat.{ℕ, zero, suc, _≤_}
 use native.Mathlib.Omega.{arith}
-use lib.ListN.{length, take, drop}
+use lib.ListN.{take, drop}
 use lib.Seq.{take-append-seam, drop-append-seam}
 use lib.Dec.{leb}
 use borrow.Author.Tests.{leb-true}
-use Rattle.utf8.specs.Utf8.{Range, Form, forms, Fits, OneOf, Characters, joined, Octets, inRange, begun, onward, ended, goesOn, passes, isUtf8}
+use Rattle.utf8.specs.Utf8.{Range, Form, forms, Fits, OneOf, Characters, joined, Octets, inRange, begun, goesOn, passes, isUtf8}
 use Rattle.utf8.specs.Claims.{Exactly, startOf, Cut}
-use Rattle.utf8.proofs.Grammar.{in-range, increasing, Begins, begun-is}
+use Rattle.utf8.proofs.Grammar.{in-range, Begins, begun-is}
 
 never-true : {A : Type 0} → false ≡ true → A
 never-true e = let z : _≡_ {A = ℕ} 0 1 = cc in absurd (omega arith)

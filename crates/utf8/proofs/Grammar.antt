@@ -3,7 +3,7 @@ use mathlib.Core.Path.{_≡_, refl, sym, ap, _∙_}
 use mathlib.Core.Bool.{Bool, true, false, cond}
 use mathlib.Core.List.{List, [], _∷_}
 use mathlib.Core.Logic.{_⊎_, inl, inr}
-use mathlib.Core.Option.{Option, none, some}
+use mathlib.Core.Option.{none, some}
 use Prim.Native.Nat.{ℕ, zero, suc, _+_, _<_, _≤_}
 use native.Mathlib.Numerals.{add-one}
 use native.Mathlib.Omega.{arith}
@@ -11,8 +11,8 @@ use lib.ListN.{length, getD, drop, drop-of-length-le}
 use lib.Seq.{drop-cons}
 use lib.Bits.{bitOr, and-le-l, and-le-r, or-add-and}
 use lib.Dec.{leb, ltb, eqb, T, eqb·suc-zero}
-use borrow.Author.Tests.{le-leb, lt-leb, leb-true, ltb-true}
-use Rattle.utf8.specs.Utf8.{Range, Form, forms, inRange, begun, onward, ended, goesOn, passes, isUtf8}
+use borrow.Author.Tests.{le-leb, lt-leb, ltb-true}
+use Rattle.utf8.specs.Utf8.{Range, Form, forms, inRange, begun, onward, ended, passes, isUtf8}
 use Rattle.utf8.specs.PrivateUtf8.{ranges}
 
 -- a byte is in a range, or below it, or above it

@@ -1,7 +1,7 @@
 -- `finding::find` meets its contract: a walk of its MIR, by hand: a call of `find_place`, to which copies of the two shared slices go; one of `place_or`; and where the place lies in the list, one of `look` at the record there, else one of `refused`.
 -- Assumes nothing.
 use mathlib.Core.Path.{_≡_, refl, sym, _∙_, ap, subst}
-use Prim.Native.Nat.{ℕ, _+_, _<_, _^_}
+use Prim.Native.Nat.{ℕ, _<_, _^_}
 use mathlib.Core.List.{List, [], _∷_}
 use lib.Dec.{T as Holds, ltb→lt, nltb→le}
 use lib.ListN.{length, getD}

@@ -1,5 +1,5 @@
 -- `digit` meets its contract.
-use Prim.Native.Nat.{_≤_, _<_, _-_}
+use Prim.Native.Nat.{_≤_, _-_}
 use native.Mathlib.Omega.{arith}
 use Rattle.interleave.proofs.digit.Statement.{statement}
 use Rattle.interleave.proofs.digit.Tie as tie

@@ -1,7 +1,6 @@
 -- `turns` meets its contract: the loop ends.
-use Prim.Native.Nat.{_≤_, _<_, _-_}
+use Prim.Native.Nat.{_≤_, _-_}
 use borrow.Author.Needs.{needs}
-use native.Mathlib.Omega.{arith}
 use Rattle.interleave.proofs.turns.Statement.{statement}
 use Rattle.interleave.proofs.turns.Tie as tie
 

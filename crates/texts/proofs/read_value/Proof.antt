@@ -2,8 +2,8 @@
 use borrow.Author.Needs.{needs}
 use Rattle.texts.proofs.read_value.Statement.{statement}
 use Rattle.texts.proofs.read_value.Tie as tie
-use mathlib.Core.Path.{_≡_, sym, ap, _∙_}
-use Rattle.numbers.specs.Numbers.{gives, mapped}
+use mathlib.Core.Path.{_≡_, sym, _∙_}
+use Rattle.numbers.specs.Numbers.{gives}
 use Rattle.numbers.proofs.Answers.{follows, stops, mapped-given, mapped-refused}
 use Rattle.texts.specs.Texts.{textKind}
 use Rattle.texts.specs.Reading.{consumedIn, wholeOf, readText}

@@ -3,11 +3,10 @@ use Rattle.utf8.proofs.is_utf8.Statement.{statement}
 use Rattle.utf8.proofs.is_utf8.Tie as tie
 use borrow.Author.Needs.{needs}
 use mathlib.Core.Path.{_≡_, sym, _∙_}
-use mathlib.Core.Option.{some}
 use Prim.Native.Nat.{_-_, _≤_}
 use native.Mathlib.Omega.{arith}
-use lib.ListN.{length, getD, drop}
-use Rattle.utf8.specs.Utf8.{onward, passes, isUtf8}
+use lib.ListN.{length, drop}
+use Rattle.utf8.specs.Utf8.{passes, isUtf8}
 use Rattle.utf8.specs.PrivateUtf8.{awaits}
 use Rattle.utf8.proofs.Grammar.{goes-on, goes-off, comes-to-end}
 

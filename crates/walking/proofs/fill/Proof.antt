@@ -1,7 +1,6 @@
 -- `walking::fill` meets its contract: a walk of its MIR, by hand, with a loop. The loop's variant is (i, t, zs): i entries are written, t is the next record, zs is the list. Each turn opens the borrow, stores one element, closes the borrow at the list with it, and calls `next_of`.
 -- Assumes nothing.
 use mathlib.Core.Path.{_≡_, refl, sym, ap, subst}
-use mathlib.Core.Bool.{true}
 use Prim.Native.Nat.{ℕ, _+_, _-_, _*_, _<_, _≤_, _^_}
 use native.Mathlib.Omega.{arith}
 use mathlib.Core.List.{List, [], _∷_, _++_}

@@ -2,7 +2,7 @@
 use borrow.Author.Needs.{needs}
 use Rattle.texts.proofs.access.count_in.Statement.{statement}
 use Rattle.texts.proofs.access.count_in.Tie as tie
-use mathlib.Core.Path.{_≡_, sym, ap, _∙_}
+use mathlib.Core.Path.{sym, ap, _∙_}
 use Rattle.numbers.proofs.Answers.{follows}
 use Rattle.texts.specs.Reading.{wholeOf}
 use Rattle.numbers.specs.Numbers.{gives}

@@ -2,11 +2,7 @@
 use borrow.Author.Needs.{needs}
 use Rattle.texts.proofs.access.part.Statement.{statement}
 use Rattle.texts.proofs.access.part.Tie as tie
-use mathlib.Core.Path.{_≡_, sym, ap}
-use Rattle.numbers.specs.Numbers.{gives}
-use Rattle.layouts.specs.Access.{locatedOf}
 use Rattle.layouts.proofs.Within.{Within}
-use Rattle.texts.specs.PrivatePieces.{InValue}
 
 enum-known-located : tie.Need-enum-known-located
 enum-known-located c = search needs

@@ -2,12 +2,11 @@
 use borrow.Author.Needs.{needs}
 use Rattle.texts.proofs.access.text_in.Statement.{statement}
 use Rattle.texts.proofs.access.text_in.Tie as tie
-use mathlib.Core.Path.{_≡_, sym, ap, _∙_}
+use mathlib.Core.Path.{sym, ap, _∙_}
 use Rattle.numbers.specs.Numbers.{mapped}
 use Rattle.numbers.proofs.Answers.{follows}
-use Rattle.texts.specs.Reading.{wholeOf}
 use Rattle.texts.specs.Access.{numbered, textSpan}
-use Rattle.texts.specs.PrivatePieces.{rowKind, heldTold}
+use Rattle.texts.specs.PrivatePieces.{rowKind}
 use Rattle.texts.proofs.Whole.{outlined-of, not-read, text-found}
 
 read-row-requires : tie.Need-read-row-requires

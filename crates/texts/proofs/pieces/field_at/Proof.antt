@@ -2,7 +2,7 @@
 use borrow.Author.Needs.{needs}
 use Rattle.texts.proofs.pieces.field_at.Statement.{statement}
 use Rattle.texts.proofs.pieces.field_at.Tie as tie
-use mathlib.Core.Path.{_≡_, sym, _∙_}
+use mathlib.Core.Path.{_≡_, sym}
 use Prim.Native.Nat.{_+_, _-_}
 use native.Mathlib.Omega.{arith}
 use Rattle.texts.proofs.Laws.{field-there, field-cut}

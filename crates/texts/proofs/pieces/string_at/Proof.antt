@@ -2,10 +2,8 @@
 use borrow.Author.Needs.{needs}
 use Rattle.texts.proofs.pieces.string_at.Statement.{statement}
 use Rattle.texts.proofs.pieces.string_at.Tie as tie
-use mathlib.Core.Path.{_≡_, sym, _∙_}
+use mathlib.Core.Path.{sym, _∙_}
 use native.Mathlib.Omega.{arith}
-use lib.ListN.{getD}
-use Prim.Native.Nat.{_+_}
 use Rattle.texts.proofs.Laws.{string-there, string-headless, string-cut}
 
 sub-if1 : tie.Need-sub-if1

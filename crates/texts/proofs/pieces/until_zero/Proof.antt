@@ -2,7 +2,7 @@
 use Rattle.texts.proofs.pieces.until_zero.Statement.{statement}
 use Rattle.texts.proofs.pieces.until_zero.Tie as tie
 use borrow.Author.Needs.{needs}
-use mathlib.Core.Path.{_≡_, refl, sym, ap, _∙_}
+use mathlib.Core.Path.{_≡_}
 use Prim.Native.Nat.{_+_, _-_, _≤_}
 use native.Mathlib.Omega.{arith}
 use lib.ListN.{length, drop}

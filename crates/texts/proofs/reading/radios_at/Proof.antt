@@ -2,7 +2,6 @@
 use borrow.Author.Needs.{needs}
 use Rattle.texts.proofs.reading.radios_at.Statement.{statement}
 use Rattle.texts.proofs.reading.radios_at.Tie as tie
-use mathlib.Core.Path.{sym}
 use native.Mathlib.Omega.{arith}
 use lib.ListN.{getD}
 use Prim.Native.Nat.{_+_}

@@ -5,9 +5,6 @@ use Rattle.texts.proofs.reading.read_row.Tie as tie
 use borrow.Author.Tests.{not-true, not-false}
 use mathlib.Core.Bool.{true}
 use mathlib.Core.Path.{_≡_, sym, ap, _∙_}
-use Prim.Native.Nat.{ℕ}
-use lib.ListN.{length}
-use Rattle.numbers.specs.Numbers.{gives, mapped}
 use Rattle.numbers.proofs.Answers.{mapped-given, mapped-refused}
 use Rattle.texts.specs.Texts.{radio}
 use Rattle.texts.specs.Reading.{piecesAt, laidOf}
