@@ -10,7 +10,7 @@ use Rattle.table.specs.declared.Table.{Table}
 use Rattle.table.specs.Rows.{places, ownerOf, freshTable, placeAt, rowOf, isSpare, lowestFree, isFree}
 use Rattle.pushing.specs.Joining.{isKept, never, since, due}
 use Rattle.pushing.specs.Push.{Way, refuse, duplicate, keepAt, openAt, end}
-use Rattle.table.proofs.Search.{lowest-holds, lowest-before}
+use Rattle.searching.proofs.Search.{lowest-holds, lowest-before}
 use Rattle.pushing.proofs.Ways.{Went, went, went-refuse, went-duplicate, went-keep, went-open, went-end}
 use Rattle.table.proofs.Sound.{Sound}
 use Rattle.pushing.proofs.Sound.{sound}

@@ -9,7 +9,7 @@ use lib.ListN.{length}
 use borrow.Author.Tests.{leb-true, leb-false, eq-eqb, ne-eqb, ltb-true, not-true}
 use Rattle.numbers.specs.Numbers.{gives}
 use Rattle.table.specs.declared.Table.{Table}
-use Rattle.table.specs.Search.{lowest}
+use Rattle.searching.specs.Search.{lowest}
 use Rattle.table.specs.Rows.{places, freshTable, placeAt, isFree, rowOf, spareRow, lowestFree, withKey, withPlace}
 use Rattle.pushing.specs.Joining.{Held, nothing, kept, Since, never, since}
 use Rattle.pushing.specs.Push.{Way, keepAt, waiting, placeFor, tableBy, answerBy}
@@ -22,7 +22,7 @@ use Rattle.orders.specs.Runs.{State, Push, Call, push, Reply, pushed, fi
 use Rattle.orders.specs.Shares.{isIn, distinct}
 use Rattle.orders.specs.Messages.{Message, heldAt, whole, Brings, Sent, calls, countIn, freeIn, Room, completing}
 use Rattle.orders.specs.Claims.{Completes}
-use Rattle.table.proofs.Search.{lowest-before}
+use Rattle.searching.proofs.Search.{lowest-before}
 use Rattle.table.proofs.Places.{put-elsewhere}
 use Rattle.machines.proofs.Lists.{left-true, right-true, every-remains, every-gathered}
 use Rattle.orders.proofs.Holdings.{absent}

@@ -6,10 +6,10 @@ use Prim.Native.Nat.{ℕ, _-_, _≤_, _<_}
 use native.Mathlib.Omega.{arith}
 use lib.Dec.{ltb}
 use borrow.Author.Tests.{ltb-true, ltb-false, lt-ltb, le-ltb, eq-eqb}
-use Rattle.table.specs.Search.{lowest, some}
+use Rattle.searching.specs.Search.{lowest, some}
 use Rattle.pushing.specs.Joining.{Held, Kept, nothing, kept, Fragments, isKept, isLast, unlike, inconsistentWith, reach, gapped, payloadOf, inOrder}
 use Rattle.pushing.specs.Push.{end, missing, messageWay, joinWay}
-use Rattle.table.proofs.Search.{lowest-before, lowest-is, lowest-none}
+use Rattle.searching.proofs.Search.{lowest-before, lowest-is, lowest-none}
 use Rattle.pushing.proofs.Pieces.{some-at, in-order-same}
 
 pub none-passes : (test : ℕ → Bool) (n : ℕ) → ((k : ℕ) → k < n → test k ≡ false) → some test n ≡ false

@@ -9,7 +9,7 @@ use borrow.Author.Tests.{eq-eqb, ltb-true, ltb-false}
 use Rattle.table.specs.declared.Table.{Table}
 use Rattle.table.specs.Rows.{ownerOf, placeAt, rowOf, isRowOf, placeOf, bytesAt}
 use Rattle.pushing.specs.Joining.{Held, heldAs, Kept, nothing, kept, keptAt, heldIn, isKept}
-use Rattle.table.proofs.Search.{lowest-is, lowest-none}
+use Rattle.searching.proofs.Search.{lowest-is, lowest-none}
 use Rattle.pushing.proofs.Pieces.{kept-out}
 use Rattle.table.proofs.Sound.{Sound, used-row, row-both, place-holds, not-held}
 use Rattle.orders.proofs.Rows.{isUsed, codeAt}

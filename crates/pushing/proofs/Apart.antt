@@ -14,7 +14,7 @@ use Rattle.table.specs.Rows.{placeAt, rowOf, isSpare, placeOf, isFree, lowestFr
 use Rattle.pushing.specs.Joining.{keptAt, heldIn, since, firstTime}
 pub use Rattle.pushing.specs.Claims.{Untouched}
 use Rattle.pushing.specs.Push.{Way, way, tableBy, storeBy, placeFor}
-use Rattle.table.proofs.Search.{lowest-holds}
+use Rattle.searching.proofs.Search.{lowest-holds}
 use Rattle.table.proofs.Apart.{Same, same-place, put-same, row-after-drop, time-after-drop, drop-same, row-after-open}
 use Rattle.table.proofs.Sound.{Sound, place-holds, row-holds}
 use Rattle.pushing.proofs.Pieces.{kept-out, kept-same}

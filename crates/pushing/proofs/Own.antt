@@ -14,7 +14,7 @@ use Rattle.pushing.specs.declared.Arrival.{Arrival}
 use Rattle.table.specs.Rows.{Place, ownerOf, placeAt, isRowOf, rowOf, isSpare, isNumbered, placeOf, isFree, withKey, withPlace, without, bytesAt}
 use Rattle.pushing.specs.Joining.{Fragments, Held, Kept, nothing, kept, heldOf, heldAs, keptAt, heldIn, heldBy, andNew, Since, never, since, firstTime}
 use Rattle.pushing.specs.Push.{Way, refuse, duplicate, keepAt, openAt, end, way, tableBy, storeBy, placeFor}
-use Rattle.table.proofs.Search.{lowest-is, lowest-holds, lowest-before, lowest-same}
+use Rattle.searching.proofs.Search.{lowest-is, lowest-holds, lowest-before, lowest-same}
 use Rattle.table.proofs.Places.{put-here, put-elsewhere}
 use Rattle.table.proofs.Sound.{Sound, place-holds, no-place, not-held, numbered-both, open-sound, drop-sound}
 use Rattle.pushing.proofs.Pieces.{kept-in, kept-out, kept-same}

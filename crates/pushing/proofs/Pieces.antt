@@ -14,12 +14,12 @@ use Rattle.table.specs.declared.Table.{Table}
 use Rattle.pushing.specs.declared.Fragment.{Fragment}
 use Rattle.pushing.specs.declared.join.Verdict.{Verdict}
 use Rattle.pushing.specs.declared.join.Verdict.the-variants.{Inconsistent, Missing, MissingLast, Message}
-use Rattle.table.specs.Search.{lowest, some}
+use Rattle.searching.specs.Search.{lowest, some}
 use Rattle.table.specs.Rows.{Place, ownerOf, placeAt, placeOf, bytesAt}
 use Rattle.pushing.specs.Joining.{Held, Kept, nothing, kept, Fragments, isKept, heldOf, heldAs, heldIn, andNew, keptAt, unlike, inconsistentWith, reach, gapped, isLast, payloadOf, inOrder, payloads}
 use Rattle.pushing.specs.Push.{messageWay, joinWay, joinedWith, over}
 use Rattle.pushing.specs.PrivateSteps.{placesIn, numberedIn, unlikeIn, beyondIn, pieceAt, sizeAt, markedAt, pieceBytes, sizeTo, piecesTo, isGap, countFor, verdictFor, joinWayIn}
-use Rattle.table.proofs.Search.{lowest-le, lowest-holds, lowest-before, lowest-same}
+use Rattle.searching.proofs.Search.{lowest-le, lowest-holds, lowest-before, lowest-same}
 use Rattle.table.proofs.Sound.{Sound, owned-place, place-holds, not-held, held-at}
 
 -- a number that passes is there to be found

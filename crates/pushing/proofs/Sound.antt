@@ -12,7 +12,7 @@ use Rattle.pushing.specs.declared.Arrival.{Arrival}
 use Rattle.table.specs.Rows.{rowOf, isSpare, withKey}
 use Rattle.pushing.specs.Push.{Way, tableBy, placeFor}
 use Rattle.pushing.specs.Made.{Made, byFresh, byPush, bySweep}
-use Rattle.table.proofs.Search.{lowest-holds}
+use Rattle.searching.proofs.Search.{lowest-holds}
 use Rattle.table.proofs.Sound.{Sound, not-held, row-holds, fresh-sound, put-sound, open-sound, end-sound}
 use Rattle.sweeping.proofs.Sound.{sweep-sound}
 use Rattle.pushing.proofs.Ways.{Went, went, went-refuse, went-duplicate, went-keep, went-open, went-end}

@@ -6,7 +6,7 @@ use lib.Dec.{eqb, ltb}
 use lib.ListN.{getD}
 use Rattle.pushing.specs.declared.Fragment.{Fragment}
 use Rattle.table.specs.declared.Table.{Table}
-use Rattle.table.specs.Search.{lowest, some}
+use Rattle.searching.specs.Search.{lowest, some}
 use Rattle.sweeping.specs.Sweep.{isOld}
 use Rattle.table.specs.Rows.{keys, places, Place, placeAt, placeOf, rowOf, bytesAt}
 

@@ -14,7 +14,7 @@ use Rattle.pushing.specs.declared.join.Verdict.the-variants.{Inconsisten
 use Rattle.pushing.specs.declared.choose.Change.{Change}
 use Rattle.pushing.specs.declared.choose.Change.the-variants.{Stay, PutAt, DropKey}
 use Rattle.pushing.specs.declared.choose.Chosen.{Chosen}
-use Rattle.table.specs.Search.{lowest}
+use Rattle.searching.specs.Search.{lowest}
 use Rattle.table.specs.Rows.{keys, places, ownerOf, bytesAt, withKey}
 use Rattle.pushing.specs.Joining.{inOrder}
 use Rattle.pushing.specs.Push.{Way, refuse, duplicate, keepAt, openAt, end, inconsistent, missing, missingLast, messageWay, pushedOf, answerBy, outputBy}

@@ -6,7 +6,7 @@ use native.Mathlib.Omega.{arith}
 use lib.Dec.{eqb, ltb}
 use lib.ListN.{getD, set, length-replicate, getD-replicate}
 use borrow.Author.Tests.{ltb-true, ltb-false, ne-eqb}
-use Rattle.table.proofs.Search.{lowest-none}
+use Rattle.searching.proofs.Search.{lowest-none}
 use Rattle.numbers.specs.Numbers.{gives, isGiven}
 use Rattle.stations.specs.declared.Heard.{Heard}
 use Rattle.stations.specs.Whereabouts.{Place, nowhere, at, Event, placeAfter, answerAt}

@@ -7,7 +7,7 @@ use lib.Dec.{eqb, ltb}
 use lib.ListN.{length, getD, set, length-set}
 use lib.Seq.{getD-set-same, getD-set-other}
 use borrow.Author.Tests.{ltb-true, ltb-false, eqb-true, eqb-false, eq-eqb, ne-eqb}
-use Rattle.table.proofs.Search.{lowest-holds, lowest-before, lowest-is, lowest-none, lowest-same}
+use Rattle.searching.proofs.Search.{lowest-holds, lowest-before, lowest-is, lowest-none, lowest-same}
 use Rattle.stations.specs.Whereabouts.{nowhere, at}
 use Rattle.stations.specs.Rows.{Stations, pointAt, rowWith, withRow, placeOf}
 use Rattle.stations.proofs.Ways.{known-place, unknown-place}

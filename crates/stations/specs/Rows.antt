@@ -5,7 +5,7 @@ use Prim.Native.Nat.{ℕ, zero, suc, _+_}
 use lib.Dec.{eqb, ltb}
 use lib.ListN.{getD, set, replicate}
 use Rattle.numbers.specs.Numbers.{Answer}
-use Rattle.table.specs.Search.{lowest}
+use Rattle.searching.specs.Search.{lowest}
 use Rattle.stations.specs.declared.Heard.{Heard}
 use Rattle.stations.specs.declared.Where.{Where}
 use Rattle.stations.specs.declared.Listed.{Listed}

@@ -10,7 +10,7 @@ use lib.Seq.{paste, drop-paste, drop-drop, take-append-le, drop-append-le, lengt
 use borrow.Author.Tests.{eqb-true, eqb-false, ne-eqb, ltb-true, ltb-false}
 use Rattle.table.specs.declared.Table.{Table}
 use Rattle.table.specs.Rows.{Place, ownerOf, freePlace, placeAt, isRowOf, rowOf, isNumbered, placeOf, withKey, withPlace, without, bytesAt}
-use Rattle.table.proofs.Search.{lowest-same}
+use Rattle.searching.proofs.Search.{lowest-same}
 use Rattle.table.proofs.Places.{put-here, put-elsewhere, freed-at}
 use Rattle.table.proofs.Sound.{Sound, row-holds, dropped-unused, dropped-other, dropped-code}
 

@@ -1,4 +1,3 @@
-pub mod Search
 pub mod Wiped
 mod Freed
 pub mod Places

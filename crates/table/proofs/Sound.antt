@@ -11,7 +11,7 @@ use Rattle.table.specs.declared.Table.{Table}
 pub use Rattle.table.specs.Sound.{Sound}
 use Rattle.table.specs.Sound.{Long}
 use Rattle.table.specs.Rows.{Place, ownerOf, freePlace, freshTable, placeAt, isRowOf, rowOf, isNumbered, placeOf, withKey, withPlace, without, droppedKey}
-use Rattle.table.proofs.Search.{lowest-holds, lowest-before}
+use Rattle.searching.proofs.Search.{lowest-holds, lowest-before}
 use Rattle.table.proofs.Places.{fresh-long, put-long, drop-long, all-same, after-set, fresh-place, after-put, after-drop}
 
 -- a row that a key has is one of the table's

@@ -1,4 +1,3 @@
-pub mod Search
 pub mod Rows
 pub mod Sound
 pub mod Claims

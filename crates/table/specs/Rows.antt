@@ -5,7 +5,7 @@ use Prim.Native.Nat.{ℕ, _+_, _*_}
 use lib.Dec.{eqb, ltb}
 use lib.ListN.{take, drop, getD, set, replicate}
 use Rattle.table.specs.declared.Table.{Table}
-use Rattle.table.specs.Search.{lowest}
+use Rattle.searching.specs.Search.{lowest}
 
 -- "Room: 16 keys; 32 places of 1,492 bytes in a lent store of at least 47,744."
 abbrev pub keys : ℕ

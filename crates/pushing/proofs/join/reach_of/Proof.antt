@@ -4,9 +4,9 @@ use Prim.Native.Nat.{ℕ, _+_, _*_, _≤_, _-_}
 use native.Mathlib.Omega.{arith}
 use denote.Ref.{now}
 use borrow.Author.Tests.{eq-eqb, ne-eqb}
-use Rattle.table.specs.Search.{lowest}
+use Rattle.searching.specs.Search.{lowest}
 use Rattle.pushing.specs.PrivateSteps.{pieceAt, sizeAt, sizeTo, isGap}
-use Rattle.table.proofs.Search.{before-all, found, passed}
+use Rattle.searching.proofs.Search.{before-all, found, passed}
 use Rattle.pushing.proofs.Pieces.{at-most, size-none, size-next}
 use borrow.Author.Needs.{needs}
 use Rattle.pushing.proofs.join.reach_of.Statement.{statement}

@@ -9,8 +9,8 @@ use lib.ListN.{getD}
 use denote.Ref.{now}
 use borrow.Author.Needs.{needs}
 use borrow.Author.Tests.{eq-eqb, ne-eqb}
-use Rattle.table.specs.Search.{lowest}
-use Rattle.table.proofs.Search.{before-all, found, passed}
+use Rattle.searching.specs.Search.{lowest}
+use Rattle.searching.proofs.Search.{before-all, found, passed}
 use Rattle.pushing.proofs.look.find_free.Statement.{statement}
 use Rattle.pushing.proofs.look.find_free.Tie as tie
 

@@ -7,8 +7,8 @@ use native.Mathlib.Omega.{arith}
 use lib.ListN.{getD}
 use denote.Ref.{now}
 use borrow.Author.Needs.{needs}
-use Rattle.table.specs.Search.{lowest}
-use Rattle.table.proofs.Search.{before-all, found, passed}
+use Rattle.searching.specs.Search.{lowest}
+use Rattle.searching.proofs.Search.{before-all, found, passed}
 use Rattle.pushing.proofs.look.find_spare.Statement.{statement}
 use Rattle.pushing.proofs.look.find_spare.Tie as tie
 

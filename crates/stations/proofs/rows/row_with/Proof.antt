@@ -8,8 +8,8 @@ use lib.ListN.{getD}
 use denote.Ref.{now}
 use borrow.Author.Needs.{needs}
 use borrow.Author.Tests.{eq-eqb, ne-eqb}
-use Rattle.table.specs.Search.{lowest}
-use Rattle.table.proofs.Search.{before-all, found, passed}
+use Rattle.searching.specs.Search.{lowest}
+use Rattle.searching.proofs.Search.{before-all, found, passed}
 use Rattle.stations.specs.Rows.{Stations}
 use Rattle.stations.proofs.rows.row_with.Statement.{statement}
 use Rattle.stations.proofs.rows.row_with.Tie as tie

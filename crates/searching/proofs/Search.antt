@@ -6,7 +6,7 @@ use native.Mathlib.Omega.{arith}
 use native.Mathlib.Numerals.{add-one}
 use lib.Dec.{ltb}
 use borrow.Author.Tests.{ltb-true, ltb-false, lt-ltb, le-ltb}
-use Rattle.table.specs.Search.{lowest}
+use Rattle.searching.specs.Search.{lowest}
 
 module _ (test : ℕ → Bool) where
   -- what one more number does
