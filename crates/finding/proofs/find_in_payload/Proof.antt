@@ -6,21 +6,6 @@ use borrow.Author.Needs.{needs}
 use Rattle.finding.proofs.find_in_payload.Statement.{statement}
 use Rattle.finding.proofs.find_in_payload.Tie as tie
 
-is-kind-requires : tie.Need-is-kind-requires
-is-kind-requires c κs = search needs
-
-walk-requires : tie.Need-walk-requires
-walk-requires c κs = search needs
-
-enum-told : tie.Need-enum-told
-enum-told c = search needs
-
-search-requires : tie.Need-search-requires
-search-requires c κs = search needs
-
-enum-known-refusal : tie.Need-enum-known-refusal
-enum-known-refusal c = search needs
-
 returns : tie.Need-returns
 returns c = walked _ _ _ (sym (c .before .before .before .before .before .is-kind .ensures) ∙ c .before .before .before .before .if1 .taken) _ (ap walkedOf (sym (c .before .enum-told .given .1)) ∙ c .before .before .before .walk .ensures) _ (c .search .ensures)
 
@@ -34,11 +19,11 @@ pub find-in-payload-spec : {M : Type 1} → statement M
 find-in-payload-spec =
     tie.close
     (tie.spec
-    is-kind-requires
-    walk-requires
-    enum-told
-    search-requires
-    enum-known-refusal
+    (λ c κs. search needs)
+    (λ c κs. search needs)
+    (λ c. search needs)
+    (λ c κs. search needs)
+    (λ c. search needs)
     returns
     returns-2
     returns-3)

@@ -3,15 +3,6 @@ use borrow.Author.Needs.{needs}
 use Rattle.finding.proofs.hit_of.Statement.{statement}
 use Rattle.finding.proofs.hit_of.Tie as tie
 
-enum-known-read : tie.Need-enum-known-read
-enum-known-read c = search needs
-
-enum-known-read-2 : tie.Need-enum-known-read-2
-enum-known-read-2 c = search needs
-
-enum-told : tie.Need-enum-told
-enum-told c = search needs
-
 returns : tie.Need-returns
 returns c = rw (c .before .read .given .1)
 
@@ -23,4 +14,4 @@ returns-3 c = rw (c .enum-told .given .1)
 
 pub hit-of-spec : {M : Type 1} → statement M
 hit-of-spec =
-    tie.close (tie.spec enum-known-read enum-known-read-2 enum-told returns returns-2 returns-3)
+    tie.close (tie.spec (λ c. search needs) (λ c. search needs) (λ c. search needs) returns returns-2 returns-3)

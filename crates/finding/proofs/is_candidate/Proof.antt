@@ -8,24 +8,12 @@ use Rattle.finding.proofs.is_candidate.Tie as tie
 returns : tie.Need-returns
 returns c = rw (ne-eqb _ _ (c .if1 .taken))
 
-cast-length : tie.Need-cast-length
-cast-length c = search needs
-
-add-if2 : tie.Need-add-if2
-add-if2 c = search needs
-
 returns-2 : tie.Need-returns-2
 returns-2 c = too-long _ _ _ (c .before .before .if1 .left) (c .if2 .taken)
-
-sub-result : tie.Need-sub-result
-sub-result c = search needs
-
-sub-result-2 : tie.Need-sub-result-2
-sub-result-2 c = search needs
 
 returns-3 : tie.Need-returns-3
 returns-3 c = let x = c .before .before .before .before .args in left-of (x .code) (x .size) (x .t) (c .before .before .before .if1 .left) (search needs)
 
 pub is-candidate-spec : {M : Type 1} → statement M
 is-candidate-spec =
-    tie.close (tie.spec returns cast-length add-if2 returns-2 sub-result sub-result-2 returns-3)
+    tie.close (tie.spec returns (λ c. search needs) (λ c. search needs) returns-2 (λ c. search needs) (λ c. search needs) returns-3)

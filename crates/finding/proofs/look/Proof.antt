@@ -10,17 +10,8 @@ use borrow.Author.Needs.{needs}
 use Rattle.finding.proofs.look.Statement.{statement}
 use Rattle.finding.proofs.look.Tie as tie
 
-is-candidate-requires : tie.Need-is-candidate-requires
-is-candidate-requires c κs = search needs
-
 value-in-requires : tie.Need-value-in-requires
 value-in-requires c κs = let x = c .before .before .before .args in inside (x .code) (x .payload .now) (x .t) (sym (c .before .is-candidate .ensures) ∙ c .if1 .taken)
-
-read-kind-requires : tie.Need-read-kind-requires
-read-kind-requires c κs = search needs
-
-hit-of-requires : tie.Need-hit-of-requires
-hit-of-requires c κs = search needs
 
 returns : tie.Need-returns
 returns c =
@@ -36,9 +27,9 @@ pub look-spec : {M : Type 1} → statement M
 look-spec =
     tie.close
     (tie.spec
-    is-candidate-requires
+    (λ c κs. search needs)
     value-in-requires
-    read-kind-requires
-    hit-of-requires
+    (λ c κs. search needs)
+    (λ c κs. search needs)
     returns
     returns-2)

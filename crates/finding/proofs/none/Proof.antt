@@ -4,9 +4,6 @@ use borrow.Author.Needs.{needs}
 use Rattle.finding.proofs.none.Statement.{statement}
 use Rattle.finding.proofs.none.Tie as tie
 
-is-kind-requires : tie.Need-is-kind-requires
-is-kind-requires c κs = search needs
-
 returns : tie.Need-returns
 returns c = rw (sym (c .before .is-kind .ensures) ∙ c .if1 .taken)
 
@@ -14,4 +11,4 @@ returns-2 : tie.Need-returns-2
 returns-2 c = rw (sym (c .before .is-kind .ensures) ∙ c .if1 .left)
 
 pub none-spec : {M : Type 1} → statement M
-none-spec = tie.close (tie.spec is-kind-requires returns returns-2)
+none-spec = tie.close (tie.spec (λ c κs. search needs) returns returns-2)

@@ -10,12 +10,6 @@ use Rattle.framing.proofs.Reading.{reads, value-given, value-refused, f
 use Rattle.framing.proofs.value.Statement.{statement}
 use Rattle.framing.proofs.value.Tie as tie
 
-read-tlv-requires : tie.Need-read-tlv-requires
-read-tlv-requires c κs = search needs
-
-enum-known-consumed : tie.Need-enum-known-consumed
-enum-known-consumed c = search needs
-
 sub-result : tie.Need-sub-result
 sub-result c = omega (arith, reads _ _ (ap readOf (sym (c .before .consumed .given .1)) ∙ c .before .before .before .read-tlv .ensures) .all)
 
@@ -24,18 +18,6 @@ part-result-start c = omega (arith, reads _ _ (ap readOf (sym (c .before .consum
 
 part-result-end : tie.Need-part-result-end
 part-result-end c = reads _ _ (ap readOf (sym (c .before .consumed .given .1)) ∙ c .before .before .before .read-tlv .ensures) .inside
-
-enum-told : tie.Need-enum-told
-enum-told c = search needs
-
-sub-result-2 : tie.Need-sub-result-2
-sub-result-2 c = search needs
-
-part-result-start-2 : tie.Need-part-result-start-2
-part-result-start-2 c = search needs
-
-part-result-end-2 : tie.Need-part-result-end-2
-part-result-end-2 c = search needs
 
 returns : tie.Need-returns
 returns c =
@@ -51,14 +33,14 @@ pub value-spec : {M : Type 1} → statement M
 value-spec =
     tie.close
     (tie.spec
-    read-tlv-requires
-    enum-known-consumed
+    (λ c κs. search needs)
+    (λ c. search needs)
     sub-result
     part-result-start
     part-result-end
-    enum-told
-    sub-result-2
-    part-result-start-2
-    part-result-end-2
+    (λ c. search needs)
+    (λ c. search needs)
+    (λ c. search needs)
+    (λ c. search needs)
     returns
     returns-2)

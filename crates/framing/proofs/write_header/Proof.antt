@@ -11,31 +11,16 @@ use Rattle.framing.proofs.write_header.Tie as tie
 returns : tie.Need-returns
 returns c = (too-long _ _ (c .if1 .taken), kept _ 8 [] _ _ (too-long _ _ (c .if1 .taken)))
 
-add-size : tie.Need-add-size
-add-size c = search needs
-
 returns-2 : tie.Need-returns-2
 returns-2 c =
     let e = no-room _ _ (c .before .if1 .left) (c .if2 .taken) in
     (e, kept _ 7 [] _ _ e)
 
-slice-write-out : tie.Need-slice-write-out
-slice-write-out c = search needs
-
-cast-out : tie.Need-cast-out
-cast-out c = search needs
-
 slice-write-out-2 : tie.Need-slice-write-out-2
 slice-write-out-2 c = simp length-set (omega arith)
 
-cast-out-2 : tie.Need-cast-out-2
-cast-out-2 c = search needs
-
 slice-write-out-3 : tie.Need-slice-write-out-3
 slice-write-out-3 c = simp length-set (omega arith)
-
-same-length : tie.Need-same-length
-same-length c = search needs
 
 returns-3 : tie.Need-returns-3
 returns-3 c =
@@ -47,12 +32,12 @@ write-header-spec =
     tie.close
     (tie.spec
     returns
-    add-size
+    (λ c. search needs)
     returns-2
-    slice-write-out
-    cast-out
+    (λ c. search needs)
+    (λ c. search needs)
     slice-write-out-2
-    cast-out-2
+    (λ c. search needs)
     slice-write-out-3
-    same-length
+    (λ c. search needs)
     returns-3)

@@ -7,12 +7,6 @@ use borrow.Author.Needs.{needs}
 use Rattle.framing.proofs.write_tlv.Statement.{statement}
 use Rattle.framing.proofs.write_tlv.Tie as tie
 
-write-header-requires : tie.Need-write-header-requires
-write-header-requires c κs = search needs
-
-enum-known-size : tie.Need-enum-known-size
-enum-known-size c = search needs
-
 sub-put-bytes : tie.Need-sub-put-bytes
 sub-put-bytes c =
     let e = (ap writtenOf (sym (c .before .size .given .1)) ∙ c .before .before .before .before .before .write-header .ensures .0) in
@@ -25,29 +19,17 @@ part-put-bytes-start c =
     let l = lent _ _ (c .before .before .before .before .before .before .before .before .before .args .out .now) _ (written _ _ _ e .1 .1) (c .before .before .before .before .before .write-header .ensures .1 ∙ sym (put _ _ _ _ e)) in
     omega (arith, l .0, written _ _ _ e .1 .1)
 
-part-put-bytes-end : tie.Need-part-put-bytes-end
-part-put-bytes-end c = search needs
-
 put-bytes-requires : tie.Need-put-bytes-requires
 put-bytes-requires c κs =
     let e = (ap writtenOf (sym (c .before .before .size .given .1)) ∙ c .before .before .before .before .before .before .write-header .ensures .0) in
     let l = lent _ _ (c .before .before .before .before .before .before .before .before .before .before .args .out .now) _ (written _ _ _ e .1 .1) (c .before .before .before .before .before .before .write-header .ensures .1 ∙ sym (put _ _ _ _ e)) in
     l .1
 
-enum-known-refusal : tie.Need-enum-known-refusal
-enum-known-refusal c = search needs
-
-same-length : tie.Need-same-length
-same-length c = search needs
-
 returns : tie.Need-returns
 returns c =
     let e = (ap writtenOf (sym (c .before .before .before .before .before .size .given .1)) ∙ c .before .before .before .before .before .before .before .before .before .write-header .ensures .0) in
     let a = c .before .before .before .before .before .before .before .before .before .before .before .before .before .args in
     (e, tlv-put _ (a .bytes .now) (a .out .now) _ _ (c .before .before .before .before .before .before .before .before .before .write-header .ensures .1 ∙ sym (put _ _ _ _ e)) (c .before .before .put-bytes .ensures) ∙ put _ _ _ _ e)
-
-same-length-2 : tie.Need-same-length-2
-same-length-2 c = search needs
 
 returns-2 : tie.Need-returns-2
 returns-2 c =
@@ -58,14 +40,14 @@ pub write-tlv-spec : {M : Type 1} → statement M
 write-tlv-spec =
     tie.close
     (tie.spec
-    write-header-requires
-    enum-known-size
+    (λ c κs. search needs)
+    (λ c. search needs)
     sub-put-bytes
     part-put-bytes-start
-    part-put-bytes-end
+    (λ c. search needs)
     put-bytes-requires
-    enum-known-refusal
-    same-length
+    (λ c. search needs)
+    (λ c. search needs)
     returns
-    same-length-2
+    (λ c. search needs)
     returns-2)

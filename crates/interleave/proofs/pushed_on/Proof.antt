@@ -4,17 +4,8 @@ use borrow.Author.Needs.{needs}
 use Rattle.interleave.proofs.pushed_on.Statement.{statement}
 use Rattle.interleave.proofs.pushed_on.Tie as tie
 
-push-step-requires : tie.Need-push-step-requires
-push-step-requires c κs = search needs
-
-same-length : tie.Need-same-length
-same-length c = search needs
-
-same-length-2 : tie.Need-same-length-2
-same-length-2 c = search needs
-
 returns : tie.Need-returns
 returns c = push-made _ _ _ _ _ _ _ _ _ (c .before .before .before .before .before .before .before .before .before .before .pre .0) (c .before .before .before .before .before .before .before .before .before .before .pre .1) (c .before .before .before .before .push-step .ensures)
 
 pub pushed-on-spec : {M : Type 1} → statement M
-pushed-on-spec = tie.close (tie.spec push-step-requires same-length same-length-2 returns)
+pushed-on-spec = tie.close (tie.spec (λ c κs. search needs) (λ c. search needs) (λ c. search needs) returns)

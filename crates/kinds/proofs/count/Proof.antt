@@ -5,21 +5,12 @@ use borrow.Author.Needs.{needs}
 use Rattle.kinds.proofs.count.Statement.{statement}
 use Rattle.kinds.proofs.count.Tie as tie
 
-is-listed-requires : tie.Need-is-listed-requires
-is-listed-requires c κs = search needs
-
-count-listed-requires : tie.Need-count-listed-requires
-count-listed-requires c κs = search needs
-
 returns : tie.Need-returns
 returns c = c .count-listed .ensures ∙ list-counted _ _ (sym (c .before .before .is-listed .ensures) ∙ c .before .if1 .taken) _
-
-no-entry-in-requires : tie.Need-no-entry-in-requires
-no-entry-in-requires c κs = search needs
 
 returns-2 : tie.Need-returns-2
 returns-2 c = uncounted _ _ (sym (c .before .before .is-listed .ensures) ∙ c .before .if1 .left) _ _ _ (c .no-entry-in .ensures)
 
 pub count-spec : {M : Type 1} → statement M
 count-spec =
-    tie.close (tie.spec is-listed-requires count-listed-requires returns no-entry-in-requires returns-2)
+    tie.close (tie.spec (λ c κs. search needs) (λ c κs. search needs) returns (λ c κs. search needs) returns-2)

@@ -11,25 +11,10 @@ use borrow.Author.Needs.{needs}
 use Rattle.kinds.proofs.entry.Statement.{statement}
 use Rattle.kinds.proofs.entry.Tie as tie
 
-is-listed-requires : tie.Need-is-listed-requires
-is-listed-requires c κs = search needs
-
-entry-listed-requires : tie.Need-entry-listed-requires
-entry-listed-requires c κs = search needs
-
 returns : tie.Need-returns
 returns c =
     let h = sym (c .before .before .is-listed .ensures) ∙ c .before .if1 .taken in
     (c .entry-listed .ensures .0 ∙ list-part _ _ h _, c .entry-listed .ensures .1 ∙ ap (λ (n : ℕ). behind n (c .before .before .before .before .args .s)) (list-start _ _ h _))
-
-sub-result : tie.Need-sub-result
-sub-result c = search needs
-
-part-result-start : tie.Need-part-result-start
-part-result-start c = search needs
-
-part-result-end : tie.Need-part-result-end
-part-result-end c = search needs
 
 returns-2 : tie.Need-returns-2
 returns-2 c =
@@ -42,10 +27,10 @@ pub entry-spec : {M : Type 1} → statement M
 entry-spec =
     tie.close
     (tie.spec
-    is-listed-requires
-    entry-listed-requires
+    (λ c κs. search needs)
+    (λ c κs. search needs)
     returns
-    sub-result
-    part-result-start
-    part-result-end
+    (λ c. search needs)
+    (λ c. search needs)
+    (λ c. search needs)
     returns-2)

@@ -5,21 +5,12 @@ use borrow.Author.Needs.{needs}
 use Rattle.kinds.proofs.locate.Statement.{statement}
 use Rattle.kinds.proofs.locate.Tie as tie
 
-is-listed-requires : tie.Need-is-listed-requires
-is-listed-requires c κs = search needs
-
-locate-listed-requires : tie.Need-locate-listed-requires
-locate-listed-requires c κs = search needs
-
 returns : tie.Need-returns
 returns c = c .locate-listed .ensures ∙ list-located _ _ (sym (c .before .before .is-listed .ensures) ∙ c .before .if1 .taken) _
-
-no-entry-in-requires : tie.Need-no-entry-in-requires
-no-entry-in-requires c κs = search needs
 
 returns-2 : tie.Need-returns-2
 returns-2 c = unlocated _ _ (sym (c .before .before .is-listed .ensures) ∙ c .before .if1 .left) _ _ _ (c .no-entry-in .ensures)
 
 pub locate-spec : {M : Type 1} → statement M
 locate-spec =
-    tie.close (tie.spec is-listed-requires locate-listed-requires returns no-entry-in-requires returns-2)
+    tie.close (tie.spec (λ c κs. search needs) (λ c κs. search needs) returns (λ c κs. search needs) returns-2)

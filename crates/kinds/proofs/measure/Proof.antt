@@ -8,21 +8,6 @@ use borrow.Author.Needs.{needs}
 use Rattle.kinds.proofs.measure.Statement.{statement}
 use Rattle.kinds.proofs.measure.Tie as tie
 
-is-listed-requires : tie.Need-is-listed-requires
-is-listed-requires c κs = search needs
-
-read-listed-requires : tie.Need-read-listed-requires
-read-listed-requires c κs = search needs
-
-enum-known-consumed : tie.Need-enum-known-consumed
-enum-known-consumed c = search needs
-
-enum-known-refusal : tie.Need-enum-known-refusal
-enum-known-refusal c = search needs
-
-measure-record-requires : tie.Need-measure-record-requires
-measure-record-requires c κs = search needs
-
 returns : tie.Need-returns
 returns c = ap (mapped withoutRecord) (ap (mapped oneList) (ap readingOf (sym (c .before .consumed .given .1)) ∙ c .before .before .before .read-listed .ensures) ∙ list-reads _ _ (sym (c .before .before .before .before .before .is-listed .ensures) ∙ c .before .before .before .before .if1 .taken))
 
@@ -36,11 +21,11 @@ pub measure-spec : {M : Type 1} → statement M
 measure-spec =
     tie.close
     (tie.spec
-    is-listed-requires
-    read-listed-requires
-    enum-known-consumed
-    enum-known-refusal
-    measure-record-requires
+    (λ c κs. search needs)
+    (λ c κs. search needs)
+    (λ c. search needs)
+    (λ c. search needs)
+    (λ c κs. search needs)
     returns
     returns-2
     returns-3)

@@ -6,17 +6,8 @@ use borrow.Author.Needs.{needs}
 use Rattle.kinds.proofs.measure_record.Statement.{statement}
 use Rattle.kinds.proofs.measure_record.Tie as tie
 
-measure-requires : tie.Need-measure-requires
-measure-requires c κs = search needs
-
-enum-known-size : tie.Need-enum-known-size
-enum-known-size c = search needs
-
 sub-t8 : tie.Need-sub-t8
 sub-t8 c = measured _ _ _ (ap measuredOf (sym (c .before .size .given .1)) ∙ c .before .before .before .measure .ensures) .inside
-
-enum-known-refusal : tie.Need-enum-known-refusal
-enum-known-refusal c = search needs
 
 returns : tie.Need-returns
 returns c = measured _ _ _ (ap measuredOf (sym (c .before .size .given .1)) ∙ c .before .before .before .measure .ensures) .is
@@ -27,4 +18,4 @@ returns-2 c = unmeasured _ _ _ _ (ap measuredOf (sym (c .before .refusal .given 
 pub measure-record-spec : {M : Type 1} → statement M
 measure-record-spec =
     tie.close
-    (tie.spec measure-requires enum-known-size sub-t8 enum-known-refusal returns returns-2)
+    (tie.spec (λ c κs. search needs) (λ c. search needs) sub-t8 (λ c. search needs) returns returns-2)

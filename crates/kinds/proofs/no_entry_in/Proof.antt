@@ -7,15 +7,6 @@ use borrow.Author.Needs.{needs}
 use Rattle.kinds.proofs.no_entry_in.Statement.{statement}
 use Rattle.kinds.proofs.no_entry_in.Tie as tie
 
-read-record-requires : tie.Need-read-record-requires
-read-record-requires c κs = search needs
-
-enum-told : tie.Need-enum-told
-enum-told c = search needs
-
-enum-known-refusal : tie.Need-enum-known-refusal
-enum-known-refusal c = search needs
-
 returns : tie.Need-returns
 returns c = ap (λ (x : Answer Reading). andThen x (λ r. refuses 6 [])) (ap gotOf (sym (c .enum-told .given .1)) ∙ c .before .before .read-record .ensures)
 
@@ -24,4 +15,4 @@ returns-2 c = ap (λ (x : Answer Reading). andThen x (λ r. refuses 6 [])) (ap g
 
 pub no-entry-in-spec : {M : Type 1} → statement M
 no-entry-in-spec =
-    tie.close (tie.spec read-record-requires enum-told enum-known-refusal returns returns-2)
+    tie.close (tie.spec (λ c κs. search needs) (λ c. search needs) (λ c. search needs) returns returns-2)

@@ -8,21 +8,6 @@ use borrow.Author.Needs.{needs}
 use Rattle.kinds.proofs.read_kind.Statement.{statement}
 use Rattle.kinds.proofs.read_kind.Tie as tie
 
-is-listed-requires : tie.Need-is-listed-requires
-is-listed-requires c κs = search needs
-
-read-listed-requires : tie.Need-read-listed-requires
-read-listed-requires c κs = search needs
-
-enum-known-list : tie.Need-enum-known-list
-enum-known-list c = search needs
-
-enum-known-list-2 : tie.Need-enum-known-list-2
-enum-known-list-2 c = search needs
-
-read-record-requires : tie.Need-read-record-requires
-read-record-requires c κs = search needs
-
 returns : tie.Need-returns
 returns c = ap (mapped oneList) (ap readingOf (sym (c .before .list .given .1)) ∙ c .before .before .before .read-listed .ensures) ∙ list-reads _ _ (sym (c .before .before .before .before .before .is-listed .ensures) ∙ c .before .before .before .before .if1 .taken)
 
@@ -36,11 +21,11 @@ pub read-kind-spec : {M : Type 1} → statement M
 read-kind-spec =
     tie.close
     (tie.spec
-    is-listed-requires
-    read-listed-requires
-    enum-known-list
-    enum-known-list-2
-    read-record-requires
+    (λ c κs. search needs)
+    (λ c κs. search needs)
+    (λ c. search needs)
+    (λ c. search needs)
+    (λ c κs. search needs)
     returns
     returns-2
     returns-3)

@@ -8,17 +8,8 @@ use borrow.Author.Needs.{needs}
 use Rattle.kinds.proofs.read_record.Statement.{statement}
 use Rattle.kinds.proofs.read_record.Tie as tie
 
-read-record-requires : tie.Need-read-record-requires
-read-record-requires c κs = search needs
-
-enum-known-record : tie.Need-enum-known-record
-enum-known-record c = search needs
-
 sub-t9 : tie.Need-sub-t9
 sub-t9 c = consumed-within _ _ _ (sym (ap gotOf (sym (c .before .«record» .given .1)) ∙ c .before .before .before .read-record .ensures))
-
-enum-known-refusal : tie.Need-enum-known-refusal
-enum-known-refusal c = search needs
 
 returns : tie.Need-returns
 returns c = ap (mapped (oneRecord _)) (ap gotOf (sym (c .before .«record» .given .1)) ∙ c .before .before .before .read-record .ensures)
@@ -29,4 +20,4 @@ returns-2 c = ap (mapped (oneRecord _)) (ap gotOf (sym (c .before .refusal .give
 pub read-record-spec : {M : Type 1} → statement M
 read-record-spec =
     tie.close
-    (tie.spec read-record-requires enum-known-record sub-t9 enum-known-refusal returns returns-2)
+    (tie.spec (λ c κs. search needs) (λ c. search needs) sub-t9 (λ c. search needs) returns returns-2)

@@ -7,40 +7,16 @@ use borrow.Author.Needs.{needs}
 use Rattle.kinds.proofs.write_kind.Statement.{statement}
 use Rattle.kinds.proofs.write_kind.Tie as tie
 
-read-kind-requires : tie.Need-read-kind-requires
-read-kind-requires c κs = search needs
-
-enum-known-consumed : tie.Need-enum-known-consumed
-enum-known-consumed c = search needs
-
 slice-aggregate-write-tlv : tie.Need-slice-aggregate-write-tlv
 slice-aggregate-write-tlv c = size _ _ _ (ap kindReadOf (sym (c .before .before .consumed .given .1)) ∙ c .before .before .before .before .read-kind .ensures)
 
-write-tlv-requires : tie.Need-write-tlv-requires
-write-tlv-requires c κs = search needs
-
-enum-known-consumed-2 : tie.Need-enum-known-consumed-2
-enum-known-consumed-2 c = search needs
-
 slice-aggregate-write-tlv-2 : tie.Need-slice-aggregate-write-tlv-2
 slice-aggregate-write-tlv-2 c = size _ _ _ (ap kindReadOf (sym (c .before .before .consumed2 .given .1)) ∙ c .before .before .before .before .read-kind .ensures)
-
-write-tlv-requires-2 : tie.Need-write-tlv-requires-2
-write-tlv-requires-2 c κs = search needs
-
-enum-known-refusal : tie.Need-enum-known-refusal
-enum-known-refusal c = search needs
-
-same-length : tie.Need-same-length
-same-length c = search needs
 
 returns : tie.Need-returns
 returns c =
     let e = (ap kindReadOf (sym (c .before .before .before .before .before .before .consumed .given .1)) ∙ c .before .before .before .before .before .before .before .before .read-kind .ensures) in
     (c .before .before .write-tlv .ensures .0 ∙ written _ _ _ e _, c .before .before .write-tlv .ensures .1 ∙ left _ _ _ e (c .before .before .before .before .before .before .before .before .before .before .before .args .out .now))
-
-same-length-2 : tie.Need-same-length-2
-same-length-2 c = search needs
 
 returns-2 : tie.Need-returns-2
 returns-2 c =
@@ -56,16 +32,16 @@ pub write-kind-spec : {M : Type 1} → statement M
 write-kind-spec =
     tie.close
     (tie.spec
-    read-kind-requires
-    enum-known-consumed
+    (λ c κs. search needs)
+    (λ c. search needs)
     slice-aggregate-write-tlv
-    write-tlv-requires
-    enum-known-consumed-2
+    (λ c κs. search needs)
+    (λ c. search needs)
     slice-aggregate-write-tlv-2
-    write-tlv-requires-2
-    enum-known-refusal
-    same-length
+    (λ c κs. search needs)
+    (λ c. search needs)
+    (λ c. search needs)
     returns
-    same-length-2
+    (λ c. search needs)
     returns-2
     returns-3)

@@ -9,21 +9,9 @@ use Rattle.layouts.specs.Layouts.{layoutOf}
 use Rattle.layouts.specs.Access.{countEntries}
 use Rattle.layouts.specs.PrivateRows.{rowKind}
 
-row-of-requires : tie.Need-row-of-requires
-row-of-requires c κs = search needs
-
-enum-known-row : tie.Need-enum-known-row
-enum-known-row c = search needs
-
 -- the row that was found
 has : (c : tie.After-row) → layoutOf (c .before .before .before .before .args .code) ≡ gives (rowKind (c .row .given .0 .0))
 has c = sym (rw (c .row .given .1) at (c .before .before .row-of .ensures))
-
-count-in-requires : tie.Need-count-in-requires
-count-in-requires c κs = search needs
-
-enum-known-r : tie.Need-enum-known-r
-enum-known-r c = search needs
 
 returns : tie.Need-returns
 unfolding countEntries
@@ -36,4 +24,4 @@ returns-2 c = sym (stops _ _ _ _ (sym (rw (c .before .r .given .1) at (c .before
 pub count-spec : {M : Type 1} → statement M
 count-spec =
     tie.close
-    (tie.spec row-of-requires enum-known-row count-in-requires enum-known-r returns returns-2)
+    (tie.spec (λ c κs. search needs) (λ c. search needs) (λ c κs. search needs) (λ c. search needs) returns returns-2)

@@ -9,12 +9,6 @@ use Rattle.layouts.specs.Access.{numbersOf, locateEntry}
 use Rattle.layouts.proofs.Within.{Within}
 use Rattle.layouts.proofs.Values.{located-within}
 
-locate-requires : tie.Need-locate-requires
-locate-requires c κs = search needs
-
-enum-known-start : tie.Need-enum-known-start
-enum-known-start c = search needs
-
 -- where the entry was found
 has : (c : tie.After-start) →
     let a = c .before .before .before .before .args in
@@ -33,18 +27,6 @@ part-result-start c = let w = inside (c .before) in search needs
 part-result-end : tie.Need-part-result-end
 part-result-end c = let w = inside (c .before) in search needs
 
-enum-told : tie.Need-enum-told
-enum-told c = search needs
-
-sub-result-2 : tie.Need-sub-result-2
-sub-result-2 c = search needs
-
-part-result-start-2 : tie.Need-part-result-start-2
-part-result-start-2 c = search needs
-
-part-result-end-2 : tie.Need-part-result-end-2
-part-result-end-2 c = search needs
-
 returns : tie.Need-returns
 returns c = let e = has (c .before .before) in (rw e, rw e)
 
@@ -57,14 +39,14 @@ pub entry-spec : {M : Type 1} → statement M
 entry-spec =
     tie.close
     (tie.spec
-    locate-requires
-    enum-known-start
+    (λ c κs. search needs)
+    (λ c. search needs)
     sub-result
     part-result-start
     part-result-end
-    enum-told
-    sub-result-2
-    part-result-start-2
-    part-result-end-2
+    (λ c. search needs)
+    (λ c. search needs)
+    (λ c. search needs)
+    (λ c. search needs)
     returns
     returns-2)

@@ -6,15 +6,6 @@ use mathlib.Core.Path.{ap}
 use Rattle.numbers.specs.Numbers.{isGiven}
 use Rattle.layouts.specs.Layouts.{isList}
 
-row-of-requires : tie.Need-row-of-requires
-row-of-requires c κs = search needs
-
-enum-told : tie.Need-enum-told
-enum-told c = search needs
-
-enum-told-2 : tie.Need-enum-told-2
-enum-told-2 c = search needs
-
 returns : tie.Need-returns
 unfolding isList
 returns c = ap isGiven (rw (c .enum-told .given .1) at (c .before .before .row-of .ensures))
@@ -24,4 +15,4 @@ unfolding isList
 returns-2 c = ap isGiven (rw (c .enum-told2 .given .1) at (c .before .before .row-of .ensures))
 
 pub is-list-spec : {M : Type 1} → statement M
-is-list-spec = tie.close (tie.spec row-of-requires enum-told enum-told-2 returns returns-2)
+is-list-spec = tie.close (tie.spec (λ c κs. search needs) (λ c. search needs) (λ c. search needs) returns returns-2)

@@ -61,19 +61,10 @@ module _ (c : tie.After-choose) where
       goes-so _ its (way-is t s stored arrival payload (length lent) row (searched .find-key .ensures .0) byte) t stored lent arrival payload row (c .choose .result)
       (c .choose .last .1 .1 .1 .1 .1 .1 .1 .0) (c .choose .ensures) t′ stored′ keeps stores
 
-find-key-requires : tie.Need-find-key-requires
-find-key-requires c κs = search needs
-
 choose-requires : tie.Need-choose-requires
 choose-requires c κs =
     let s = sound (c .before .before .before .before .before .before .before .before .before .before .before .before .before .before .before .before .pre) in
     (c .before .before .before .before .before .before .before .before .before .find-key .ensures .1, s .small, λ h. no-place (c .before .before .before .before .before .before .before .before .before .before .before .before .before .before .before .before .args .t1) s (c .before .before .before .before .before .before .before .before .before .find-key .result) (c .before .before .before .before .before .before .before .before .before .before .before .before .before .before .before .before .args .a .fragment .number) h)
-
-enum-told : tie.Need-enum-told
-enum-told c = search needs
-
-enum-known-change : tie.Need-enum-known-change
-enum-known-change c = search needs
 
 mul-copy : tie.Need-mul-copy
 mul-copy c = omega (arith, did (c .before .before .before .before .before .before) _ (c .before .before .change .given .1) .0)
@@ -88,39 +79,15 @@ with-fragment-requires c κs =
     let does = did (c .before .before .before .before .before .before .before .before .before) _ (c .before .before .before .before .before .change .given .1) in
     (does .0, does .1, does .3)
 
-enum-told-2 : tie.Need-enum-told-2
-enum-told-2 c = search needs
-
-without-key-requires : tie.Need-without-key-requires
-without-key-requires c κs = search needs
-
-same-length : tie.Need-same-length
-same-length c = search needs
-
-same-length-2 : tie.Need-same-length-2
-same-length-2 c = search needs
-
 returns : tie.Need-returns
 returns c =
     let does = did (c .before .before .before .before) _ (c .enum-told .given .1) in
     goes (c .before .before .before .before) (c .before .before .before .before .before .before .before .before .before .before .before .before .before .before .before .before .before .before .before .before .before .args .t1) (now (c .before .before .before .before .before .before .before .before .before .before .before .before .before .before .before .before .before .before .before .before .before .args .store)) (does .0) (does .1)
 
-same-length-3 : tie.Need-same-length-3
-same-length-3 c = search needs
-
-same-length-4 : tie.Need-same-length-4
-same-length-4 c = search needs
-
 returns-2 : tie.Need-returns-2
 returns-2 c =
     let does = did (c .before .before .before .before .before .before .before .before .before .before) _ (c .before .before .before .before .before .before .change .given .1) in
     goes (c .before .before .before .before .before .before .before .before .before .before) (c .with-fragment .result) (c .before .before .before .copy .last .1 .1 .1 .0) (c .with-fragment .ensures ∙ does .4) (c .before .before .before .copy .ensures ∙ does .5)
-
-same-length-5 : tie.Need-same-length-5
-same-length-5 c = search needs
-
-same-length-6 : tie.Need-same-length-6
-same-length-6 c = search needs
 
 returns-3 : tie.Need-returns-3
 returns-3 c =
@@ -131,21 +98,21 @@ pub push-step-spec : {M : Type 1} → statement M
 push-step-spec =
     tie.close
     (tie.spec
-    find-key-requires
+    (λ c κs. search needs)
     choose-requires
-    enum-told
-    enum-known-change
+    (λ c. search needs)
+    (λ c. search needs)
     mul-copy
     copy-requires
     with-fragment-requires
-    enum-told-2
-    without-key-requires
-    same-length
-    same-length-2
+    (λ c. search needs)
+    (λ c κs. search needs)
+    (λ c. search needs)
+    (λ c. search needs)
     returns
-    same-length-3
-    same-length-4
+    (λ c. search needs)
+    (λ c. search needs)
     returns-2
-    same-length-5
-    same-length-6
+    (λ c. search needs)
+    (λ c. search needs)
     returns-3)

@@ -22,44 +22,17 @@ wrote c =
     let n = w .before .before in
     headed _ _ _ _ _ _ _ (n .before .code-of .ensures) (n .size-of .ensures) (ap writtenOf (sym (c .before .size .given .1)) ∙ w .write-header .ensures .0) (w .write-header .ensures .1)
 
-is-readable-requires : tie.Need-is-readable-requires
-is-readable-requires c κs = search needs
-
-code-of-requires : tie.Need-code-of-requires
-code-of-requires c κs = search needs
-
-size-of-requires : tie.Need-size-of-requires
-size-of-requires c κs = search needs
-
-write-header-requires : tie.Need-write-header-requires
-write-header-requires c κs = search needs
-
-enum-known-size : tie.Need-enum-known-size
-enum-known-size c = search needs
-
 sub-put-value : tie.Need-sub-put-value
 sub-put-value c = omega (arith, wrote c .room)
 
 part-put-value-start : tie.Need-part-put-value-start
 part-put-value-start c = omega (arith, wrote c .room)
 
-part-put-value-end : tie.Need-part-put-value-end
-part-put-value-end c = search needs
-
 put-value-requires : tie.Need-put-value-requires
 put-value-requires c κs = simp (length-take, length-drop) (omega (arith, wrote (c .before) .room))
 
-enum-known-refusal : tie.Need-enum-known-refusal
-enum-known-refusal c = search needs
-
-same-length : tie.Need-same-length
-same-length c = search needs
-
 returns : tie.Need-returns
 returns c = let k = c .before .before .before .before in let i = k .before .before .before .before .before .before .before .before .before in let a = i .before .before .before .args in let e = framed _ _ _ (good i) (wrote k .answer) in (e, tlv-put _ (bytesOf (a .item)) (a .out .now) _ _ (wrote k .stands) (c .before .before .put-value .ensures) ∙ put _ _ _ _ e)
-
-same-length-2 : tie.Need-same-length-2
-same-length-2 c = search needs
 
 returns-2 : tie.Need-returns-2
 returns-2 c = let w = c .before .before .before .before .before in let n = w .before .before in let e = ap writtenOf (sym (c .before .refusal .given .1)) ∙ w .write-header .ensures .0 in let f = framed _ _ _ (good (n .before .before)) (rw (n .size-of .ensures) at e) in (f, w .write-header .ensures .1 ∙ sym (kept _ _ _ _ _ e) ∙ kept _ _ _ _ _ f)
@@ -71,18 +44,18 @@ pub write-record-spec : {M : Type 1} → statement M
 write-record-spec =
     tie.close
     (tie.spec
-    is-readable-requires
-    code-of-requires
-    size-of-requires
-    write-header-requires
-    enum-known-size
+    (λ c κs. search needs)
+    (λ c κs. search needs)
+    (λ c κs. search needs)
+    (λ c κs. search needs)
+    (λ c. search needs)
     sub-put-value
     part-put-value-start
-    part-put-value-end
+    (λ c. search needs)
     put-value-requires
-    enum-known-refusal
-    same-length
+    (λ c. search needs)
+    (λ c. search needs)
     returns
-    same-length-2
+    (λ c. search needs)
     returns-2
     returns-3)

@@ -6,20 +6,8 @@ use borrow.Author.Needs.{needs}
 use Rattle.record_writing.proofs.write_value.Statement.{statement}
 use Rattle.record_writing.proofs.write_value.Tie as tie
 
-is-readable-requires : tie.Need-is-readable-requires
-is-readable-requires c κs = search needs
-
-size-of-requires : tie.Need-size-of-requires
-size-of-requires c κs = search needs
-
 returns : tie.Need-returns
 returns c = let s = c .before in let e = tight _ _ _ (s .size-of .ensures) (sym (s .before .before .is-readable .ensures) ∙ s .before .if1 .taken) (c .if2 .taken) in (e, kept _ _ _ _ _ e)
-
-put-value-requires : tie.Need-put-value-requires
-put-value-requires c κs = search needs
-
-same-length : tie.Need-same-length
-same-length c = search needs
 
 returns-2 : tie.Need-returns-2
 returns-2 c = let i = c .before .before .before .before in let s = i .before in let e = fits _ _ _ (s .size-of .ensures) (sym (s .before .before .is-readable .ensures) ∙ s .before .if1 .taken) (i .if2 .left) in (e, c .before .before .put-value .ensures ∙ put _ _ _ _ e)
@@ -31,10 +19,10 @@ pub write-value-spec : {M : Type 1} → statement M
 write-value-spec =
     tie.close
     (tie.spec
-    is-readable-requires
-    size-of-requires
+    (λ c κs. search needs)
+    (λ c κs. search needs)
     returns
-    put-value-requires
-    same-length
+    (λ c κs. search needs)
+    (λ c. search needs)
     returns-2
     returns-3)

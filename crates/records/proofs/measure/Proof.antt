@@ -6,15 +6,6 @@ use borrow.Author.Needs.{needs}
 use Rattle.records.proofs.measure.Statement.{statement}
 use Rattle.records.proofs.measure.Tie as tie
 
-read-record-requires : tie.Need-read-record-requires
-read-record-requires c κs = search needs
-
-enum-known-consumed : tie.Need-enum-known-consumed
-enum-known-consumed c = search needs
-
-enum-known-refusal : tie.Need-enum-known-refusal
-enum-known-refusal c = search needs
-
 returns : tie.Need-returns
 returns c = ap (mapped (λ (x : Reading). x .consumed)) (ap gotOf (sym (c .before .consumed .given .1)) ∙ c .before .before .before .read-record .ensures)
 
@@ -24,4 +15,4 @@ returns-2 c = ap (mapped (λ (x : Reading). x .consumed)) (ap gotOf (sym (c .bef
 pub measure-spec : {M : Type 1} → statement M
 measure-spec =
     tie.close
-    (tie.spec read-record-requires enum-known-consumed enum-known-refusal returns returns-2)
+    (tie.spec (λ c κs. search needs) (λ c. search needs) (λ c. search needs) returns returns-2)

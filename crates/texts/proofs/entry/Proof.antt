@@ -7,9 +7,6 @@ use Rattle.layouts.specs.Access.{numbersOf}
 use Rattle.texts.specs.Access.{locateRadio}
 use Rattle.texts.proofs.Asked.{in-value, radio-within}
 
-locate-requires : tie.Need-locate-requires
-locate-requires c κs = search needs
-
 part-requires : tie.Need-part-requires
 part-requires c κs =
     let a = c .before .before .args in
@@ -19,4 +16,4 @@ returns : tie.Need-returns
 returns c = let e = c .before .locate .ensures in (c .part .ensures .0 ∙ rw e, c .part .ensures .1 ∙ rw e)
 
 pub entry-spec : {M : Type 1} → statement M
-entry-spec = tie.close (tie.spec locate-requires part-requires returns)
+entry-spec = tie.close (tie.spec (λ c κs. search needs) part-requires returns)

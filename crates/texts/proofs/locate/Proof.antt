@@ -9,21 +9,9 @@ use Rattle.texts.specs.Texts.{textKind}
 use Rattle.texts.specs.Access.{ofText, locateRadio}
 use Rattle.texts.specs.PrivatePieces.{rowKind}
 
-row-of-requires : tie.Need-row-of-requires
-row-of-requires c κs = search needs
-
-enum-known-row : tie.Need-enum-known-row
-enum-known-row c = search needs
-
 -- the row that was found
 has : (c : tie.After-row) → textKind (c .before .before .before .before .args .code) ≡ gives (rowKind (c .row .given .0 .0))
 has c = sym (rw (c .row .given .1) at (c .before .before .row-of .ensures))
-
-radio-in-requires : tie.Need-radio-in-requires
-radio-in-requires c κs = search needs
-
-enum-known-r : tie.Need-enum-known-r
-enum-known-r c = search needs
 
 returns : tie.Need-returns
 unfolding ofText locateRadio
@@ -36,4 +24,4 @@ returns-2 c = sym (stops _ _ _ _ (sym (rw (c .before .r .given .1) at (c .before
 pub locate-spec : {M : Type 1} → statement M
 locate-spec =
     tie.close
-    (tie.spec row-of-requires enum-known-row radio-in-requires enum-known-r returns returns-2)
+    (tie.spec (λ c κs. search needs) (λ c. search needs) (λ c κs. search needs) (λ c. search needs) returns returns-2)

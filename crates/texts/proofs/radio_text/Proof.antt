@@ -6,9 +6,6 @@ use mathlib.Core.Path.{_∙_}
 use Rattle.texts.specs.Access.{locateRadioText}
 use Rattle.texts.proofs.Asked.{in-value, radio-text-within}
 
-locate-radio-text-requires : tie.Need-locate-radio-text-requires
-locate-radio-text-requires c κs = search needs
-
 part-requires : tie.Need-part-requires
 part-requires c κs =
     let a = c .before .before .args in
@@ -18,4 +15,4 @@ returns : tie.Need-returns
 returns c = let e = c .before .locate-radio-text .ensures in (c .part .ensures .0 ∙ rw e, c .part .ensures .1 ∙ rw e)
 
 pub radio-text-spec : {M : Type 1} → statement M
-radio-text-spec = tie.close (tie.spec locate-radio-text-requires part-requires returns)
+radio-text-spec = tie.close (tie.spec (λ c κs. search needs) part-requires returns)

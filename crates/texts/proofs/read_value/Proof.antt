@@ -10,21 +10,9 @@ use Rattle.texts.specs.Reading.{consumedIn, wholeOf, readText}
 use Rattle.texts.specs.PrivatePieces.{rowKind}
 use Rattle.texts.proofs.Whole.{Outlined, outlined-of, not-outlined, end-within}
 
-row-of-requires : tie.Need-row-of-requires
-row-of-requires c κs = search needs
-
-enum-known-row : tie.Need-enum-known-row
-enum-known-row c = search needs
-
 -- the row that was found, and the value that was read
 has : (c : tie.After-row) → textKind (c .before .before .before .before .args .code) ≡ gives (rowKind (c .row .given .0 .0))
 has c = sym (rw (c .row .given .1) at (c .before .before .row-of .ensures))
-
-read-row-requires : tie.Need-read-row-requires
-read-row-requires c κs = search needs
-
-enum-known-n : tie.Need-enum-known-n
-enum-known-n c = search needs
 
 whole : (c : tie.After-n) →
     let r = c .before .before .before .before in
@@ -39,12 +27,6 @@ sub-t13 c =
     let a = r .before .before .before .before .args in
     let w = end-within (rowKind (r .row .given .0 .0)) (a .s .now) _ (whole k) in
     search needs
-
-enum-known-r : tie.Need-enum-known-r
-enum-known-r c = search needs
-
-enum-known-r-2 : tie.Need-enum-known-r-2
-enum-known-r-2 c = search needs
 
 returns : tie.Need-returns
 unfolding readText
@@ -71,13 +53,13 @@ pub read-value-spec : {M : Type 1} → statement M
 read-value-spec =
     tie.close
     (tie.spec
-    row-of-requires
-    enum-known-row
-    read-row-requires
-    enum-known-n
+    (λ c κs. search needs)
+    (λ c. search needs)
+    (λ c κs. search needs)
+    (λ c. search needs)
     sub-t13
-    enum-known-r
-    enum-known-r-2
+    (λ c. search needs)
+    (λ c. search needs)
     returns
     returns-2
     returns-3)

@@ -17,33 +17,6 @@ beyond b h ne = omega arith
 outside : (b : ℕ) → 0xF4 < b → Outside forms b
 outside b h = (inr (omega arith), (inr (omega arith), (inr (omega arith), (inr (omega arith), (inr (omega arith), (inr (omega arith), (inr (omega arith), (inr (omega arith), (inr (omega arith), tt)))))))))
 
-awaiting-requires : tie.Need-awaiting-requires
-awaiting-requires c κs = search needs
-
-awaiting-requires-2 : tie.Need-awaiting-requires-2
-awaiting-requires-2 c κs = search needs
-
-awaiting-requires-3 : tie.Need-awaiting-requires-3
-awaiting-requires-3 c κs = search needs
-
-awaiting-requires-4 : tie.Need-awaiting-requires-4
-awaiting-requires-4 c κs = search needs
-
-awaiting-requires-5 : tie.Need-awaiting-requires-5
-awaiting-requires-5 c κs = search needs
-
-awaiting-requires-6 : tie.Need-awaiting-requires-6
-awaiting-requires-6 c κs = search needs
-
-awaiting-requires-7 : tie.Need-awaiting-requires-7
-awaiting-requires-7 c κs = search needs
-
-awaiting-requires-8 : tie.Need-awaiting-requires-8
-awaiting-requires-8 c κs = search needs
-
-awaiting-requires-9 : tie.Need-awaiting-requires-9
-awaiting-requires-9 c κs = search needs
-
 returns : tie.Need-returns
 returns c = let e = c .before .match .keys1 in ap stepTold (c .awaiting .ensures) ∙ sym (begun-is forms (c .before .before .args .b) _ tt (inr (inr (inl (omega arith, omega arith, refl)))))
 
@@ -84,15 +57,15 @@ pub begin-spec : {M : Type 1} → statement M
 begin-spec =
     tie.close
     (tie.spec
-    awaiting-requires
-    awaiting-requires-2
-    awaiting-requires-3
-    awaiting-requires-4
-    awaiting-requires-5
-    awaiting-requires-6
-    awaiting-requires-7
-    awaiting-requires-8
-    awaiting-requires-9
+    (λ c κs. search needs)
+    (λ c κs. search needs)
+    (λ c κs. search needs)
+    (λ c κs. search needs)
+    (λ c κs. search needs)
+    (λ c κs. search needs)
+    (λ c κs. search needs)
+    (λ c κs. search needs)
+    (λ c κs. search needs)
     returns
     returns-2
     returns-3

@@ -29,9 +29,6 @@ too-high : (n low high b : ℕ) → 0 < n → high < b → onward (ranges n low 
 too-high zero low high b z l = absurd (omega arith)
 too-high (suc n) low high b z l = rw (above-range (low to high) b l)
 
-begin-requires : tie.Need-begin-requires
-begin-requires c κs = search needs
-
 returns : tie.Need-returns
 returns c = let e = c .before .if1 .taken in c .begin .ensures ∙ rw e
 
@@ -47,12 +44,6 @@ returns-3 c =
     let w = a .awaited in
     sym (too-high (w .left) (w .low) (w .high) (a .b) (omega arith) (c .if3 .taken))
 
-sub-awaiting : tie.Need-sub-awaiting
-sub-awaiting c = search needs
-
-awaiting-requires : tie.Need-awaiting-requires
-awaiting-requires c κs = search needs
-
 returns-4 : tie.Need-returns-4
 returns-4 c =
     let a = c .before .before .before .before .before .before .before .before .args in
@@ -62,4 +53,4 @@ returns-4 c =
 pub step-spec : {M : Type 1} → statement M
 step-spec =
     tie.close
-    (tie.spec begin-requires returns returns-2 returns-3 sub-awaiting awaiting-requires returns-4)
+    (tie.spec (λ c κs. search needs) returns returns-2 returns-3 (λ c. search needs) (λ c κs. search needs) returns-4)

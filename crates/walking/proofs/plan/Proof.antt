@@ -9,15 +9,6 @@ use borrow.Author.Needs.{needs}
 use Rattle.walking.proofs.plan.Statement.{statement}
 use Rattle.walking.proofs.plan.Tie as tie
 
-tlv-at-requires : tie.Need-tlv-at-requires
-tlv-at-requires c κs = search needs
-
-walk-requires : tie.Need-walk-requires
-walk-requires c κs = search needs
-
-enum-known-count : tie.Need-enum-known-count
-enum-known-count c = search needs
-
 offset-of-requires : tie.Need-offset-of-requires
 offset-of-requires c κs = omega (arith, ended-with (walkOf (c .before .before .before .before .before .before .before .args .payload .now)) _ (ap walkedOf (sym (c .before .before .count .given .1)) ∙ c .before .before .before .before .walk .ensures) .1)
 
@@ -29,9 +20,6 @@ returns c =
       counts = ap fills e;
       starts = is-first _ _ (c .before .before .before .before .before .before .tlv-at .ensures);
     }
-
-enum-known-refusal : tie.Need-enum-known-refusal
-enum-known-refusal c = search needs
 
 returns-2 : tie.Need-returns-2
 returns-2 c =
@@ -47,11 +35,11 @@ pub plan-spec : {M : Type 1} → statement M
 plan-spec =
     tie.close
     (tie.spec
-    tlv-at-requires
-    walk-requires
-    enum-known-count
+    (λ c κs. search needs)
+    (λ c κs. search needs)
+    (λ c. search needs)
     offset-of-requires
     returns
-    enum-known-refusal
+    (λ c. search needs)
     returns-2
     returns-3)

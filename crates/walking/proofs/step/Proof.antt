@@ -14,29 +14,11 @@ use Rattle.walking.proofs.step.Tie as tie
 returns : tie.Need-returns
 returns c = at-end _ _ (search needs)
 
-sub-read-tlv : tie.Need-sub-read-tlv
-sub-read-tlv c = search needs
-
-part-read-tlv-start : tie.Need-part-read-tlv-start
-part-read-tlv-start c = search needs
-
-part-read-tlv-end : tie.Need-part-read-tlv-end
-part-read-tlv-end c = search needs
-
-read-tlv-requires : tie.Need-read-tlv-requires
-read-tlv-requires c κs = search needs
-
-enum-known-tlv-type : tie.Need-enum-known-tlv-type
-enum-known-tlv-type c = search needs
-
 cast-t15 : tie.Need-cast-t15
 cast-t15 c =
     let b = c .before .before .before .before .before .before in
     let a = b .before .args in
     record { fits = narrow (a .payload .now) (a .at) _ (ap readOf (sym (c .before .tlv-type .given .1)) ∙ c .before .before .before .read-tlv .ensures ∙ ap readTlv (whole-rest (a .payload .now) (a .at))) (b .shared-slice-known .given (a .at + 1) .fits) (b .shared-slice-known .given (a .at + 2) .fits) }
-
-is-marker-requires : tie.Need-is-marker-requires
-is-marker-requires c κs = search needs
 
 add-t17 : tie.Need-add-t17
 add-t17 c =
@@ -57,9 +39,6 @@ add-t18 c =
     let a = b .before .before .before .before .before .before .before .args in
     omega (arith, fits (a .payload .now) (a .at) _ (ap readOf (sym (b .before .tlv-type .given .1)) ∙ b .before .before .before .read-tlv .ensures ∙ ap readTlv (whole-rest (a .payload .now) (a .at))) (search needs))
 
-enum-known-refusal : tie.Need-enum-known-refusal
-enum-known-refusal c = search needs
-
 returns-3 : tie.Need-returns-3
 returns-3 c =
     let b = c .before .before in
@@ -76,16 +55,16 @@ step-spec =
     tie.close
     (tie.spec
     returns
-    sub-read-tlv
-    part-read-tlv-start
-    part-read-tlv-end
-    read-tlv-requires
-    enum-known-tlv-type
+    (λ c. search needs)
+    (λ c. search needs)
+    (λ c. search needs)
+    (λ c κs. search needs)
+    (λ c. search needs)
     cast-t15
-    is-marker-requires
+    (λ c κs. search needs)
     add-t17
     returns-2
     add-t18
-    enum-known-refusal
+    (λ c. search needs)
     returns-3
     returns-4)

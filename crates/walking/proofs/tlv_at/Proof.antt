@@ -6,21 +6,6 @@ use Rattle.walking.specs.PrivateSteps.{tlvBy}
 use Rattle.walking.proofs.tlv_at.Statement.{statement}
 use Rattle.walking.proofs.tlv_at.Tie as tie
 
-step-requires : tie.Need-step-requires
-step-requires c κs = search needs
-
-enum-told : tie.Need-enum-told
-enum-told c = search needs
-
-enum-known-tlv : tie.Need-enum-known-tlv
-enum-known-tlv c = search needs
-
-enum-known-tlv-2 : tie.Need-enum-known-tlv-2
-enum-known-tlv-2 c = search needs
-
-enum-told-2 : tie.Need-enum-told-2
-enum-told-2 c = search needs
-
 returns : tie.Need-returns
 returns c = ap tlvBy (ap steppedOf (sym (c .enum-told .given .1)) ∙ c .before .before .step .ensures)
 
@@ -37,11 +22,11 @@ pub tlv-at-spec : {M : Type 1} → statement M
 tlv-at-spec =
     tie.close
     (tie.spec
-    step-requires
-    enum-told
-    enum-known-tlv
-    enum-known-tlv-2
-    enum-told-2
+    (λ c κs. search needs)
+    (λ c. search needs)
+    (λ c. search needs)
+    (λ c. search needs)
+    (λ c. search needs)
     returns
     returns-2
     returns-3

@@ -7,20 +7,11 @@ use Rattle.layouts.specs.Access.{numbersOf}
 use Rattle.kinds.proofs.Families.{text-located, list-located}
 use Rattle.texts.proofs.entry.Reads as entry-reads′
 
-is-text-requires : tie.Need-is-text-requires
-is-text-requires c κs = search needs
-
-entry-requires : tie.Need-entry-requires
-entry-requires c κs = search needs
-
 returns : tie.Need-returns
 returns c =
     let a = c .before .before .before .before .args in
     let e = text-located (a .code) (a .s .now) (sym (c .before .before .is-text .ensures) ∙ c .before .if1 .taken) (numbersOf (a .path)) in
     (c .entry .ensures .0 ∙ rw e, c .entry .ensures .1 ∙ rw e)
-
-entry-requires-2 : tie.Need-entry-requires-2
-entry-requires-2 c κs = search needs
 
 returns-2 : tie.Need-returns-2
 returns-2 c =
@@ -30,4 +21,4 @@ returns-2 c =
 
 pub entry-listed-spec : {M : Type 1} → statement M
 entry-listed-spec =
-    tie.close (tie.spec is-text-requires entry-requires returns entry-requires-2 returns-2)
+    tie.close (tie.spec (λ c κs. search needs) (λ c κs. search needs) returns (λ c κs. search needs) returns-2)

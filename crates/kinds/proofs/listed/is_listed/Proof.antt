@@ -4,17 +4,11 @@ use Rattle.kinds.proofs.listed.is_listed.Statement.{statement}
 use Rattle.kinds.proofs.listed.is_listed.Tie as tie
 use mathlib.Core.Path.{sym, _∙_}
 
-is-list-requires : tie.Need-is-list-requires
-is-list-requires c κs = search needs
-
 returns : tie.Need-returns
 returns c = rw (sym (c .before .is-list .ensures) ∙ c .if1 .taken)
-
-is-text-requires : tie.Need-is-text-requires
-is-text-requires c κs = search needs
 
 returns-2 : tie.Need-returns-2
 returns-2 c = c .is-text .ensures ∙ rw (sym (c .before .before .is-list .ensures) ∙ c .before .if1 .left)
 
 pub is-listed-spec : {M : Type 1} → statement M
-is-listed-spec = tie.close (tie.spec is-list-requires returns is-text-requires returns-2)
+is-listed-spec = tie.close (tie.spec (λ c κs. search needs) returns (λ c κs. search needs) returns-2)

@@ -6,17 +6,8 @@ use mathlib.Core.Path.{sym, _∙_}
 use Rattle.kinds.proofs.Families.{text-reads, list-reads}
 use Rattle.texts.proofs.read_value.Reads as read-value-reads′
 
-is-text-requires : tie.Need-is-text-requires
-is-text-requires c κs = search needs
-
-read-value-requires : tie.Need-read-value-requires
-read-value-requires c κs = search needs
-
 returns : tie.Need-returns
 returns c = c .read-value .ensures ∙ sym (text-reads _ _ (sym (c .before .before .is-text .ensures) ∙ c .before .if1 .taken))
-
-read-value-requires-2 : tie.Need-read-value-requires-2
-read-value-requires-2 c κs = search needs
 
 returns-2 : tie.Need-returns-2
 returns-2 c = c .read-value2 .ensures ∙ sym (list-reads _ _ (sym (c .before .before .is-text .ensures) ∙ c .before .if1 .left))
@@ -24,4 +15,4 @@ returns-2 c = c .read-value2 .ensures ∙ sym (list-reads _ _ (sym (c .before .b
 pub read-listed-spec : {M : Type 1} → statement M
 read-listed-spec =
     tie.close
-    (tie.spec is-text-requires read-value-requires returns read-value-requires-2 returns-2)
+    (tie.spec (λ c κs. search needs) (λ c κs. search needs) returns (λ c κs. search needs) returns-2)

@@ -11,12 +11,6 @@ use Rattle.layouts.proofs.Laws.{fewer, list-level}
 use Rattle.layouts.proofs.Within.{list-within}
 use Rattle.layouts.proofs.Finding.{child-there, child-past, child-none, below-row}
 
-list-at-requires : tie.Need-list-at-requires
-list-at-requires c κs = search needs
-
-enum-known-n : tie.Need-enum-known-n
-enum-known-n c = search needs
-
 -- the list that was found, which an entry of the lowest level has not
 has : (c : tie.After-n) →
     let a = c .before .before .before .before .args in
@@ -47,9 +41,6 @@ returns c =
     c .read-list .ensures ∙
     rw (c .before .row-below .ensures) (sym (rw down at (child-there (rowLayout (a .row)) (a .i) (a .s .now) (a .p) _ (has l) (c .before .before .if1 .taken))))
 
-enum-known-r : tie.Need-enum-known-r
-enum-known-r c = search needs
-
 returns-2 : tie.Need-returns-2
 returns-2 c =
     let l = c .before .before in
@@ -66,11 +57,11 @@ pub child-spec : {M : Type 1} → statement M
 child-spec =
     tie.close
     (tie.spec
-    list-at-requires
-    enum-known-n
+    (λ c κs. search needs)
+    (λ c. search needs)
     row-below-requires
     read-list-requires
     returns
-    enum-known-r
+    (λ c. search needs)
     returns-2
     returns-3)

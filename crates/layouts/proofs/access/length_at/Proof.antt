@@ -8,12 +8,6 @@ use Rattle.layouts.specs.Access.{numbersOf, findEntry, lengthAt}
 use Rattle.layouts.specs.PrivateRows.{rowLayout}
 use Rattle.layouts.proofs.Within.{find-within}
 
-find-entry-requires : tie.Need-find-entry-requires
-find-entry-requires c κs = search needs
-
-enum-known-found : tie.Need-enum-known-found
-enum-known-found c = search needs
-
 -- the entry that was found
 has : (c : tie.After-found) →
     let a = c .before .before .before .before .args in
@@ -25,15 +19,6 @@ list-at-requires c κs =
     let k = c .before in
     let a = k .before .before .before .before .args in
     find-within (rowLayout (a .row)) (numbersOf (a .path)) (a .s .now) 0 _ (search needs) (has k) .1
-
-enum-known-n : tie.Need-enum-known-n
-enum-known-n c = search needs
-
-enum-known-r : tie.Need-enum-known-r
-enum-known-r c = search needs
-
-enum-known-r-2 : tie.Need-enum-known-r-2
-enum-known-r-2 c = search needs
 
 returns : tie.Need-returns
 unfolding lengthAt
@@ -55,12 +40,12 @@ pub length-at-spec : {M : Type 1} → statement M
 length-at-spec =
     tie.close
     (tie.spec
-    find-entry-requires
-    enum-known-found
+    (λ c κs. search needs)
+    (λ c. search needs)
     list-at-requires
-    enum-known-n
-    enum-known-r
-    enum-known-r-2
+    (λ c. search needs)
+    (λ c. search needs)
+    (λ c. search needs)
     returns
     returns-2
     returns-3)

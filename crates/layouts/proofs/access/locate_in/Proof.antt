@@ -6,18 +6,6 @@ use mathlib.Core.Path.{sym, _∙_}
 use Rattle.numbers.proofs.Answers.{follows, stops}
 use Rattle.layouts.specs.Access.{ofValue}
 
-read-row-requires : tie.Need-read-row-requires
-read-row-requires c κs = search needs
-
-enum-told : tie.Need-enum-told
-enum-told c = search needs
-
-span-of-requires : tie.Need-span-of-requires
-span-of-requires c κs = search needs
-
-enum-known-r : tie.Need-enum-known-r
-enum-known-r c = search needs
-
 returns : tie.Need-returns
 unfolding ofValue
 returns c = c .span-of .ensures ∙ sym (follows _ _ _ (sym (rw (c .before .enum-told .given .1) at (c .before .before .before .read-row .ensures))))
@@ -29,4 +17,4 @@ returns-2 c = sym (stops _ _ _ _ (sym (rw (c .before .r .given .1) at (c .before
 pub locate-in-spec : {M : Type 1} → statement M
 locate-in-spec =
     tie.close
-    (tie.spec read-row-requires enum-told span-of-requires enum-known-r returns returns-2)
+    (tie.spec (λ c κs. search needs) (λ c. search needs) (λ c κs. search needs) (λ c. search needs) returns returns-2)

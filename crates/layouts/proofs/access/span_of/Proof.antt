@@ -16,12 +16,6 @@ returns c =
     let p = a .path in
     sym (span-none (rowLayout (a .row)) (p .depth) (p .i0) (p .i1) (p .i2) (a .s .now) (c .if1 .taken))
 
-find-entry-requires : tie.Need-find-entry-requires
-find-entry-requires c κs = search needs
-
-enum-known-found : tie.Need-enum-known-found
-enum-known-found c = search needs
-
 -- the two steps of a path that has a number, and the entry that was found
 some : (c : tie.After-find-entry) →
     let a = c .before .before .before .before .args in
@@ -42,15 +36,6 @@ read-entry-requires c κs =
     let k = c .before in
     let a = k .before .before .before .before .before .before .args in
     find-within (rowLayout (a .row)) (numbersOf (a .path)) (a .s .now) 0 _ (search needs) (has k) .1
-
-enum-known-end : tie.Need-enum-known-end
-enum-known-end c = search needs
-
-enum-known-r : tie.Need-enum-known-r
-enum-known-r c = search needs
-
-enum-known-r-2 : tie.Need-enum-known-r-2
-enum-known-r-2 c = search needs
 
 returns-2 : tie.Need-returns-2
 returns-2 c =
@@ -74,12 +59,12 @@ span-of-spec =
     tie.close
     (tie.spec
     returns
-    find-entry-requires
-    enum-known-found
+    (λ c κs. search needs)
+    (λ c. search needs)
     read-entry-requires
-    enum-known-end
-    enum-known-r
-    enum-known-r-2
+    (λ c. search needs)
+    (λ c. search needs)
+    (λ c. search needs)
     returns-2
     returns-3
     returns-4)

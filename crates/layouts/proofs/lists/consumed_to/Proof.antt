@@ -9,9 +9,6 @@ use Prim.Native.Nat.{_-_}
 use lib.ListN.{length}
 use Rattle.layouts.specs.Reading.{consumedTo}
 
-sub-rest : tie.Need-sub-rest
-sub-rest c = search needs
-
 returns : tie.Need-returns
 unfolding consumedTo
 returns c =
@@ -30,4 +27,4 @@ unfolding consumedTo
 returns-3 c = simp (c .if1 .left)
 
 pub consumed-to-spec : {M : Type 1} → statement M
-consumed-to-spec = tie.close (tie.spec sub-rest returns returns-2 returns-3)
+consumed-to-spec = tie.close (tie.spec (λ c. search needs) returns returns-2 returns-3)

@@ -16,35 +16,17 @@ returns c =
     let a = c .before .before .before .args in
     (simp (eq-eqb _ _ (c .before .if1 .taken), c .if2 .taken, div-zero), omega arith)
 
-sub-t8 : tie.Need-sub-t8
-sub-t8 c = search needs
-
-div-t9 : tie.Need-div-t9
-div-t9 c = search needs
-
 returns-2 : tie.Need-returns-2
 unfolding countAt
 returns-2 c =
     let a = c .before .before .before .args in
     (simp (eq-eqb _ _ (c .before .if1 .taken)), omega (arith, div-mul-le-self (length (a .s .now) - a .at) (a .h)))
 
-sub-if4 : tie.Need-sub-if4
-sub-if4 c = search needs
-
 returns-3 : tie.Need-returns-3
 unfolding countAt
 returns-3 c =
     let a = c .before .before .before .before .args in
     (simp (c .before .if3 .taken, lt-leb (a .at + 1) (length (a .s .now)) (omega arith)), tt)
-
-shared-slice-read-wide : tie.Need-shared-slice-read-wide
-shared-slice-read-wide c = search needs
-
-wide-requires : tie.Need-wide-requires
-wide-requires c κs = search needs
-
-add-t11 : tie.Need-add-t11
-add-t11 c = search needs
 
 returns-4 : tie.Need-returns-4
 unfolding countAt
@@ -55,38 +37,11 @@ returns-4 c =
       few (c .wide .result) (a .h) (omega arith) (search needs),
     )
 
-sub-if5 : tie.Need-sub-if5
-sub-if5 c = search needs
-
 returns-5 : tie.Need-returns-5
 unfolding countAt
 returns-5 c =
     let a = c .before .before .before .before .args in
     (simp (ne-eqb _ _ (c .before .before .if1 .left), ne-eqb _ _ (c .before .if3 .left), lt-leb (a .at + 2) (length (a .s .now)) (omega arith)), tt)
-
-shared-slice-read-wide-2 : tie.Need-shared-slice-read-wide-2
-shared-slice-read-wide-2 c = search needs
-
-wide-requires-2 : tie.Need-wide-requires-2
-wide-requires-2 c κs = search needs
-
-mul-t17 : tie.Need-mul-t17
-mul-t17 c = search needs
-
-add-wide : tie.Need-add-wide
-add-wide c = search needs
-
-shared-slice-read-wide-3 : tie.Need-shared-slice-read-wide-3
-shared-slice-read-wide-3 c = search needs
-
-wide-requires-3 : tie.Need-wide-requires-3
-wide-requires-3 c κs = search needs
-
-add-t25 : tie.Need-add-t25
-add-t25 c = search needs
-
-add-t26 : tie.Need-add-t26
-add-t26 c = search needs
 
 returns-6 : tie.Need-returns-6
 unfolding countAt
@@ -110,23 +65,23 @@ count-at-spec =
     tie.close
     (tie.spec
     returns
-    sub-t8
-    div-t9
+    (λ c. search needs)
+    (λ c. search needs)
     returns-2
-    sub-if4
+    (λ c. search needs)
     returns-3
-    shared-slice-read-wide
-    wide-requires
-    add-t11
+    (λ c. search needs)
+    (λ c κs. search needs)
+    (λ c. search needs)
     returns-4
-    sub-if5
+    (λ c. search needs)
     returns-5
-    shared-slice-read-wide-2
-    wide-requires-2
-    mul-t17
-    add-wide
-    shared-slice-read-wide-3
-    wide-requires-3
-    add-t25
-    add-t26
+    (λ c. search needs)
+    (λ c κs. search needs)
+    (λ c. search needs)
+    (λ c. search needs)
+    (λ c. search needs)
+    (λ c κs. search needs)
+    (λ c. search needs)
+    (λ c. search needs)
     returns-6)

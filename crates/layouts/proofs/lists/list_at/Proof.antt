@@ -11,27 +11,12 @@ use Rattle.layouts.proofs.Laws.{list-none, list-cut, list-there}
 returns : tie.Need-returns
 returns c = let a = c .before .before .before .args in (sym (list-none (a .row) (a .s .now) (a .at) (c .if1 .taken)), tt)
 
-wide-requires : tie.Need-wide-requires
-wide-requires c κs = search needs
-
-sub-if2 : tie.Need-sub-if2
-sub-if2 c = search needs
-
 returns-2 : tie.Need-returns-2
 returns-2 c =
     let a = c .before .before .before .before .before .args in
     let h = c .before .wide .ensures in
     let l : length (a .s .now) < a .at + a .row .h0 = omega arith in
     (sym (list-cut (a .row) (a .s .now) (a .at) (c .before .before .if1 .left) l), tt)
-
-wide-requires-2 : tie.Need-wide-requires-2
-wide-requires-2 c κs = search needs
-
-add-count-at : tie.Need-add-count-at
-add-count-at c = search needs
-
-count-at-requires : tie.Need-count-at-requires
-count-at-requires c κs = search needs
 
 returns-3 : tie.Need-returns-3
 returns-3 c =
@@ -48,10 +33,10 @@ list-at-spec =
     tie.close
     (tie.spec
     returns
-    wide-requires
-    sub-if2
+    (λ c κs. search needs)
+    (λ c. search needs)
     returns-2
-    wide-requires-2
-    add-count-at
-    count-at-requires
+    (λ c κs. search needs)
+    (λ c. search needs)
+    (λ c κs. search needs)
     returns-3)

@@ -9,12 +9,6 @@ use Rattle.layouts.specs.PrivateRows.{rowLayout, rowKind, endTold}
 use Rattle.layouts.proofs.Laws.{list-level, end-there, read-to}
 use Rattle.layouts.proofs.Within.{list-within, end-within}
 
-list-at-requires : tie.Need-list-at-requires
-list-at-requires c κs = search needs
-
-enum-known-n : tie.Need-enum-known-n
-enum-known-n c = search needs
-
 -- the list that was found
 has : (c : tie.After-n) →
     let a = c .before .before .before .before .args in
@@ -40,9 +34,6 @@ ends c =
     let a = l .before .before .before .before .args in
     sym (c .read-list .ensures ∙ rw (c .before .row-below .ensures) (end-there (a .row) (a .s .now) 0 _ (has l)))
 
-enum-known-end : tie.Need-enum-known-end
-enum-known-end c = search needs
-
 ends-at : (c : tie.After-end) →
     let a = c .before .before .before .before .before .before .before .before .before .args in
     endOf (rowLayout (a .row)) (a .s .now) 0 ≡ gives (c .end .given .0 .0)
@@ -53,12 +44,6 @@ consumed-to-requires c κs =
     let e = c .before in
     let a = e .before .before .before .before .before .before .before .before .before .args in
     end-within (rowLayout (a .row)) (a .s .now) 0 _ (ends-at e) .1
-
-enum-known-r : tie.Need-enum-known-r
-enum-known-r c = search needs
-
-enum-known-r-2 : tie.Need-enum-known-r-2
-enum-known-r-2 c = search needs
 
 returns : tie.Need-returns
 returns c =
@@ -83,14 +68,14 @@ pub read-row-spec : {M : Type 1} → statement M
 read-row-spec =
     tie.close
     (tie.spec
-    list-at-requires
-    enum-known-n
+    (λ c κs. search needs)
+    (λ c. search needs)
     row-below-requires
     read-list-requires
-    enum-known-end
+    (λ c. search needs)
     consumed-to-requires
-    enum-known-r
-    enum-known-r-2
+    (λ c. search needs)
+    (λ c. search needs)
     returns
     returns-2
     returns-3)

@@ -7,33 +7,6 @@ use mathlib.Core.Path.{ap}
 use Rattle.numbers.specs.Numbers.{gives}
 use Rattle.layouts.specs.Layouts.{layoutOf}
 
-one-requires : tie.Need-one-requires
-one-requires c κs = search needs
-
-one-requires-2 : tie.Need-one-requires-2
-one-requires-2 c κs = search needs
-
-one-requires-3 : tie.Need-one-requires-3
-one-requires-3 c κs = search needs
-
-two-requires : tie.Need-two-requires
-two-requires c κs = search needs
-
-two-requires-2 : tie.Need-two-requires-2
-two-requires-2 c κs = search needs
-
-two-requires-3 : tie.Need-two-requires-3
-two-requires-3 c κs = search needs
-
-three-requires : tie.Need-three-requires
-three-requires c κs = search needs
-
-three-requires-2 : tie.Need-three-requires-2
-three-requires-2 c κs = search needs
-
-three-requires-3 : tie.Need-three-requires-3
-three-requires-3 c κs = search needs
-
 returns : tie.Need-returns
 unfolding layoutOf
 returns c = rw (c .before .match .keys1) (ap gives (c .one .ensures))
@@ -89,15 +62,15 @@ pub row-of-spec : {M : Type 1} → statement M
 row-of-spec =
     tie.close
     (tie.spec
-    one-requires
-    one-requires-2
-    one-requires-3
-    two-requires
-    two-requires-2
-    two-requires-3
-    three-requires
-    three-requires-2
-    three-requires-3
+    (λ c κs. search needs)
+    (λ c κs. search needs)
+    (λ c κs. search needs)
+    (λ c κs. search needs)
+    (λ c κs. search needs)
+    (λ c κs. search needs)
+    (λ c κs. search needs)
+    (λ c κs. search needs)
+    (λ c κs. search needs)
     returns
     returns-2
     returns-3

@@ -25,14 +25,8 @@ module _ (c : tie.Start) where
   abbrev keeps : Way
   keeps = keepWay (lowestFreeIn (now (c .args .owners))) (spareRowIn (now (c .args .used))) (c .args .row)
 
-refused-requires : tie.Need-refused-requires
-refused-requires c κs = search needs
-
 returns : tie.Need-returns
 returns c = rw (by-11 (length (now (c .before .before .before .before .before .args .store))) (length (now (c .before .before .before .before .before .args .payload))) (place (c .before .before .before .before .before)) (c .before .before .before .before .before .args .f .last) (keeps (c .before .before .before .before .before)) (joins (c .before .before .before .before .before)) (c .before .if1 .taken)) (record { answers = ap pushedOf (c .refused .ensures .1); changes = c .refused .ensures .0; puts = refl })
-
-refused-requires-2 : tie.Need-refused-requires-2
-refused-requires-2 c κs = search needs
 
 returns-2 : tie.Need-returns-2
 returns-2 c = rw (by-12 (length (now (c .before .before .before .before .before .before .args .store))) (length (now (c .before .before .before .before .before .before .args .payload))) (place (c .before .before .before .before .before .before)) (c .before .before .before .before .before .before .args .f .last) (keeps (c .before .before .before .before .before .before)) (joins (c .before .before .before .before .before .before)) (c .before .before .if1 .left) (c .before .if2 .taken)) (record { answers = ap pushedOf (c .refused2 .ensures .1); changes = c .refused2 .ensures .0; puts = refl })
@@ -46,14 +40,8 @@ returns-3 c = rw (by-duplicate (length (now (c .before .before .before .before .
 finish-requires : tie.Need-finish-requires
 finish-requires c κs = (c .before .before .before .before .before .before .before .before .before .pre .0, c .before .before .before .before .before .before .before .before .before .pre .1, c .before .before .before .before .before .if1 .left, c .before .before .before .before .if2 .left)
 
-same-length : tie.Need-same-length
-same-length c = search needs
-
 returns-4 : tie.Need-returns-4
 returns-4 c = rw (by-last (length (now (c .before .before .before .before .before .before .before .before .before .before .before .before .args .store))) (length (now (c .before .before .before .before .before .before .before .before .before .before .before .before .args .payload))) (place (c .before .before .before .before .before .before .before .before .before .before .before .before)) (c .before .before .before .before .before .before .before .before .before .before .before .before .args .f .last) (keeps (c .before .before .before .before .before .before .before .before .before .before .before .before)) (joins (c .before .before .before .before .before .before .before .before .before .before .before .before)) (c .before .before .before .before .before .before .before .before .if1 .left) (c .before .before .before .before .before .before .before .if2 .left) (omega (arith, c .before .before .before .before .before .before .held-at .ensures, c .before .before .before .before .before .if3 .left)) (c .before .before .before .before .if4 .taken)) (c .before .before .finish .ensures)
-
-keep-requires : tie.Need-keep-requires
-keep-requires c κs = search needs
 
 returns-5 : tie.Need-returns-5
 returns-5 c =
@@ -64,14 +52,14 @@ pub choose-spec : {M : Type 1} → statement M
 choose-spec =
     tie.close
     (tie.spec
-    refused-requires
+    (λ c κs. search needs)
     returns
-    refused-requires-2
+    (λ c κs. search needs)
     returns-2
     held-at-requires
     returns-3
     finish-requires
-    same-length
+    (λ c. search needs)
     returns-4
-    keep-requires
+    (λ c κs. search needs)
     returns-5)

@@ -14,9 +14,6 @@ use borrow.Author.Needs.{needs}
 use Rattle.pushing.proofs.choose.complete.Statement.{statement}
 use Rattle.pushing.proofs.choose.complete.Tie as tie
 
-ended-requires : tie.Need-ended-requires
-ended-requires c κs = search needs
-
 returns : tie.Need-returns
 returns c =
     let out = now (c .before .before .before .before .before .args .out) in
@@ -24,9 +21,6 @@ returns c =
     let bytes = piecesTo (now (c .before .before .before .before .before .args .sizes)) (now (c .before .before .before .before .before .args .owners)) (now (c .before .before .before .before .before .args .numbers)) (now (c .before .before .before .before .before .args .store)) (c .before .before .before .before .before .args .row) (c .before .before .before .before .before .args .number) (now (c .before .before .before .before .before .args .payload)) n in
     let sized = c .before .before .before .before .before .pre .4 in
     ends _ (single (length bytes)) [] (last-single n bytes (length out) (c .before .if1 .taken)) (c .before .before .before .before .before .args .row) (c .ended .result) (c .ended .ensures) (ap (λ (k : ℕ). gives (single k)) sized) out out refl
-
-refused-requires : tie.Need-refused-requires
-refused-requires c κs = search needs
 
 returns-2 : tie.Need-returns-2
 returns-2 c =
@@ -38,12 +32,6 @@ returns-2 c =
 
 join-into-requires : tie.Need-join-into-requires
 join-into-requires c κs = (c .before .before .before .before .before .before .pre .0, c .before .before .before .before .before .before .pre .1, c .before .before .before .before .before .before .pre .2, c .before .before .before .before .before .before .pre .3, omega (arith, c .before .before .before .before .before .before .pre .4, c .before .if2 .left))
-
-ended-requires-2 : tie.Need-ended-requires-2
-ended-requires-2 c κs = search needs
-
-same-length : tie.Need-same-length
-same-length c = search needs
 
 returns-3 : tie.Need-returns-3
 returns-3 c =
@@ -58,11 +46,11 @@ pub complete-spec : {M : Type 1} → statement M
 complete-spec =
     tie.close
     (tie.spec
-    ended-requires
+    (λ c κs. search needs)
     returns
-    refused-requires
+    (λ c κs. search needs)
     returns-2
     join-into-requires
-    ended-requires-2
-    same-length
+    (λ c κs. search needs)
+    (λ c. search needs)
     returns-3)

@@ -39,27 +39,6 @@ module _ (c : tie.After-judge) where
 judge-requires : tie.Need-judge-requires
 judge-requires c κs = (c .before .before .before .pre .0, c .before .before .before .pre .3, c .before .before .before .pre .1)
 
-enum-told : tie.Need-enum-told
-enum-told c = search needs
-
-ended-requires : tie.Need-ended-requires
-ended-requires c κs = search needs
-
-enum-told-2 : tie.Need-enum-told-2
-enum-told-2 c = search needs
-
-ended-requires-2 : tie.Need-ended-requires-2
-ended-requires-2 c κs = search needs
-
-enum-told-3 : tie.Need-enum-told-3
-enum-told-3 c = search needs
-
-ended-requires-3 : tie.Need-ended-requires-3
-ended-requires-3 c κs = search needs
-
-enum-known-verdict : tie.Need-enum-known-verdict
-enum-known-verdict c = search needs
-
 complete-requires : tie.Need-complete-requires
 complete-requires c κs =
     let sized = all-of (c .before .before .before .before) (c .before .before .verdict .given .0 .0) (c .before .before .verdict .given .0 .1 .0) (c .before .before .verdict .given .1) in
@@ -80,9 +59,6 @@ returns-3 c =
     let out = now (c .before .before .before .before .before .before .before .args .out) in
     ends _ missingLast [] (as-told (c .before .before .before) _ (c .before .enum-told3 .given .1)) (c .before .before .before .before .before .before .before .args .row) (c .ended3 .result) (c .ended3 .ensures) refl out out refl
 
-same-length : tie.Need-same-length
-same-length c = search needs
-
 returns-4 : tie.Need-returns-4
 returns-4 c = rw (as-told (c .before .before .before .before .before .before .before) _ (c .before .before .before .before .before .verdict .given .1)) (c .before .before .complete .ensures)
 
@@ -91,16 +67,16 @@ finish-spec =
     tie.close
     (tie.spec
     judge-requires
-    enum-told
-    ended-requires
-    enum-told-2
-    ended-requires-2
-    enum-told-3
-    ended-requires-3
-    enum-known-verdict
+    (λ c. search needs)
+    (λ c κs. search needs)
+    (λ c. search needs)
+    (λ c κs. search needs)
+    (λ c. search needs)
+    (λ c κs. search needs)
+    (λ c. search needs)
     complete-requires
     returns
     returns-2
     returns-3
-    same-length
+    (λ c. search needs)
     returns-4)

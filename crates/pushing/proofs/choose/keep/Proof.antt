@@ -8,23 +8,11 @@ use borrow.Author.Needs.{needs}
 use Rattle.pushing.proofs.choose.keep.Statement.{statement}
 use Rattle.pushing.proofs.choose.keep.Tie as tie
 
-find-free-requires : tie.Need-find-free-requires
-find-free-requires c κs = search needs
-
-refused-requires : tie.Need-refused-requires
-refused-requires c κs = search needs
-
 returns : tie.Need-returns
 returns c = rw (keep-full (lowestFreeIn (now (c .before .before .before .args .owners))) (spareRowIn (now (c .before .before .before .args .used))) (c .before .before .before .args .row) (c .before .before .find-free .result) (c .before .before .find-free .ensures .0) (c .before .if1 .taken)) (ap pushedOf (c .refused .ensures .1), c .refused .ensures .0)
 
 returns-2 : tie.Need-returns-2
 returns-2 c = rw (keep-there (lowestFreeIn (now (c .before .before .before .args .owners))) (spareRowIn (now (c .before .before .before .args .used))) (c .before .before .before .args .row) (c .before .before .find-free .result) (c .before .before .find-free .ensures .0) (c .before .if1 .left) (c .if2 .taken)) (refl, refl)
-
-find-spare-requires : tie.Need-find-spare-requires
-find-spare-requires c κs = search needs
-
-refused-requires-2 : tie.Need-refused-requires-2
-refused-requires-2 c κs = search needs
 
 returns-3 : tie.Need-returns-3
 returns-3 c = rw (keep-keys (lowestFreeIn (now (c .before .before .before .before .before .before .args .owners))) (spareRowIn (now (c .before .before .before .before .before .before .args .used))) (c .before .before .before .before .before .before .args .row) (c .before .before .before .before .before .find-free .result) (c .before .before .before .before .before .find-free .ensures .0) (c .before .before .before .before .if1 .left) (c .before .before .before .if2 .left) (c .before .before .find-spare .result) (c .before .before .find-spare .ensures .0) (c .before .if3 .taken)) (ap pushedOf (c .refused2 .ensures .1), c .refused2 .ensures .0)
@@ -36,11 +24,11 @@ pub keep-spec : {M : Type 1} → statement M
 keep-spec =
     tie.close
     (tie.spec
-    find-free-requires
-    refused-requires
+    (λ c κs. search needs)
+    (λ c κs. search needs)
     returns
     returns-2
-    find-spare-requires
-    refused-requires-2
+    (λ c κs. search needs)
+    (λ c κs. search needs)
     returns-3
     returns-4)

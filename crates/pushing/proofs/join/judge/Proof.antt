@@ -12,15 +12,6 @@ use borrow.Author.Needs.{needs}
 use Rattle.pushing.proofs.join.judge.Statement.{statement}
 use Rattle.pushing.proofs.join.judge.Tie as tie
 
-cast-owner : tie.Need-cast-owner
-cast-owner c = search needs
-
-add-owner : tie.Need-add-owner
-add-owner c = search needs
-
-find-unlike-requires : tie.Need-find-unlike-requires
-find-unlike-requires c κs = search needs
-
 returns : tie.Need-returns
 returns c =
     let a = c .before .before .args in
@@ -29,17 +20,11 @@ returns c =
 reach-of-requires : tie.Need-reach-of-requires
 reach-of-requires c κs = (c .before .before .pre .0, c .before .before .pre .1, c .before .before .pre .2)
 
-cast-number : tie.Need-cast-number
-cast-number c = search needs
-
 returns-2 : tie.Need-returns-2
 returns-2 c =
     let a = c .before .before .before .before .before .args in
     let count-is : c .before .before .reach-of .result .count ≡ countFor (now (a .owners)) (now (a .numbers)) (a .row) (a .f .number) = ap (λ (z : Reach). z .count) (c .before .before .reach-of .ensures .0) in
     sym (verdict-new (placesIn (now (a .types)) (now (a .sizes)) (now (a .owners)) (now (a .numbers)) (now (a .versions))) (a .row) (a .f) (a .size) (omega (arith, c .before .before .before .before .find-unlike .ensures .0, c .before .before .before .if1 .left)) (omega (arith, c .if2 .taken)))
-
-find-beyond-requires : tie.Need-find-beyond-requires
-find-beyond-requires c κs = search needs
 
 returns-3 : tie.Need-returns-3
 returns-3 c =
@@ -53,15 +38,6 @@ sub-piece-at c =
     let a = c .before .before .before .before .before .before .before .args in
     let count-is : c .before .before .before .before .reach-of .result .count ≡ countFor (now (a .owners)) (now (a .numbers)) (a .row) (a .f .number) = ap (λ (z : Reach). z .count) (c .before .before .before .before .reach-of .ensures .0) in
     omega (arith, count-some (now (a .owners)) (now (a .numbers)) (a .row) (a .f .number) (omega (arith, c .before .before .if2 .left)))
-
-cast-piece-at : tie.Need-cast-piece-at
-cast-piece-at c = search needs
-
-piece-at-requires : tie.Need-piece-at-requires
-piece-at-requires c κs = search needs
-
-marked-at-requires : tie.Need-marked-at-requires
-marked-at-requires c κs = search needs
 
 returns-4 : tie.Need-returns-4
 returns-4 c =
@@ -86,18 +62,18 @@ pub judge-spec : {M : Type 1} → statement M
 judge-spec =
     tie.close
     (tie.spec
-    cast-owner
-    add-owner
-    find-unlike-requires
+    (λ c. search needs)
+    (λ c. search needs)
+    (λ c κs. search needs)
     returns
     reach-of-requires
-    cast-number
+    (λ c. search needs)
     returns-2
-    find-beyond-requires
+    (λ c κs. search needs)
     returns-3
     sub-piece-at
-    cast-piece-at
-    piece-at-requires
-    marked-at-requires
+    (λ c. search needs)
+    (λ c κs. search needs)
+    (λ c κs. search needs)
     returns-4
     returns-5)

@@ -9,15 +9,6 @@ returns : tie.Need-returns
 unfolding pieceAt
 returns c = rw (eq-eqb _ _ (c .if1 .taken))
 
-cast-find-numbered : tie.Need-cast-find-numbered
-cast-find-numbered c = search needs
-
-add-find-numbered : tie.Need-add-find-numbered
-add-find-numbered c = search needs
-
-find-numbered-requires : tie.Need-find-numbered-requires
-find-numbered-requires c κs = search needs
-
 returns-2 : tie.Need-returns-2
 unfolding pieceAt
 returns-2 c = rw (ne-eqb _ _ (c .before .if1 .left)) (c .find-numbered .ensures .0)
@@ -25,4 +16,4 @@ returns-2 c = rw (ne-eqb _ _ (c .before .if1 .left)) (c .find-numbered .ensures 
 pub piece-at-spec : {M : Type 1} → statement M
 piece-at-spec =
     tie.close
-    (tie.spec returns cast-find-numbered add-find-numbered find-numbered-requires returns-2)
+    (tie.spec returns (λ c. search needs) (λ c. search needs) (λ c κs. search needs) returns-2)

@@ -10,18 +10,6 @@ use borrow.Author.Needs.{needs}
 use Rattle.pushing.proofs.join.put_piece.Statement.{statement}
 use Rattle.pushing.proofs.join.put_piece.Tie as tie
 
-mul-wide : tie.Need-mul-wide
-mul-wide c = search needs
-
-element-copy-out-wide : tie.Need-element-copy-out-wide
-element-copy-out-wide c = search needs
-
-wide-requires : tie.Need-wide-requires
-wide-requires c κs = search needs
-
-mul-copy : tie.Need-mul-copy
-mul-copy c = search needs
-
 copy-requires : tie.Need-copy-requires
 copy-requires c κs =
     let a = c .before .before .before .before .before .before .before .args in
@@ -32,9 +20,6 @@ add-result : tie.Need-add-result
 add-result c =
     let a = c .before .before .before .before .before .before .before .before .before .before .args in
     omega (arith, c .before .before .before .before .wide .ensures, size-in (now (a .sizes)) (now (a .store)) (now (a .payload)) (c .before .before .before .before .before .before .before .before .before .before .pre .0) (c .before .before .before .before .before .before .before .before .before .before .pre .1) (a .piece) (c .before .before .before .before .before .before .if1 .taken), c .before .before .before .before .before .before .before .before .before .before .pre .2, c .before .before .before .before .before .before .before .before .before .before .good .1 .1 .1 .1 .0 .0)
-
-same-length : tie.Need-same-length
-same-length c = search needs
 
 returns : tie.Need-returns
 returns c =
@@ -54,9 +39,6 @@ add-result-2 c =
     let a = c .before .before .before .before .before .before .before .before .args in
     omega (arith, ap length (piece-out (now (a .sizes)) (now (a .store)) (now (a .payload)) (a .piece) (c .before .before .before .before .if1 .left)), c .before .before .before .before .before .before .before .before .pre .2, c .before .before .before .before .before .before .before .before .good .1 .1 .1 .1 .0 .0)
 
-same-length-2 : tie.Need-same-length-2
-same-length-2 c = search needs
-
 returns-2 : tie.Need-returns-2
 returns-2 c =
     let a = c .before .before .before .before .before .before .before .before .args in (
@@ -68,15 +50,15 @@ pub put-piece-spec : {M : Type 1} → statement M
 put-piece-spec =
     tie.close
     (tie.spec
-    mul-wide
-    element-copy-out-wide
-    wide-requires
-    mul-copy
+    (λ c. search needs)
+    (λ c. search needs)
+    (λ c κs. search needs)
+    (λ c. search needs)
     copy-requires
     add-result
-    same-length
+    (λ c. search needs)
     returns
     copy-requires-2
     add-result-2
-    same-length-2
+    (λ c. search needs)
     returns-2)

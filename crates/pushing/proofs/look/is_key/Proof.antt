@@ -6,8 +6,5 @@ use Rattle.pushing.proofs.look.is_key.Tie as tie
 returns : tie.Need-returns
 returns c = rw (c .if1 .taken)
 
-returns-2 : tie.Need-returns-2
-returns-2 c = search needs
-
 pub is-key-spec : {M : Type 1} → statement M
-is-key-spec = tie.close (tie.spec returns returns-2)
+is-key-spec = tie.close (tie.spec returns (λ c. search needs))

@@ -10,51 +10,6 @@ use Rattle.pushing.specs.PrivateSteps.{opened}
 use Rattle.pushing.proofs.rows.with_fragment.Statement.{statement}
 use Rattle.pushing.proofs.rows.with_fragment.Tie as tie
 
-mul-n : tie.Need-mul-n
-mul-n c = search needs
-
-element-write-n : tie.Need-element-write-n
-element-write-n c = search needs
-
-mul-n-2 : tie.Need-mul-n-2
-mul-n-2 c = search needs
-
-element-write-n-2 : tie.Need-element-write-n-2
-element-write-n-2 c = search needs
-
-element-write-n-3 : tie.Need-element-write-n-3
-element-write-n-3 c = search needs
-
-mul-n-3 : tie.Need-mul-n-3
-mul-n-3 c = search needs
-
-element-write-n-4 : tie.Need-element-write-n-4
-element-write-n-4 c = search needs
-
-cast-n : tie.Need-cast-n
-cast-n c = search needs
-
-mul-n-4 : tie.Need-mul-n-4
-mul-n-4 c = search needs
-
-element-write-n-5 : tie.Need-element-write-n-5
-element-write-n-5 c = search needs
-
-cast-n-2 : tie.Need-cast-n-2
-cast-n-2 c = search needs
-
-add-n : tie.Need-add-n
-add-n c = search needs
-
-element-write-n-6 : tie.Need-element-write-n-6
-element-write-n-6 c = search needs
-
-element-write-n-7 : tie.Need-element-write-n-7
-element-write-n-7 c = search needs
-
-element-write-n-8 : tie.Need-element-write-n-8
-element-write-n-8 c = search needs
-
 returns : tie.Need-returns
 returns c =
     let a = c .before .args in
@@ -66,19 +21,19 @@ pub with-fragment-spec : {M : Type 1} → statement M
 with-fragment-spec =
     tie.close
     (tie.spec
-    mul-n
-    element-write-n
-    mul-n-2
-    element-write-n-2
-    element-write-n-3
-    mul-n-3
-    element-write-n-4
-    cast-n
-    mul-n-4
-    element-write-n-5
-    cast-n-2
-    add-n
-    element-write-n-6
-    element-write-n-7
-    element-write-n-8
+    (λ c. search needs)
+    (λ c. search needs)
+    (λ c. search needs)
+    (λ c. search needs)
+    (λ c. search needs)
+    (λ c. search needs)
+    (λ c. search needs)
+    (λ c. search needs)
+    (λ c. search needs)
+    (λ c. search needs)
+    (λ c. search needs)
+    (λ c. search needs)
+    (λ c. search needs)
+    (λ c. search needs)
+    (λ c. search needs)
     returns)

@@ -6,9 +6,6 @@ use borrow.Author.Needs.{needs}
 use Rattle.record_writing.proofs.values.put_value.Statement.{statement}
 use Rattle.record_writing.proofs.values.put_value.Tie as tie
 
-value-of-requires : tie.Need-value-of-requires
-value-of-requires c κs = search needs
-
 array-share-prefix-all : tie.Need-array-share-prefix-all
 array-share-prefix-all c = let v = c .before .value-of in starts _ _ _ (v .ensures .0) (v .ensures .1)
 
@@ -18,9 +15,6 @@ slice-aggregate-copy c = let v = c .before .before .value-of in v .ensures .1 �
 copy-requires : tie.Need-copy-requires
 copy-requires c κs = rw (c .before .before .before .value-of .ensures .0) (c .before .before .before .before .before .pre)
 
-same-length : tie.Need-same-length
-same-length c = search needs
-
 returns : tie.Need-returns
 returns c = c .before .before .copy .ensures .1 ∙ copied _ _ _ (c .before .before .before .before .before .before .value-of .ensures .0)
 
@@ -28,9 +22,9 @@ pub put-value-spec : {M : Type 1} → statement M
 put-value-spec =
     tie.close
     (tie.spec
-    value-of-requires
+    (λ c κs. search needs)
     array-share-prefix-all
     slice-aggregate-copy
     copy-requires
-    same-length
+    (λ c. search needs)
     returns)

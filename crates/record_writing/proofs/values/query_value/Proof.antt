@@ -3,12 +3,6 @@ use borrow.Author.Needs.{needs}
 use Rattle.record_writing.proofs.values.query_value.Statement.{statement}
 use Rattle.record_writing.proofs.values.query_value.Tie as tie
 
-enum-known-neighbor-mac : tie.Need-enum-known-neighbor-mac
-enum-known-neighbor-mac c = search needs
-
-enum-told : tie.Need-enum-told
-enum-told c = search needs
-
 returns : tie.Need-returns
 returns c = rw (c .before .neighbor-mac .given .1) (search needs)
 
@@ -16,4 +10,4 @@ returns-2 : tie.Need-returns-2
 returns-2 c = rw (c .enum-told .given .1) (search needs)
 
 pub query-value-spec : {M : Type 1} → statement M
-query-value-spec = tie.close (tie.spec enum-known-neighbor-mac enum-told returns returns-2)
+query-value-spec = tie.close (tie.spec (λ c. search needs) (λ c. search needs) returns returns-2)

@@ -3,78 +3,6 @@ use borrow.Author.Needs.{needs}
 use Rattle.records.proofs.reading.read_as.Statement.{statement}
 use Rattle.records.proofs.reading.read_as.Tie as tie
 
-enum-told : tie.Need-enum-told
-enum-told c = search needs
-
-read-end-of-message-requires : tie.Need-read-end-of-message-requires
-read-end-of-message-requires c κs = search needs
-
-enum-told-2 : tie.Need-enum-told-2
-enum-told-2 c = search needs
-
-read-al-mac-address-requires : tie.Need-read-al-mac-address-requires
-read-al-mac-address-requires c κs = search needs
-
-enum-told-3 : tie.Need-enum-told-3
-enum-told-3 c = search needs
-
-read-mac-address-requires : tie.Need-read-mac-address-requires
-read-mac-address-requires c κs = search needs
-
-enum-told-4 : tie.Need-enum-told-4
-enum-told-4 c = search needs
-
-read-searched-role-requires : tie.Need-read-searched-role-requires
-read-searched-role-requires c κs = search needs
-
-enum-told-5 : tie.Need-enum-told-5
-enum-told-5 c = search needs
-
-read-supported-role-requires : tie.Need-read-supported-role-requires
-read-supported-role-requires c κs = search needs
-
-enum-told-6 : tie.Need-enum-told-6
-enum-told-6 c = search needs
-
-read-supported-freq-band-requires : tie.Need-read-supported-freq-band-requires
-read-supported-freq-band-requires c κs = search needs
-
-enum-told-7 : tie.Need-enum-told-7
-enum-told-7 c = search needs
-
-read-ieee1905-profile-version-requires : tie.Need-read-ieee1905-profile-version-requires
-read-ieee1905-profile-version-requires c κs = search needs
-
-enum-told-8 : tie.Need-enum-told-8
-enum-told-8 c = search needs
-
-read-link-metric-result-code-requires : tie.Need-read-link-metric-result-code-requires
-read-link-metric-result-code-requires c κs = search needs
-
-enum-told-9 : tie.Need-enum-told-9
-enum-told-9 c = search needs
-
-read-link-metric-query-requires : tie.Need-read-link-metric-query-requires
-read-link-metric-query-requires c κs = search needs
-
-enum-told-10 : tie.Need-enum-told-10
-enum-told-10 c = search needs
-
-read-client-association-requires : tie.Need-read-client-association-requires
-read-client-association-requires c κs = search needs
-
-enum-told-11 : tie.Need-enum-told-11
-enum-told-11 c = search needs
-
-read-multi-ap-profile-requires : tie.Need-read-multi-ap-profile-requires
-read-multi-ap-profile-requires c κs = search needs
-
-enum-told-12 : tie.Need-enum-told-12
-enum-told-12 c = search needs
-
-read-profile2-ap-capability-requires : tie.Need-read-profile2-ap-capability-requires
-read-profile2-ap-capability-requires c κs = search needs
-
 returns : tie.Need-returns
 returns c = rw (c .before .enum-told .given .1) (c .read-end-of-message .ensures)
 
@@ -115,30 +43,30 @@ pub read-as-spec : {M : Type 1} → statement M
 read-as-spec =
     tie.close
     (tie.spec
-    enum-told
-    read-end-of-message-requires
-    enum-told-2
-    read-al-mac-address-requires
-    enum-told-3
-    read-mac-address-requires
-    enum-told-4
-    read-searched-role-requires
-    enum-told-5
-    read-supported-role-requires
-    enum-told-6
-    read-supported-freq-band-requires
-    enum-told-7
-    read-ieee1905-profile-version-requires
-    enum-told-8
-    read-link-metric-result-code-requires
-    enum-told-9
-    read-link-metric-query-requires
-    enum-told-10
-    read-client-association-requires
-    enum-told-11
-    read-multi-ap-profile-requires
-    enum-told-12
-    read-profile2-ap-capability-requires
+    (λ c. search needs)
+    (λ c κs. search needs)
+    (λ c. search needs)
+    (λ c κs. search needs)
+    (λ c. search needs)
+    (λ c κs. search needs)
+    (λ c. search needs)
+    (λ c κs. search needs)
+    (λ c. search needs)
+    (λ c κs. search needs)
+    (λ c. search needs)
+    (λ c κs. search needs)
+    (λ c. search needs)
+    (λ c κs. search needs)
+    (λ c. search needs)
+    (λ c κs. search needs)
+    (λ c. search needs)
+    (λ c κs. search needs)
+    (λ c. search needs)
+    (λ c κs. search needs)
+    (λ c. search needs)
+    (λ c κs. search needs)
+    (λ c. search needs)
+    (λ c κs. search needs)
     returns
     returns-2
     returns-3

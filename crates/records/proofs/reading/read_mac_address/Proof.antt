@@ -3,14 +3,8 @@ use borrow.Author.Needs.{needs}
 use Rattle.records.proofs.reading.read_mac_address.Statement.{statement}
 use Rattle.records.proofs.reading.read_mac_address.Tie as tie
 
-address-at-requires : tie.Need-address-at-requires
-address-at-requires c κs = search needs
-
-fixed-requires : tie.Need-fixed-requires
-fixed-requires c κs = search needs
-
 returns : tie.Need-returns
 returns c = rw (c .before .address-at .ensures) at (c .fixed .ensures)
 
 pub read-mac-address-spec : {M : Type 1} → statement M
-read-mac-address-spec = tie.close (tie.spec address-at-requires fixed-requires returns)
+read-mac-address-spec = tie.close (tie.spec (λ c κs. search needs) (λ c κs. search needs) returns)

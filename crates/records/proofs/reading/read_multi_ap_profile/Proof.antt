@@ -3,18 +3,9 @@ use borrow.Author.Needs.{needs}
 use Rattle.records.proofs.reading.read_multi_ap_profile.Statement.{statement}
 use Rattle.records.proofs.reading.read_multi_ap_profile.Tie as tie
 
-byte-at-requires : tie.Need-byte-at-requires
-byte-at-requires c κs = search needs
-
-from-u8-requires : tie.Need-from-u8-requires
-from-u8-requires c κs = search needs
-
-fixed-requires : tie.Need-fixed-requires
-fixed-requires c κs = search needs
-
 returns : tie.Need-returns
 returns c = rw (c .before .from-u8 .ensures, c .before .before .byte-at .ensures) at (c .fixed .ensures)
 
 pub read-multi-ap-profile-spec : {M : Type 1} → statement M
 read-multi-ap-profile-spec =
-    tie.close (tie.spec byte-at-requires from-u8-requires fixed-requires returns)
+    tie.close (tie.spec (λ c κs. search needs) (λ c κs. search needs) (λ c κs. search needs) returns)

@@ -12,12 +12,6 @@ use Rattle.texts.specs.PrivatePieces.{rowKind}
 use Rattle.texts.proofs.Whole.{Outlined, outlined-of, not-read}
 use Rattle.texts.proofs.Asked.{count-all, count-under, count-none}
 
-read-row-requires : tie.Need-read-row-requires
-read-row-requires c κs = search needs
-
-enum-known-n : tie.Need-enum-known-n
-enum-known-n c = search needs
-
 -- the value that was read
 whole : (c : tie.After-n) →
     let a = c .before .before .before .before .args in
@@ -32,9 +26,6 @@ returns c =
     let p = a .path in
     let w = whole k in
     sym (follows _ _ _ (w .is) ∙ count-all (p .depth) (p .i0) (p .i1) (p .i2) (w .value) (a .row .radios) (c .before .before .if1 .taken) (c .if2 .taken) ∙ ap (λ m. gives (m .many)) (w .list))
-
-enum-known-r : tie.Need-enum-known-r
-enum-known-r c = search needs
 
 returns-2 : tie.Need-returns-2
 returns-2 c =
@@ -60,4 +51,4 @@ returns-4 c =
 pub count-in-spec : {M : Type 1} → statement M
 count-in-spec =
     tie.close
-    (tie.spec read-row-requires enum-known-n returns enum-known-r returns-2 returns-3 returns-4)
+    (tie.spec (λ c κs. search needs) (λ c. search needs) returns (λ c. search needs) returns-2 returns-3 returns-4)

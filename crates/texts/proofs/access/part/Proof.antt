@@ -4,9 +4,6 @@ use Rattle.texts.proofs.access.part.Statement.{statement}
 use Rattle.texts.proofs.access.part.Tie as tie
 use Rattle.layouts.proofs.Within.{Within}
 
-enum-known-located : tie.Need-enum-known-located
-enum-known-located c = search needs
-
 inside : (c : tie.After-located) → Within (c .located .given .0 .0) (c .located .given .0 .1 .0) (c .before .before .args .s .now)
 inside c = rw (c .located .given .1) at (c .before .before .pre)
 
@@ -19,18 +16,6 @@ part-result-start c = let w = inside (c .before) in search needs
 part-result-end : tie.Need-part-result-end
 part-result-end c = let w = inside (c .before) in search needs
 
-enum-told : tie.Need-enum-told
-enum-told c = search needs
-
-sub-result-2 : tie.Need-sub-result-2
-sub-result-2 c = search needs
-
-part-result-start-2 : tie.Need-part-result-start-2
-part-result-start-2 c = search needs
-
-part-result-end-2 : tie.Need-part-result-end-2
-part-result-end-2 c = search needs
-
 returns : tie.Need-returns
 returns c = let e = c .before .before .located .given .1 in (rw e, rw e)
 
@@ -41,13 +26,13 @@ pub part-spec : {M : Type 1} → statement M
 part-spec =
     tie.close
     (tie.spec
-    enum-known-located
+    (λ c. search needs)
     sub-result
     part-result-start
     part-result-end
-    enum-told
-    sub-result-2
-    part-result-start-2
-    part-result-end-2
+    (λ c. search needs)
+    (λ c. search needs)
+    (λ c. search needs)
+    (λ c. search needs)
     returns
     returns-2)

@@ -12,12 +12,6 @@ use Rattle.texts.specs.PrivatePieces.{rowKind, heldTold}
 use Rattle.texts.proofs.Whole.{Outlined, outlined-of, not-read, first-within, radio-found}
 use Rattle.texts.proofs.Asked.{no-radio, one-number}
 
-read-row-requires : tie.Need-read-row-requires
-read-row-requires c κs = search needs
-
-enum-known-n : tie.Need-enum-known-n
-enum-known-n c = search needs
-
 -- the value that was read
 whole : (c : tie.After-n) →
     let a = c .before .before .before .before .args in
@@ -25,17 +19,11 @@ whole : (c : tie.After-n) →
     Outlined (wholeOf (rowKind (a .row)) (a .s .now)) (record { list = record { many = g .0; first = g .1 .0 }; end = g .1 .1 .0 })
 whole c = outlined-of _ _ (sym (rw (c .n .given .1) at (c .before .before .read-row .ensures)))
 
-radio-requires : tie.Need-radio-requires
-radio-requires c κs = search needs
-
 nth-requires : tie.Need-nth-requires
 nth-requires c κs =
     let k = c .before .before .before .before in
     let a = k .before .before .before .before .args in
     first-within (rowKind (a .row)) (a .s .now) _ (whole k)
-
-whole-span-requires : tie.Need-whole-span-requires
-whole-span-requires c κs = search needs
 
 returns : tie.Need-returns
 returns c =
@@ -44,9 +32,6 @@ returns c =
     let w = whole k in
     let found : heldTold (c .before .nth .result) ≡ numbered (w .value .radios .each) (a .path .i0) = c .before .nth .ensures ∙ rw (c .before .before .radio .ensures) (radio-found (rowKind (a .row)) (a .s .now) _ w (a .path .i0)) in
     c .whole-span .ensures ∙ ap (mapped wholeSpan) found ∙ sym (follows _ _ _ (w .is) ∙ one-number (a .path .depth) (a .path .i0) (a .path .i1) (a .path .i2) (w .value) (c .before .before .before .if1 .taken))
-
-enum-known-r : tie.Need-enum-known-r
-enum-known-r c = search needs
 
 returns-2 : tie.Need-returns-2
 returns-2 c =
@@ -65,12 +50,12 @@ pub radio-in-spec : {M : Type 1} → statement M
 radio-in-spec =
     tie.close
     (tie.spec
-    read-row-requires
-    enum-known-n
-    radio-requires
+    (λ c κs. search needs)
+    (λ c. search needs)
+    (λ c κs. search needs)
     nth-requires
-    whole-span-requires
+    (λ c κs. search needs)
     returns
-    enum-known-r
+    (λ c. search needs)
     returns-2
     returns-3)

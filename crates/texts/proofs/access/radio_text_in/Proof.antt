@@ -10,12 +10,6 @@ use Rattle.texts.specs.Access.{numbered, textSpan}
 use Rattle.texts.specs.PrivatePieces.{rowKind, heldTold}
 use Rattle.texts.proofs.Whole.{Outlined, outlined-of, not-read, first-within, radio-found}
 
-read-row-requires : tie.Need-read-row-requires
-read-row-requires c κs = search needs
-
-enum-known-n : tie.Need-enum-known-n
-enum-known-n c = search needs
-
 -- the value that was read
 whole : (c : tie.After-n) →
     let a = c .before .before .before .before .args in
@@ -23,20 +17,11 @@ whole : (c : tie.After-n) →
     Outlined (wholeOf (rowKind (a .row)) (a .s .now)) (record { list = record { many = g .0; first = g .1 .0 }; end = g .1 .1 .0 })
 whole c = outlined-of _ _ (sym (rw (c .n .given .1) at (c .before .before .read-row .ensures)))
 
-radio-requires : tie.Need-radio-requires
-radio-requires c κs = search needs
-
 nth-requires : tie.Need-nth-requires
 nth-requires c κs =
     let k = c .before .before in
     let a = k .before .before .before .before .args in
     first-within (rowKind (a .row)) (a .s .now) _ (whole k)
-
-text-span-requires : tie.Need-text-span-requires
-text-span-requires c κs = search needs
-
-enum-known-r : tie.Need-enum-known-r
-enum-known-r c = search needs
 
 returns : tie.Need-returns
 returns c =
@@ -55,11 +40,11 @@ pub radio-text-in-spec : {M : Type 1} → statement M
 radio-text-in-spec =
     tie.close
     (tie.spec
-    read-row-requires
-    enum-known-n
-    radio-requires
+    (λ c κs. search needs)
+    (λ c. search needs)
+    (λ c κs. search needs)
     nth-requires
-    text-span-requires
-    enum-known-r
+    (λ c κs. search needs)
+    (λ c. search needs)
     returns
     returns-2)

@@ -9,21 +9,6 @@ use Rattle.texts.specs.Access.{numbered, textSpan}
 use Rattle.texts.specs.PrivatePieces.{rowKind}
 use Rattle.texts.proofs.Whole.{outlined-of, not-read, text-found}
 
-read-row-requires : tie.Need-read-row-requires
-read-row-requires c κs = search needs
-
-enum-told : tie.Need-enum-told
-enum-told c = search needs
-
-nth-requires : tie.Need-nth-requires
-nth-requires c κs = search needs
-
-text-span-requires : tie.Need-text-span-requires
-text-span-requires c κs = search needs
-
-enum-known-r : tie.Need-enum-known-r
-enum-known-r c = search needs
-
 returns : tie.Need-returns
 returns c =
     let k = c .before .before in
@@ -41,10 +26,10 @@ pub text-in-spec : {M : Type 1} → statement M
 text-in-spec =
     tie.close
     (tie.spec
-    read-row-requires
-    enum-told
-    nth-requires
-    text-span-requires
-    enum-known-r
+    (λ c κs. search needs)
+    (λ c. search needs)
+    (λ c κs. search needs)
+    (λ c κs. search needs)
+    (λ c. search needs)
     returns
     returns-2)

@@ -7,12 +7,6 @@ use Rattle.numbers.specs.Numbers.{mapped}
 use Rattle.texts.specs.Access.{textSpan}
 use Rattle.texts.specs.PrivatePieces.{heldTold}
 
-enum-known-held : tie.Need-enum-known-held
-enum-known-held c = search needs
-
-enum-known-held-2 : tie.Need-enum-known-held-2
-enum-known-held-2 c = search needs
-
 returns : tie.Need-returns
 returns c = sym (ap (λ h. mapped textSpan (heldTold h)) (c .before .held .given .1))
 
@@ -20,4 +14,4 @@ returns-2 : tie.Need-returns-2
 returns-2 c = sym (ap (λ h. mapped textSpan (heldTold h)) (c .before .held2 .given .1))
 
 pub text-span-spec : {M : Type 1} → statement M
-text-span-spec = tie.close (tie.spec enum-known-held enum-known-held-2 returns returns-2)
+text-span-spec = tie.close (tie.spec (λ c. search needs) (λ c. search needs) returns returns-2)

@@ -9,12 +9,6 @@ use Rattle.texts.specs.Reading.{piecesAt}
 use Rattle.texts.specs.PrivatePieces.{pieceOf, endIn}
 use Rattle.texts.proofs.Laws.{ends-within, nth-none, nth-behind}
 
-skip-requires : tie.Need-skip-requires
-skip-requires c κs = search needs
-
-enum-known-p : tie.Need-enum-known-p
-enum-known-p c = search needs
-
 -- the pieces before it end where it starts
 passed : (c : tie.After-p) →
     let a = c .before .before .before .before .before .args in
@@ -31,9 +25,6 @@ returns c =
     let a = c .before .before .before .before .before .before .before .args in
     c .piece-at .ensures ∙ sym (nth-behind (pieceOf (a .piece)) (a .n) (a .i) (a .s .now) (a .at) (search needs) ∙ follows _ _ _ (passed (c .before .before)))
 
-enum-known-r : tie.Need-enum-known-r
-enum-known-r c = search needs
-
 returns-2 : tie.Need-returns-2
 returns-2 c =
     let k = c .before .before .before in
@@ -48,10 +39,10 @@ pub nth-spec : {M : Type 1} → statement M
 nth-spec =
     tie.close
     (tie.spec
-    skip-requires
-    enum-known-p
+    (λ c κs. search needs)
+    (λ c. search needs)
     piece-at-requires
     returns
-    enum-known-r
+    (λ c. search needs)
     returns-2
     returns-3)

@@ -6,21 +6,6 @@ use mathlib.Core.Path.{sym, ap, _∙_}
 use Rattle.texts.specs.Reading.{pieceAt}
 use Rattle.texts.specs.PrivatePieces.{pieceOf}
 
-enum-known-piece : tie.Need-enum-known-piece
-enum-known-piece c = search needs
-
-field-at-requires : tie.Need-field-at-requires
-field-at-requires c κs = search needs
-
-enum-known-piece-2 : tie.Need-enum-known-piece-2
-enum-known-piece-2 c = search needs
-
-string-at-requires : tie.Need-string-at-requires
-string-at-requires c κs = search needs
-
-enum-told : tie.Need-enum-told
-enum-told c = search needs
-
 returns : tie.Need-returns
 returns c =
     let a = c .before .before .before .before .before .args in
@@ -41,11 +26,11 @@ pub piece-at-spec : {M : Type 1} → statement M
 piece-at-spec =
     tie.close
     (tie.spec
-    enum-known-piece
-    field-at-requires
-    enum-known-piece-2
-    string-at-requires
-    enum-told
+    (λ c. search needs)
+    (λ c κs. search needs)
+    (λ c. search needs)
+    (λ c κs. search needs)
+    (λ c. search needs)
     returns
     returns-2
     returns-3)

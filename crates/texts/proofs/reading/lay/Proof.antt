@@ -10,12 +10,6 @@ use Rattle.texts.specs.PrivatePieces.{pieceOf, rowKind, endIn, endTold}
 use Rattle.texts.proofs.Laws.{ends-within, radios-within}
 use Rattle.texts.proofs.Whole.{outline-steps}
 
-skip-requires : tie.Need-skip-requires
-skip-requires c κs = search needs
-
-enum-known-p : tie.Need-enum-known-p
-enum-known-p c = search needs
-
 -- where the value's own pieces end, its list, and where its radios end
 own : (c : tie.After-p) →
     let a = c .before .before .before .before .args in
@@ -39,12 +33,6 @@ radios-at-requires c κs =
     let a = c .before .before .before .before .before .args in
     ends-within (a .row .many) (pieceOf (a .row .piece)) (a .s .now) 0 _ (search needs) (own (c .before)) .1
 
-enum-known-n : tie.Need-enum-known-n
-enum-known-n c = search needs
-
-radio-requires : tie.Need-radio-requires
-radio-requires c κs = search needs
-
 skip-requires-2 : tie.Need-skip-requires-2
 skip-requires-2 c κs =
     let m = c .before .before in
@@ -52,18 +40,6 @@ skip-requires-2 c κs =
     let a = p .before .before .before .before .args in
     let w = ends-within (a .row .many) (pieceOf (a .row .piece)) (a .s .now) 0 _ (search needs) (own p) in
     radios-within (a .row .radios) (a .s .now) _ _ (w .1) (list m) .1
-
-enum-known-end : tie.Need-enum-known-end
-enum-known-end c = search needs
-
-enum-known-r : tie.Need-enum-known-r
-enum-known-r c = search needs
-
-enum-known-r-2 : tie.Need-enum-known-r-2
-enum-known-r-2 c = search needs
-
-enum-known-r-3 : tie.Need-enum-known-r-3
-enum-known-r-3 c = search needs
 
 returns : tie.Need-returns
 returns c =
@@ -98,16 +74,16 @@ pub lay-spec : {M : Type 1} → statement M
 lay-spec =
     tie.close
     (tie.spec
-    skip-requires
-    enum-known-p
+    (λ c κs. search needs)
+    (λ c. search needs)
     radios-at-requires
-    enum-known-n
-    radio-requires
+    (λ c. search needs)
+    (λ c κs. search needs)
     skip-requires-2
-    enum-known-end
-    enum-known-r
-    enum-known-r-2
-    enum-known-r-3
+    (λ c. search needs)
+    (λ c. search needs)
+    (λ c. search needs)
+    (λ c. search needs)
     returns
     returns-2
     returns-3

@@ -9,23 +9,11 @@ use Rattle.layouts.specs.Reading.{Listed}
 use Rattle.layouts.proofs.Within.{reaches, cut}
 use Rattle.texts.specs.Reading.{radioList}
 
-sub-if2 : tie.Need-sub-if2
-sub-if2 c = search needs
-
 returns : tie.Need-returns
 unfolding radioList
 returns c =
     let a = c .before .before .before .args in
     simp (c .before .if1 .taken, cut {A = Listed} (a .at + 1) (a .s .now) (record { many = getD (a .s .now) (a .at) 0; first = a .at + 1 }) (omega arith))
-
-shared-slice-read-wide : tie.Need-shared-slice-read-wide
-shared-slice-read-wide c = search needs
-
-wide-requires : tie.Need-wide-requires
-wide-requires c κs = search needs
-
-add-t6 : tie.Need-add-t6
-add-t6 c = search needs
 
 returns-2 : tie.Need-returns-2
 unfolding radioList
@@ -40,4 +28,4 @@ returns-3 c = simp (c .if1 .left)
 pub radios-at-spec : {M : Type 1} → statement M
 radios-at-spec =
     tie.close
-    (tie.spec sub-if2 returns shared-slice-read-wide wide-requires add-t6 returns-2 returns-3)
+    (tie.spec (λ c. search needs) returns (λ c. search needs) (λ c κs. search needs) (λ c. search needs) returns-2 returns-3)

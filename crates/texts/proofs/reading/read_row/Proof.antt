@@ -11,12 +11,6 @@ use Rattle.texts.specs.Reading.{piecesAt, laidOf}
 use Rattle.texts.specs.PrivatePieces.{pieceOf, rowKind, validIn, outlineOf}
 use Rattle.texts.proofs.Whole.{Outlined, outlined-of, not-outlined, whole-cut, whole-good, whole-bad-own, whole-bad-radio, list-within}
 
-lay-requires : tie.Need-lay-requires
-lay-requires c κs = search needs
-
-enum-known-n : tie.Need-enum-known-n
-enum-known-n c = search needs
-
 -- the layout that was found
 laid : (c : tie.After-n) →
     let a = c .before .before .before .before .args in
@@ -40,9 +34,6 @@ radios c =
     let l = laid k .list in
     c .all-valid2 .ensures ∙ rw (c .before .radio .ensures, l)
 
-all-valid-requires : tie.Need-all-valid-requires
-all-valid-requires c κs = search needs
-
 returns : tie.Need-returns
 returns c =
     let k = c .before .before .before in
@@ -50,9 +41,6 @@ returns c =
     let o = laid k in
     let bad = sym (c .before .all-valid .ensures) ∙ not-true _ (c .if1 .taken) in
     sym (mapped-refused outlineOf _ _ _ (whole-bad-own (rowKind (a .row)) (a .s .now) (o .value) (o .is) bad))
-
-radio-requires : tie.Need-radio-requires
-radio-requires c κs = search needs
 
 all-valid-requires-2 : tie.Need-all-valid-requires-2
 all-valid-requires-2 c κs =
@@ -68,9 +56,6 @@ returns-2 c =
     let o = laid k in
     let bad = sym (radios (c .before)) ∙ not-true _ (c .if2 .taken) in
     sym (mapped-refused outlineOf _ _ _ (whole-bad-radio (rowKind (a .row)) (a .s .now) (o .value) (o .is) (own (c .before .before .before)) bad))
-
-enum-known-r : tie.Need-enum-known-r
-enum-known-r c = search needs
 
 returns-3 : tie.Need-returns-3
 returns-3 c =
@@ -90,13 +75,13 @@ pub read-row-spec : {M : Type 1} → statement M
 read-row-spec =
     tie.close
     (tie.spec
-    lay-requires
-    enum-known-n
-    all-valid-requires
+    (λ c κs. search needs)
+    (λ c. search needs)
+    (λ c κs. search needs)
     returns
-    radio-requires
+    (λ c κs. search needs)
     all-valid-requires-2
     returns-2
-    enum-known-r
+    (λ c. search needs)
     returns-3
     returns-4)
