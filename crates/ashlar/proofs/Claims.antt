@@ -14,7 +14,7 @@ use Rattle.texts.specs.Access.{locateRadio, locateText, locateRadioText}
 use Rattle.table.specs.Rows.{freshTable}
 use Rattle.reassembler.proofs.Claims as reassembler
 use Rattle.stations.specs.Addresses.{numberOf}
-use Rattle.stations.specs.Rows.{freshStations, placeOf, answerTo, tableAfter, rowAt, countOf, shown, listed as listedRow}
+use Rattle.stations.specs.Rows.{freshStations, whereOf, answerTo, tableAfter, rowAt, countOf, whereShown, rowShown}
 use Rattle.stations.specs.Events.{answerFrom, tableFrom}
 use Rattle.ashlar.specs.Numbers.{headerNumbers, walkNumbers, kindNumbers, foundNumbers, partNumbers, pushNumbers, shownIn}
 use Rattle.ashlar.specs.Stations.{addressIn, eventWith, eventNumbers, appliedNumbers, whereNumbers, rowNumbers}
@@ -39,9 +39,9 @@ firmness = record {
   ashlar-stations-fresh = by-equation freshStations;
   ashlar-station-event = λ t station point joined. both _ _ (by-equation (eventNumbers (answerTo t (eventWith station point joined)))) (by-equation (tableAfter t (eventWith station point joined)));
   ashlar-station-event-from = λ t value. both _ _ (by-equation (appliedNumbers (length value) (answerFrom t value))) (by-equation (tableFrom t value));
-  ashlar-station-at = λ t station. by-equation (whereNumbers (shown (placeOf t (numberOf (addressIn station)))));
+  ashlar-station-at = λ t station. by-equation (whereNumbers (whereShown (whereOf t (numberOf (addressIn station)))));
   ashlar-station-count = λ t. by-equation (countOf t);
-  ashlar-station-row = λ t n. by-equation (rowNumbers (listedRow (rowAt t n)));
+  ashlar-station-row = λ t n. by-equation (rowNumbers (rowShown (rowAt t n)));
 }
 
 pub shows-the-message : ShowsTheMessage

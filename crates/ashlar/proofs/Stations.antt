@@ -9,7 +9,7 @@ use Rattle.numbers.proofs.Answers.{given}
 use Rattle.numbers.proofs.Firm.{never}
 use Rattle.records.specs.declared.MacAddr.{MacAddr}
 use Rattle.records.specs.declared.AssociationState.{AssociationState}
-use Rattle.records.specs.Reading.{Reading, readRecord}
+use Rattle.records.specs.Reading.{RecordRead, readRecord}
 use Rattle.records.proofs.Claims.{inside}
 use Rattle.stations.specs.declared.Heard.{Heard}
 use Rattle.stations.specs.Whereabouts.{isJoined, eventOf}
@@ -26,16 +26,16 @@ module _ (t : Stations) (s : List ℕ) where
   abbrev taken : ℕ → Heard → Taken
   taken n h = record { heard = h; consumed = n }
 
-  abbrev applied : Reading → Answer Taken
+  abbrev applied : RecordRead → Answer Taken
   applied x = mapped (taken (x .consumed)) (answerTo t (eventIn s))
 
   pub within : (h : Heard) (n : ℕ) → gives (taken n h) ≡ answerFrom t s → n ≤ length s
   within h n e = by-reading (readRecord associationCode s) refl
     where
-      by-answer : (x : Reading) → readRecord associationCode s ≡ gives x → (y : Answer Heard) → gives (taken n h) ≡ mapped (taken (x .consumed)) y → n ≤ length s
+      by-answer : (x : RecordRead) → readRecord associationCode s ≡ gives x → (y : Answer Heard) → gives (taken n h) ≡ mapped (taken (x .consumed)) y → n ≤ length s
       by-answer x q (gives h′) f = let long : n ≡ x .consumed = ap (λ (z : Taken). z .consumed) (given _ _ f) in rw long (inside _ s x q)
       by-answer x q (refuses k vs) f = never _ k vs f
 
-      by-reading : (z : Answer Reading) → readRecord associationCode s ≡ z → n ≤ length s
-      by-reading (gives x) q = by-answer x q (answerTo t (eventIn s)) (e ∙ ap (λ (z : Answer Reading). andThen z applied) q)
-      by-reading (refuses k vs) q = never _ k vs (e ∙ ap (λ (z : Answer Reading). andThen z applied) q)
+      by-reading : (z : Answer RecordRead) → readRecord associationCode s ≡ z → n ≤ length s
+      by-reading (gives x) q = by-answer x q (answerTo t (eventIn s)) (e ∙ ap (λ (z : Answer RecordRead). andThen z applied) q)
+      by-reading (refuses k vs) q = never _ k vs (e ∙ ap (λ (z : Answer RecordRead). andThen z applied) q)

@@ -17,7 +17,7 @@ use Rattle.table.specs.declared.Table.{Table}
 use Rattle.table.specs.Rows.{freshTable}
 use Rattle.sweeping.specs.Sweep.{swept, sweptAs}
 use Rattle.pushing.specs.declared.Arrival.{Arrival}
-use Rattle.pushing.specs.Push.{Heard, way}
+use Rattle.pushing.specs.Push.{PushAnswer, way}
 use Rattle.pushing.specs.Show.{shown}
 use Rattle.ashlar.specs.declared.AshlarWalk.{AshlarWalk}
 use Rattle.ashlar.specs.declared.AshlarPart.{AshlarPart}
@@ -25,7 +25,7 @@ use Rattle.ashlar.specs.declared.AshlarPushed.{AshlarPushed}
 use Rattle.ashlar.specs.declared.AshlarShown.{AshlarShown}
 use Rattle.ashlar.specs.Numbers.{headerNumbers, walkNumbers, kindNumbers, foundNumbers, partNumbers, pushNumbers, Numbered, shownIn}
 use Rattle.stations.specs.Addresses.{numberOf}
-use Rattle.stations.specs.Rows.{Stations, freshStations, placeOf, answerTo, tableAfter, rowAt, countOf, shown as shownPlace, listed as listedRow}
+use Rattle.stations.specs.Rows.{Stations, freshStations, whereOf, answerTo, tableAfter, rowAt, countOf, whereShown, rowShown}
 use Rattle.stations.specs.Events.{answerFrom, tableFrom}
 use Rattle.ashlar.specs.declared.AshlarAddress.{AshlarAddress}
 use Rattle.ashlar.specs.declared.AshlarHeard.{AshlarHeard}
@@ -53,16 +53,16 @@ pub record Firmness : Type 0 where
       → Firm {A = AshlarHeard × Stations} (λ o. (o .0 ≡ eventNumbers (answerTo t (eventWith station point joined))) × (o .1 ≡ tableAfter t (eventWith station point joined)))
   pub ashlar-station-event-from : (t : Stations) (value : List ℕ)
       → Firm {A = AshlarApplied × Stations} (λ o. (o .0 ≡ appliedNumbers (length value) (answerFrom t value)) × (o .1 ≡ tableFrom t value))
-  pub ashlar-station-at : (t : Stations) (station : AshlarAddress) → Firm (λ r. r ≡ whereNumbers (shownPlace (placeOf t (numberOf (addressIn station)))))
+  pub ashlar-station-at : (t : Stations) (station : AshlarAddress) → Firm (λ r. r ≡ whereNumbers (whereShown (whereOf t (numberOf (addressIn station)))))
   pub ashlar-station-count : (t : Stations) → Firm (λ r. r ≡ countOf t)
-  pub ashlar-station-row : (t : Stations) (n : ℕ) → Firm (λ r. r ≡ rowNumbers (listedRow (rowAt t n)))
+  pub ashlar-station-row : (t : Stations) (n : ℕ) → Firm (λ r. r ≡ rowNumbers (rowShown (rowAt t n)))
 
 -- The part that an answer of `ashlar_show` names is the one that the table's own showing call returns.
 abbrev pub messageIn : AshlarShown → List ℕ → List ℕ → List ℕ
 messageIn s payload out = take (s .length) (cond (s .«in_output») out payload)
 
 abbrev pub ShowsTheMessage : Type 0
-ShowsTheMessage = (h : Answer Heard) (payload out : List ℕ) → messageIn (shownIn (pushNumbers h) (length payload) (length out)) payload out ≡ shown h payload out
+ShowsTheMessage = (h : Answer PushAnswer) (payload out : List ℕ) → messageIn (shownIn (pushNumbers h) (length payload) (length out)) payload out ≡ shown h payload out
 
 -- The part that an answer of `ashlar_text`, `ashlar_radio` or `ashlar_radio_text` names is the one that the layer's own call returns.
 abbrev pub partIn : AshlarPart → List ℕ → List ℕ

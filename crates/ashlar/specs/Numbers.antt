@@ -7,13 +7,13 @@ use lib.Dec.{eqb, leb}
 use lib.ListN.{getD}
 use Rattle.numbers.specs.Numbers.{Answer, gives, refuses}
 use Rattle.framing.specs.declared.CmduHeader.{CmduHeader}
-use Rattle.walking.specs.Walk.{Counted}
+use Rattle.walking.specs.Walk.{WalkCount}
 use Rattle.layouts.specs.Access.{Span}
 use Rattle.kinds.specs.Kinds.{Contents, one, list, Typed}
 use Rattle.table.specs.declared.Table.{Table}
 use Rattle.pushing.specs.declared.Arrival.{Arrival}
 use Rattle.pushing.specs.declared.Pushed.{Pushed}
-use Rattle.pushing.specs.Push.{Heard, waiting, duplicated, inconsistent, missing, missingLast, single, joined, pushedOf, Way, Goes}
+use Rattle.pushing.specs.Push.{PushAnswer, waiting, duplicated, inconsistent, missing, missingLast, single, joined, pushedOf, Way, Goes}
 use Rattle.ashlar.specs.declared.AshlarHeader.{AshlarHeader}
 use Rattle.ashlar.specs.declared.AshlarWalk.{AshlarWalk}
 use Rattle.ashlar.specs.declared.AshlarKind.{AshlarKind}
@@ -39,7 +39,7 @@ headerNumbers (refuses n vs) =
     record { shortfall = getD vs 0 0; version = 0; reserved = 0; «message_type» = 0; «message_id» = 0; number = 0; flags = 0; last = false; refusal = n }
 
 -- a walk's refusal gives the offset of the TLV that failed, first of its values, and of 1 and 2 the shortfall, the second; 14 has none
-abbrev pub walkNumbers : Answer Counted → AshlarWalk
+abbrev pub walkNumbers : Answer WalkCount → AshlarWalk
 walkNumbers (gives c) = record { count = c .count; padding = c .padding; at = 0; shortfall = 0; refusal = 0 }
 walkNumbers (refuses n vs) = record { count = 0; padding = 0; at = getD vs 0 0; shortfall = getD vs 1 0; refusal = n }
 
@@ -66,17 +66,17 @@ partNumbers (refuses n vs) = record { start = 0; length = 0; refusal = n }
 abbrev pub namedAs : ℕ → ℕ → AshlarPushed
 namedAs answer length = record { length = length; answer = answer; refusal = 0 }
 
-abbrev pub heardNumbers : Heard → AshlarPushed
-heardNumbers waiting = namedAs 1 0
-heardNumbers duplicated = namedAs 2 0
-heardNumbers inconsistent = namedAs 3 0
-heardNumbers missing = namedAs 4 0
-heardNumbers missingLast = namedAs 5 0
-heardNumbers (single n) = namedAs 6 n
-heardNumbers (joined n) = namedAs 7 n
+abbrev pub answerNumbers : PushAnswer → AshlarPushed
+answerNumbers waiting = namedAs 1 0
+answerNumbers duplicated = namedAs 2 0
+answerNumbers inconsistent = namedAs 3 0
+answerNumbers missing = namedAs 4 0
+answerNumbers missingLast = namedAs 5 0
+answerNumbers (single n) = namedAs 6 n
+answerNumbers (joined n) = namedAs 7 n
 
-abbrev pub pushNumbers : Answer Heard → AshlarPushed
-pushNumbers (gives h) = heardNumbers h
+abbrev pub pushNumbers : Answer PushAnswer → AshlarPushed
+pushNumbers (gives h) = answerNumbers h
 pushNumbers (refuses n vs) = record { length = getD vs 0 0; answer = 0; refusal = n }
 
 -- a push goes the way w, and answer′ is what it answers, in numbers

@@ -36,7 +36,7 @@ ghost use Rattle.ashlar.specs.Numbers.{headerNumbers, walkNumbers, kindN
 ghost use Rattle.ashlar.specs.PrivateParts.{Ordered};
 ghost use Rattle.stations.specs.Addresses.{numberOf};
 ghost use Rattle.stations.specs.Whereabouts.{isJoined};
-ghost use Rattle.stations.specs.Rows.{freshStations, placeOf, answerTo, tableAfter, rowAt, countOf, shown, listed as rowListed};
+ghost use Rattle.stations.specs.Rows.{freshStations, whereOf, answerTo, tableAfter, rowAt, countOf, whereShown, rowShown};
 ghost use Rattle.stations.specs.Events.{answeredOf, answerFrom, tableFrom};
 ghost use Rattle.ashlar.specs.Stations.{addressIn, addressFor, noAddress, eventWith, heardAs, heardNumbers, refusedAs, eventNumbers, appliedNumbers, whereNumbers, rowNumbers};
 
@@ -560,7 +560,7 @@ pub extern "C" fn ashlar_station_event_from(t: &mut Stations, value: &[u8]) -> A
 // Where a station is.
 #[no_mangle]
 pub extern "C" fn ashlar_station_at(t: &Stations, station: AshlarAddress) -> AshlarAt
-    ensures { λ r. ⌜ r ≡ whereNumbers (shown (placeOf (now (t .entry)) (numberOf (addressIn station)))) ⌝ }
+    ensures { λ r. ⌜ r ≡ whereNumbers (whereShown (whereOf (now (t .entry)) (numberOf (addressIn station)))) ⌝ }
 {
     match stations::where_is(t, address_in(station)) {
         Where::At(place) => AshlarAt {
@@ -585,7 +585,7 @@ pub extern "C" fn ashlar_station_count(t: &Stations) -> usize
 // The station in row n and its access point. With each n below 128 a caller lists them all.
 #[no_mangle]
 pub extern "C" fn ashlar_station_row(t: &Stations, n: usize) -> AshlarRow
-    ensures { λ r. ⌜ r ≡ rowNumbers (rowListed (rowAt (now (t .entry)) n)) ⌝ }
+    ensures { λ r. ⌜ r ≡ rowNumbers (rowShown (rowAt (now (t .entry)) n)) ⌝ }
 {
     match stations::row(t, n) {
         Listed::Held { station, point } => AshlarRow {

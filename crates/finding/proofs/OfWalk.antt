@@ -13,7 +13,7 @@ use Rattle.framing.specs.Tlv.{TlvRead, valueIn}
 use Rattle.records.specs.declared.Record.{Record}
 use Rattle.kinds.specs.Kinds.{isKind, Typed, readKind}
 use Rattle.walking.specs.declared.Tlv.{Tlv}
-use Rattle.walking.specs.Walk.{Counted, walkOf, filled, noTlv}
+use Rattle.walking.specs.Walk.{WalkCount, walkOf, filled, noTlv}
 use Rattle.walking.proofs.Chained.{of-walk, stands}
 use Rattle.finding.specs.Finding.{Hit, readsAs, findFrom, firstOf, findInPayload}
 use Rattle.finding.specs.Claims.{tlvAs}
@@ -48,7 +48,7 @@ module _ (p : List ℕ) where
   by-kind code us h true e = unchanged code p 0 (walkOf p .tlvs) us h e
   by-kind code us h false e = e
 
-  pub in-filled-list : (code : ℕ) (c : Counted) (ys : List Tlv) (h : Hit) → gives h ≡ findFrom code (walkOf p .tlvs) p 0 → gives h ≡ findFrom code (filled (gives c) (walkOf p .tlvs) ys) p 0
+  pub in-filled-list : (code : ℕ) (c : WalkCount) (ys : List Tlv) (h : Hit) → gives h ≡ findFrom code (walkOf p .tlvs) p 0 → gives h ≡ findFrom code (filled (gives c) (walkOf p .tlvs) ys) p 0
   unfolding findFrom
   in-filled-list code c ys h e = by-kind code (drop (c .count) ys) h (isKind code) e
 

@@ -12,7 +12,7 @@ use Rattle.numbers.specs.Numbers.{Answer, gives, refuses, isGiven}
 use Rattle.records.specs.declared.Record.{Record}
 use Rattle.kinds.specs.Kinds.{isKind, Typed}
 use Rattle.walking.specs.declared.Tlv.{Tlv}
-use Rattle.walking.specs.Walk.{Ahead, ended, passed, last, Counted, stepAt, Walk, walkBy, walkFrom, walkOf, counted}
+use Rattle.walking.specs.Walk.{Ahead, ended, passed, last, WalkCount, stepAt, Walk, walkBy, walkFrom, walkOf, counted}
 use Rattle.walking.proofs.Stepping.{passes, turn, begun}
 use Rattle.walking.proofs.Listed as Counts
 use Rattle.finding.specs.Finding.{Hit, readsAs, thereOr, firstOf, findFrom, findInPayload}
@@ -127,6 +127,6 @@ module _ (code : ℕ) (p : List ℕ) (from : ℕ) where
   unfolding findInPayload
   unwalked e n vs c = rw (e, Counts.ended-by (walkOf p) n vs c)
 
-  pub walked : isKind code ≡ true → (n : Counted) → gives n ≡ counted (walkOf p) → (a : Answer Hit) → a ≡ firstOf code p from (drop from (walkOf p .tlvs)) → a ≡ findInPayload code p from
+  pub walked : isKind code ≡ true → (n : WalkCount) → gives n ≡ counted (walkOf p) → (a : Answer Hit) → a ≡ firstOf code p from (drop from (walkOf p .tlvs)) → a ≡ findInPayload code p from
   unfolding findInPayload findFrom
   walked e n c a f = f ∙ rw (e, Counts.ended-with (walkOf p) n c .0)

@@ -11,7 +11,7 @@ use Rattle.framing.specs.Tlv.{readTlv, valueIn}
 use Rattle.records.specs.declared.Record.{Record}
 use Rattle.kinds.specs.Kinds.{isKind, Typed, readKind}
 use Rattle.walking.specs.declared.Tlv.{Tlv}
-use Rattle.walking.specs.Walk.{isMarker, Counted, walkOf, filled, noTlv, offsetAt}
+use Rattle.walking.specs.Walk.{isMarker, WalkCount, walkOf, filled, noTlv, offsetAt}
 use Rattle.finding.specs.Finding.{Hit, foundOf, placedOf, searchedOf, readsAs, findFrom, findInPayload}
 
 -- each public call by its name: any two answers that its contract allows are one
@@ -71,7 +71,7 @@ pub record OverAWalk : Type 0 where
   pub found-is-tlv : (payload : List ℕ) (code from : ℕ) (h : Hit) → gives h ≡ findFrom code (walkOf payload .tlvs) payload from
       → gives (h .reading) ≡ tlvAs code (drop (h .tlv .offset) payload)
   -- a list that is longer than the walk's, as `walk_into` leaves it, gives the same, if the payload has one
-  pub in-filled-list : (payload : List ℕ) (code : ℕ) (c : Counted) (lent : List Tlv) (h : Hit) → gives h ≡ findFrom code (walkOf payload .tlvs) payload 0
+  pub in-filled-list : (payload : List ℕ) (code : ℕ) (c : WalkCount) (lent : List Tlv) (h : Hit) → gives h ≡ findFrom code (walkOf payload .tlvs) payload 0
       → gives h ≡ findFrom code (filled (gives c) (walkOf payload .tlvs) lent) payload 0
   -- without a list the answer is the one over the walk's list, if a walk gets through the payload
   pub without-list : (payload : List ℕ) (code from padding : ℕ) → walkOf payload .end ≡ gives padding

@@ -1,16 +1,16 @@
 // Three senders push a message of three fragments each, in every order that keeps each sender's own: 1,680 orders. In each, every sender must get the same
 // answers and the same message. Prints how many orders were played and how many differed.
 use libc::STDOUT_FILENO;
+use pushing::AfterPush;
 use pushing::Arrival;
 use pushing::Fragment;
 use pushing::Pushed;
-use pushing::Stepped;
 use table::Table;
 ghost use Prim.Native.Nat.{_<_};
 ghost use Rattle.pushing.specs.Made.{Made};
 
 // A push to a table that these calls made gives such a table.
-fn pushed_on(t: Table, store: &mut [u8], out: &mut [u8], a: Arrival, payload: &[u8]) -> Stepped
+fn pushed_on(t: Table, store: &mut [u8], out: &mut [u8], a: Arrival, payload: &[u8]) -> AfterPush
     requires { ⌜ Made t × (a .fragment .number < 256) ⌝ }
     ensures { λ r. ⌜ Made (r .table) ⌝ }
 {

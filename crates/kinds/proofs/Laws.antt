@@ -11,7 +11,7 @@ use Rattle.numbers.proofs.Firm.{never}
 use Rattle.numbers.proofs.Answers.{given}
 use Rattle.framing.specs.Tlv.{writeSize, tlvBytes, leaves}
 use Rattle.records.specs.declared.Record.{Record}
-use Rattle.records.specs.Reading.{Reading, isRecord, readRecord}
+use Rattle.records.specs.Reading.{RecordRead, isRecord, readRecord}
 use Rattle.records.proofs.Given.{isKnown, known, consumed-within as record-within}
 use Rattle.layouts.specs.Reading.{Consumed}
 use Rattle.layouts.specs.Access.{Span, partOf, startIn}
@@ -24,17 +24,17 @@ pub record Measures (code : ℕ) (s : List ℕ) (n : ℕ) : Type 0 where
   pub inside : n ≤ length s
   pub is : gives (record { held = one tt; consumed = n; rest = length s - n }) ≡ mapped withoutRecord (mapped (oneRecord (length s)) (readRecord code s))
 
-pub measured : (code : ℕ) (s : List ℕ) (n : ℕ) → gives n ≡ mapped (λ (r : Reading). r .consumed) (readRecord code s) → Measures code s n
+pub measured : (code : ℕ) (s : List ℕ) (n : ℕ) → gives n ≡ mapped (λ (r : RecordRead). r .consumed) (readRecord code s) → Measures code s n
 measured code s n = by-reading (readRecord code s) refl
   where
-    by-reading : (x : Answer Reading) → x ≡ readRecord code s → gives n ≡ mapped (λ (r : Reading). r .consumed) x → Measures code s n
+    by-reading : (x : Answer RecordRead) → x ≡ readRecord code s → gives n ≡ mapped (λ (r : RecordRead). r .consumed) x → Measures code s n
     by-reading (gives r) f e = let i : n ≡ r .consumed = given n (r .consumed) e in record { inside = omega (arith, i, record-within code s r (sym f)); is = rw (← f, i) }
     by-reading (refuses m vs) f e = never _ _ _ e
 
-pub unmeasured : (code : ℕ) (s : List ℕ) (n : ℕ) (vs : List ℕ) → refuses n vs ≡ mapped (λ (r : Reading). r .consumed) (readRecord code s) → refuses n vs ≡ mapped withoutRecord (mapped (oneRecord (length s)) (readRecord code s))
+pub unmeasured : (code : ℕ) (s : List ℕ) (n : ℕ) (vs : List ℕ) → refuses n vs ≡ mapped (λ (r : RecordRead). r .consumed) (readRecord code s) → refuses n vs ≡ mapped withoutRecord (mapped (oneRecord (length s)) (readRecord code s))
 unmeasured code s n vs = by-reading (readRecord code s)
   where
-    by-reading : (x : Answer Reading) → refuses n vs ≡ mapped (λ (r : Reading). r .consumed) x → refuses n vs ≡ mapped withoutRecord (mapped (oneRecord (length s)) x)
+    by-reading : (x : Answer RecordRead) → refuses n vs ≡ mapped (λ (r : RecordRead). r .consumed) x → refuses n vs ≡ mapped withoutRecord (mapped (oneRecord (length s)) x)
     by-reading (gives r) e = never _ _ _ (sym e)
     by-reading (refuses m us) e = let i : n ≡ m = cc in let j : vs ≡ us = cc in rw (i, j)
 
@@ -93,7 +93,7 @@ module _ (code : ℕ) (s : List ℕ) where
     nothing is = let n = no-part (readRecord code s) in (n .0 ∙ ap (λ (x : Answer Span). partOf x s) (no-entry is), n .1 ∙ ap startIn (no-entry is))
 
   -- what reads as a record has a record's code
-  pub is-record : (r : Reading) → gives r ≡ readRecord code s → true ≡ isRecord code
+  pub is-record : (r : RecordRead) → gives r ≡ readRecord code s → true ≡ isRecord code
   is-record r e = ap isKnown e ∙ known code s
 
   -- what was consumed lies in the value, and the rest is what is left of it
@@ -108,7 +108,7 @@ module _ (code : ℕ) (s : List ℕ) where
       rw is (record { inside = h .0; all = h .1 })
   list-in (refuses n vs) e t g = never _ _ _ g
 
-  record-in : (x : Answer Reading) → x ≡ readRecord code s → (t : Typed Record) → gives t ≡ mapped (oneRecord (length s)) x → Within t
+  record-in : (x : Answer RecordRead) → x ≡ readRecord code s → (t : Typed Record) → gives t ≡ mapped (oneRecord (length s)) x → Within t
   record-in (gives r) e t g =
       let h = record-within code s r (sym e) in
       let is : t ≡ oneRecord (length s) r = given t (oneRecord (length s) r) g in
@@ -127,7 +127,7 @@ module _ (code : ℕ) (s : List ℕ) where
     pub of-a-kind : true ≡ isKind code
     of-a-kind = by-list (isListed code) refl
       where
-        by-reading : (x : Answer Reading) → x ≡ readRecord code s → gives t ≡ mapped (oneRecord (length s)) x → true ≡ isRecord code
+        by-reading : (x : Answer RecordRead) → x ≡ readRecord code s → gives t ≡ mapped (oneRecord (length s)) x → true ≡ isRecord code
         by-reading (gives r) f g = is-record r f
         by-reading (refuses n vs) f g = never _ _ _ g
 

@@ -15,7 +15,7 @@ use Rattle.framing.proofs.Claims.{round-trip}
 use Rattle.records.specs.declared.Record.{Record}
 use Rattle.records.specs.Kinds.{codeOf, kindOf}
 use Rattle.records.specs.Values.{bytesOf}
-use Rattle.records.specs.Reading.{Reading, readRecord}
+use Rattle.records.specs.Reading.{RecordRead, readRecord}
 use Rattle.records.proofs.Given.{consumed-within}
 use Rattle.record_writing.proofs.Claims.{round-trips}
 use Rattle.layouts.specs.Reading.{Consumed}
@@ -46,7 +46,7 @@ module _ (code : ℕ) (s : List ℕ) (bytes : Bytes s) (t : Typed Record) where
   as-list f (refuses n vs) e g = never _ _ _ g
 
   -- of a record, which has no entries
-  as-record : isListed code ≡ false → (x : Answer Reading) → x ≡ readRecord code s → gives t ≡ mapped (oneRecord (length s)) x → Same code t s (take (t .consumed) s)
+  as-record : isListed code ≡ false → (x : Answer RecordRead) → x ≡ readRecord code s → gives t ≡ mapped (oneRecord (length s)) x → Same code t s (take (t .consumed) s)
   as-record f (gives r) e g =
       let i : t ≡ oneRecord (length s) r = given t (oneRecord (length s) r) g in
       let u : List ℕ = take (r .consumed) s in
@@ -64,10 +64,10 @@ module _ (code : ℕ) (s : List ℕ) (bytes : Bytes s) (t : Typed Record) where
       })
     where
       six : (v : List ℕ) → readRecord code v ≡ gives r → (is : List ℕ) → refuses 6 [] ≡ locateKind code is v
-      six v h is = ap (λ (x : Answer Reading). andThen x (λ y. refuses 6 [])) (sym h) ∙ no-entry code v f is
+      six v h is = ap (λ (x : Answer RecordRead). andThen x (λ y. refuses 6 [])) (sym h) ∙ no-entry code v f is
 
       none : (v : List ℕ) → readRecord code v ≡ gives r → (is : List ℕ) → refuses 6 [] ≡ countKind code is v
-      none v h is = ap (λ (x : Answer Reading). andThen x (λ y. refuses 6 [])) (sym h) ∙ no-count code v f is
+      none v h is = ap (λ (x : Answer RecordRead). andThen x (λ y. refuses 6 [])) (sym h) ∙ no-count code v f is
   as-record f (refuses n vs) e g = never _ _ _ g
 
   -- the consumed bytes alone are such a value

@@ -53,7 +53,7 @@ kindReadOf (KindRead.List n c m) = gives (record { held = list n; consumed = c; 
 kindReadOf (KindRead.Refused r) = told r
 
 -- a record or entries that were read, of a value of so many bytes
-abbrev pub oneRecord : ℕ → records.Reading → Typed Record
+abbrev pub oneRecord : ℕ → records.RecordRead → Typed Record
 oneRecord size r = record { held = one (r .value); consumed = r .consumed; rest = size - r .consumed }
 
 abbrev pub oneList : layouts.Consumed → Typed Record

@@ -8,18 +8,18 @@ use borrow.Author.Tests.{lt-ltb, le-ltb}
 use Rattle.numbers.specs.Numbers.{gives, refuses, andThen, mapped}
 use Rattle.layouts.specs.declared.rows.Row.{Row}
 use Rattle.layouts.specs.Layouts.{Layout}
-use Rattle.layouts.specs.Reading.{Listed, listOf, entriesEnd, endOf}
+use Rattle.layouts.specs.Reading.{ListAt, listOf, entriesEnd, endOf}
 use Rattle.layouts.specs.Access.{numbers, childAt, below, findEntry, spanOf}
 use Rattle.layouts.specs.PrivateRows.{rowBelow, rowLayout}
 use Rattle.layouts.proofs.Within.{among}
 use Rattle.layouts.proofs.Laws.{layout-more, list-level}
 
 module _ (l : Layout) (i : ℕ) (s : List ℕ) (p : ℕ) where
-  pub child-there : (m : Listed) → listOf l s p ≡ gives m → i < m .many → childAt l i s p ≡ entriesEnd (endOf (below l) s) i (m .first)
+  pub child-there : (m : ListAt) → listOf l s p ≡ gives m → i < m .many → childAt l i s p ≡ entriesEnd (endOf (below l) s) i (m .first)
   unfolding childAt
   child-there m x h = rw (x, lt-ltb i (m .many) h)
 
-  pub child-past : (m : Listed) → listOf l s p ≡ gives m → m .many ≤ i → childAt l i s p ≡ refuses 6 []
+  pub child-past : (m : ListAt) → listOf l s p ≡ gives m → m .many ≤ i → childAt l i s p ≡ refuses 6 []
   unfolding childAt
   child-past m x h = rw (x, le-ltb i (m .many) h)
 

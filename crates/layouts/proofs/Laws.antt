@@ -14,7 +14,7 @@ use Rattle.numbers.proofs.Firm.{never}
 use Rattle.numbers.proofs.Answers.{follows, stops}
 use Rattle.layouts.specs.declared.rows.Row.{Row}
 use Rattle.layouts.specs.Layouts.{bytes, entry, ListKind}
-use Rattle.layouts.specs.Reading.{reaching, Listed, headOf, countAt, listOf, entriesEnd, endOf, consumedTo, readAs}
+use Rattle.layouts.specs.Reading.{reaching, ListAt, headOf, countAt, listOf, entriesEnd, endOf, consumedTo, readAs}
 use Rattle.layouts.specs.PrivateRows.{counting, rowBelow, layoutIn, rowLayout}
 use Rattle.layouts.proofs.Within.{reaches, cut, list-leaf}
 
@@ -43,7 +43,7 @@ module _ (row : Row) (s : List ℕ) (p : ℕ) where
   list-none e = rw (layout-zero row e) (list-leaf (row .h0) s p)
 
   -- only an entry above the lowest level has one
-  pub list-level : (m : Listed) → listOf (rowLayout row) s p ≡ gives m → 0 < row .levels
+  pub list-level : (m : ListAt) → listOf (rowLayout row) s p ≡ gives m → 0 < row .levels
   list-level m x = go (row .levels) refl where
     go : (k : ℕ) → row .levels ≡ k → 0 < k
     go zero e = never m 6 [] (sym x ∙ list-none e)
@@ -62,7 +62,7 @@ module _ (row : Row) (s : List ℕ) (p : ℕ) where
   unfolding endOf
   end-list f = rw (layout-more row f)
 
-  pub end-there : (m : Listed) → listOf (rowLayout row) s p ≡ gives m → entriesEnd (endOf (rowLayout (rowBelow row)) s) (m .many) (m .first) ≡ endOf (rowLayout row) s p
+  pub end-there : (m : ListAt) → listOf (rowLayout row) s p ≡ gives m → entriesEnd (endOf (rowLayout (rowBelow row)) s) (m .many) (m .first) ≡ endOf (rowLayout row) s p
   end-there m e = let l = list-level m e in sym (end-list (omega arith) ∙ follows _ m _ e)
 
   pub end-cut : (n : ℕ) (vs : List ℕ) → (row .levels ≡ 0 → ⊥) → listOf (rowLayout row) s p ≡ refuses n vs → refuses n vs ≡ endOf (rowLayout row) s p
@@ -100,7 +100,7 @@ fixed-cut h s (suc n) p b l = go (fixed-cut h s n (p + h)) (leb (p + h) (length 
   go rest false e = rw e
 
 -- a value whose list is there and that ends
-pub read-to : (k : ListKind) (s : List ℕ) (m : Listed) (e : ℕ) → listOf (k .layout) s 0 ≡ gives m → endOf (k .layout) s 0 ≡ gives e →
+pub read-to : (k : ListKind) (s : List ℕ) (m : ListAt) (e : ℕ) → listOf (k .layout) s 0 ≡ gives m → endOf (k .layout) s 0 ≡ gives e →
     readAs k s ≡ consumedTo (k .rest) e (m .many) s
 unfolding readAs
 read-to k s m e x y = rw (x, y)

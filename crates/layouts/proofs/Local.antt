@@ -11,7 +11,7 @@ use borrow.Author.Tests.{ltb-true}
 use Rattle.numbers.specs.Numbers.{Answer, gives, refuses, andThen}
 use Rattle.numbers.proofs.Answers.{given, gave}
 use Rattle.layouts.specs.Layouts.{Counting, c1, c2, to-end, Layout, bytes, entry}
-use Rattle.layouts.specs.Reading.{Listed, headOf, countAt, listOf, entriesEnd, endOf}
+use Rattle.layouts.specs.Reading.{ListAt, headOf, countAt, listOf, entriesEnd, endOf}
 use Rattle.layouts.specs.Access.{childAt, below, Spot, findEntry, spanOf, lengthAt}
 use Rattle.layouts.proofs.Within.{Within, reaches, reached, count-within, behind-head, list-leaf, list-within, entries-within, ends-in, end-within}
 use Rattle.layouts.proofs.Reached.{child-reads, child-lies, find-lies}
@@ -38,7 +38,7 @@ counted-below (entry k c2 e) c = c
 counted-below (entry k to-end e) c = absurd c
 
 module _ (s t : List ℕ) (m : ℕ) (g : Agree m s t) where
-  count-local : (w : Counting) (h p : ℕ) (x : Listed) → T (hasCount w) → x .first ≤ m → countAt w h s p ≡ gives x → countAt w h t p ≡ gives x
+  count-local : (w : Counting) (h p : ℕ) (x : ListAt) → T (hasCount w) → x .first ≤ m → countAt w h s p ≡ gives x → countAt w h t p ≡ gives x
   unfolding countAt
   count-local c1 h p x c l y =
       let a = reached (p + 1) s _ x y in
@@ -52,7 +52,7 @@ module _ (s t : List ℕ) (m : ℕ) (g : Agree m s t) where
       rw (g .same p (omega arith), g .same (p + 1) (omega arith)) (reaches (p + 2) t _ (omega arith) ∙ ap gives (a .1))
   count-local to-end h p x c l y = absurd c
 
-  list-local : (l : Layout) (p : ℕ) (x : Listed) → T (allCounted l) → x .first ≤ m → listOf l s p ≡ gives x → listOf l t p ≡ gives x
+  list-local : (l : Layout) (p : ℕ) (x : ListAt) → T (allCounted l) → x .first ≤ m → listOf l s p ≡ gives x → listOf l t p ≡ gives x
   unfolding listOf
   list-local (bytes k) p x c b y = y
   list-local (entry k w e) p x c b y =
@@ -99,7 +99,7 @@ module _ (s t : List ℕ) (m : ℕ) (g : Agree m s t) where
     child-alike : (i : ℕ) → childAt l i t p ≡ childAt l i s p
     unfolding childAt
     child-alike i = rw list-alike (go (listOf l s p) refl) where
-      some : (y : Listed) → listOf l s p ≡ gives y → (d : Bool) → ltb i (y .many) ≡ d →
+      some : (y : ListAt) → listOf l s p ≡ gives y → (d : Bool) → ltb i (y .many) ≡ d →
           cond d (entriesEnd (endOf (below l) t) i (y .first)) (refuses 6 []) ≡ cond d (entriesEnd (endOf (below l) s) i (y .first)) (refuses 6 [])
       some y e true d =
           let n = child-reads l s p q i y x e (ltb-true i (y .many) d) in
@@ -108,7 +108,7 @@ module _ (s t : List ℕ) (m : ℕ) (g : Agree m s t) where
           entries-local (endOf (below l) s) (endOf (below l) t) (end-within (below l) s) (λ a b. end-local (below l) a b (counted-below l c)) i (y .first) (n .start) (omega arith) (n .starts) ∙ sym (n .starts)
       some y e false d = refl
 
-      go : (y : Answer Listed) → listOf l s p ≡ y →
+      go : (y : Answer ListAt) → listOf l s p ≡ y →
           andThen y (λ m. cond (ltb i (m .many)) (entriesEnd (endOf (below l) t) i (m .first)) (refuses 6 [])) ≡
           andThen y (λ m. cond (ltb i (m .many)) (entriesEnd (endOf (below l) s) i (m .first)) (refuses 6 []))
       go (gives y) e = some y e (ltb i (y .many)) refl

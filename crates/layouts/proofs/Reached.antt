@@ -9,7 +9,7 @@ use Rattle.numbers.specs.Numbers.{Answer, gives, andThen, mapped}
 use Rattle.numbers.proofs.Firm.{never}
 use Rattle.numbers.proofs.Answers.{given, follows, gave, mapped-given, mapped-gave, alike, regrouped}
 use Rattle.layouts.specs.Layouts.{Layout, bytes, entry}
-use Rattle.layouts.specs.Reading.{Listed, listOf, entriesEnd, endOf}
+use Rattle.layouts.specs.Reading.{ListAt, listOf, entriesEnd, endOf}
 use Rattle.layouts.specs.Access.{childAt, below, Spot, findEntry, Span, spanOf, lengthAt}
 use Rattle.layouts.specs.Claims.{Shown, Below}
 use Rattle.layouts.proofs.Within.{Within, leafless, list-within, entries-within, ends-in, end-within, among}
@@ -47,7 +47,7 @@ nth f s w (suc n) p q (suc i) h x =
     }
 
 -- entry i of the list of an entry that reads
-pub child-reads : (l : Layout) (s : List ℕ) (p q i : ℕ) (m : Listed) → endOf l s p ≡ gives q → listOf l s p ≡ gives m → i < m .many →
+pub child-reads : (l : Layout) (s : List ℕ) (p q i : ℕ) (m : ListAt) → endOf l s p ≡ gives q → listOf l s p ≡ gives m → i < m .many →
     Nth (endOf (below l) s) (m .first) q i
 child-reads (bytes n) s p q i m x y h = leafless n s p m y
 child-reads (entry n w e) s p q i m x y h =

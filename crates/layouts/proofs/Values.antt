@@ -11,7 +11,7 @@ use Rattle.numbers.specs.Numbers.{Answer, gives, refuses, andThen}
 use Rattle.numbers.proofs.Firm.{never}
 use Rattle.numbers.proofs.Answers.{given, gave, follows}
 use Rattle.layouts.specs.Layouts.{Layout, Rest, handed-back, refused, ListKind, layoutOf}
-use Rattle.layouts.specs.Reading.{Listed, listOf, endOf, Consumed, consumedTo, readAs}
+use Rattle.layouts.specs.Reading.{ListAt, listOf, endOf, Consumed, consumedTo, readAs}
 use Rattle.layouts.specs.Access.{Span, spanOf, ofValue, locateEntry}
 use Rattle.layouts.proofs.Within.{Within, end-within}
 use Rattle.layouts.proofs.Reached.{span-inside}
@@ -38,7 +38,7 @@ to refused e n s r x = go (ltb e (length s)) refl x where
 
 -- a value that reads: its list and its end, and what the answer says
 pub record Ended (k : ListKind) (s : List ℕ) (r : Consumed) : Type 0 where
-  pub list : Listed
+  pub list : ListAt
   pub has : listOf (k .layout) s 0 ≡ gives list
   pub ends : endOf (k .layout) s 0 ≡ gives (r .consumed)
   pub many : list .many ≡ r .entries

@@ -11,7 +11,7 @@ use Rattle.numbers.specs.Numbers.{Answer, gives, refuses}
 use Rattle.numbers.proofs.Firm.{never}
 use Rattle.numbers.proofs.Answers.{given, gave}
 use Rattle.layouts.specs.Layouts.{Counting, c1, c2, to-end, Layout, bytes, entry}
-use Rattle.layouts.specs.Reading.{reaching, Listed, headOf, countAt, listOf, entriesEnd, endOf}
+use Rattle.layouts.specs.Reading.{reaching, ListAt, headOf, countAt, listOf, entriesEnd, endOf}
 use Rattle.layouts.specs.Access.{childAt, below, Spot, findEntry}
 
 abbrev pub Within : ℕ → ℕ → List ℕ → Type 0
@@ -30,18 +30,18 @@ reached q s a b x = go (leb q (length s)) refl x where
   go true e x = (leb-true q (length s) e, given a b x)
   go false e x = never b 3 [] (sym x)
 
-pub count-within : (w : Counting) (h : ℕ) (s : List ℕ) (p : ℕ) (m : Listed) → p ≤ length s → countAt w h s p ≡ gives m → Within p (m .first) s
+pub count-within : (w : Counting) (h : ℕ) (s : List ℕ) (p : ℕ) (m : ListAt) → p ≤ length s → countAt w h s p ≡ gives m → Within p (m .first) s
 unfolding countAt
 count-within c1 h s p m b x = let a = reached (p + 1) s _ m x in let e : p + 1 ≡ m .first = ap (λ m. m .first) (a .1) in omega arith
 count-within c2 h s p m b x = let a = reached (p + 2) s _ m x in let e : p + 2 ≡ m .first = ap (λ m. m .first) (a .1) in omega arith
 count-within to-end h s p m b x = let e : p ≡ m .first = ap (λ m. m .first) (given _ m x) in omega arith
 
 -- the list of an entry that has one stands behind its head
-pub record Behind (n : ℕ) (w : Counting) (e : Layout) (s : List ℕ) (p : ℕ) (m : Listed) : Type 0 where
+pub record Behind (n : ℕ) (w : Counting) (e : Layout) (s : List ℕ) (p : ℕ) (m : ListAt) : Type 0 where
   pub head : p + n ≤ length s
   pub counts : countAt w (headOf e) s (p + n) ≡ gives m
 
-pub behind-head : (n : ℕ) (w : Counting) (e : Layout) (s : List ℕ) (p : ℕ) (m : Listed) → listOf (entry n w e) s p ≡ gives m → Behind n w e s p m
+pub behind-head : (n : ℕ) (w : Counting) (e : Layout) (s : List ℕ) (p : ℕ) (m : ListAt) → listOf (entry n w e) s p ≡ gives m → Behind n w e s p m
 unfolding listOf
 behind-head n w e s p m x =
     let g = gave (reaching (p + n) s (p + n)) (λ q. countAt w (headOf e) s q) m x in
@@ -53,10 +53,10 @@ pub list-leaf : (n : ℕ) (s : List ℕ) (p : ℕ) → listOf (bytes n) s p ≡ 
 unfolding listOf
 list-leaf n s p = refl
 
-pub leafless : {B : Type 0} (n : ℕ) (s : List ℕ) (p : ℕ) (m : Listed) → listOf (bytes n) s p ≡ gives m → B
+pub leafless : {B : Type 0} (n : ℕ) (s : List ℕ) (p : ℕ) (m : ListAt) → listOf (bytes n) s p ≡ gives m → B
 leafless n s p m x = never m 6 [] (cc (list-leaf n s p))
 
-pub list-within : (l : Layout) (s : List ℕ) (p : ℕ) (m : Listed) → listOf l s p ≡ gives m → Within p (m .first) s
+pub list-within : (l : Layout) (s : List ℕ) (p : ℕ) (m : ListAt) → listOf l s p ≡ gives m → Within p (m .first) s
 list-within (bytes n) s p m x = leafless n s p m x
 list-within (entry n w e) s p m x =
     let b = behind-head n w e s p m x in
@@ -74,8 +74,8 @@ entries-within f s w (suc n) p q l x =
     omega arith
 
 -- an entry that reads and has a list ends in it
-pub record Ends (e : Layout) (s : List ℕ) (x : Answer Listed) (q : ℕ) : Type 0 where
-  pub list : Listed
+pub record Ends (e : Layout) (s : List ℕ) (x : Answer ListAt) (q : ℕ) : Type 0 where
+  pub list : ListAt
   pub has : x ≡ gives list
   pub ends : entriesEnd (endOf e s) (list .many) (list .first) ≡ gives q
 
@@ -96,7 +96,7 @@ end-within (entry n w e) s p q x =
 
 -- entry i of a list that has it
 pub record Among (l : Layout) (i : ℕ) (s : List ℕ) (p q : ℕ) : Type 0 where
-  pub list : Listed
+  pub list : ListAt
   pub has : listOf l s p ≡ gives list
   pub less : i < list .many
   pub starts : entriesEnd (endOf (below l) s) i (list .first) ≡ gives q
@@ -106,7 +106,7 @@ unfolding childAt
 among l i s p q x =
     let g = gave (listOf l s p) (λ m. cond (ltb i (m .many)) (entriesEnd (endOf (below l) s) i (m .first)) (refuses 6 [])) q x in
     go (g .first) (g .is) (ltb i (g .first .many)) refl (g .then) where
-      go : (m : Listed) → listOf l s p ≡ gives m → (t : Bool) → ltb i (m .many) ≡ t →
+      go : (m : ListAt) → listOf l s p ≡ gives m → (t : Bool) → ltb i (m .many) ≡ t →
           cond t (entriesEnd (endOf (below l) s) i (m .first)) (refuses 6 []) ≡ gives q → Among l i s p q
       go m y true t x = record { list = m; has = y; less = ltb-true i (m .many) t; starts = x }
       go m y false t x = never q 6 [] (sym x)

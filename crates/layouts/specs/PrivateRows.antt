@@ -14,7 +14,7 @@ use Rattle.layouts.specs.declared.lists.Listing.the-variants.{Of, Refuse
 use Rattle.layouts.specs.declared.access.Level.{Level}
 use Rattle.layouts.specs.declared.access.Level.the-variants.{Of as Reached, Refused as NotReached}
 use Rattle.layouts.specs.Layouts.{Counting, c1, c2, to-end, Layout, bytes, entry, Rest, handed-back, refused, ListKind}
-use Rattle.layouts.specs.Reading.{Listed}
+use Rattle.layouts.specs.Reading.{ListAt}
 use Rattle.layouts.specs.Access.{Spot}
 
 -- the count of a list in so many bytes; in none where the list goes to the end
@@ -51,7 +51,7 @@ abbrev pub endTold : End → Answer ℕ
 endTold (At p) = gives p
 endTold (NoEnd r) = told r
 
-abbrev pub listTold : Listing → Answer Listed
+abbrev pub listTold : Listing → Answer ListAt
 listTold (Of n p) = gives (record { many = n; first = p })
 listTold (NoList r) = told r
 

@@ -14,7 +14,7 @@ abbrev pub reaching : {A : Type 0} → ℕ → List ℕ → A → Answer A
 reaching q s a = cond (leb q (length s)) (gives a) (refuses 3 [])
 
 -- a list: how many entries it has, and where the first one starts
-pub record Listed : Type 0 where
+pub record ListAt : Type 0 where
   pub many : ℕ
   pub first : ℕ
 
@@ -23,13 +23,13 @@ headOf (bytes n) = n
 headOf (entry n w e) = n
 
 -- the list at p. To the end there are as many entries, of h bytes each, as wholly fit.
-unfoldable pub countAt : Counting → ℕ → List ℕ → ℕ → Answer Listed
+unfoldable pub countAt : Counting → ℕ → List ℕ → ℕ → Answer ListAt
 countAt c1 h s p = reaching (p + 1) s (record { many = getD s p 0; first = p + 1 })
 countAt c2 h s p = reaching (p + 2) s (record { many = getD s p 0 * 256 + getD s (p + 1) 0; first = p + 2 })
 countAt to-end h s p = gives (record { many = (length s - p) / h; first = p })
 
 -- the list of the entry that starts at p, behind the entry's head; an entry that has none has "no entry" to ask for: 6
-unfoldable pub listOf : Layout → List ℕ → ℕ → Answer Listed
+unfoldable pub listOf : Layout → List ℕ → ℕ → Answer ListAt
 listOf (bytes n) s p = refuses 6 []
 listOf (entry n w e) s p = andThen (reaching (p + n) s (p + n)) (λ q. countAt w (headOf e) s q)
 

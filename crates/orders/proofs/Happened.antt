@@ -20,7 +20,7 @@ use Rattle.reassembler.specs.Keys.{Origin, keyFor}
 use Rattle.reassembler.proofs.Keys.{key-is-one's}
 use Rattle.machines.specs.Machine.{those, run, remaining, gathered, every}
 use Rattle.orders.specs.Runs.{State, Push, Call, push, sweep, pushed, dropped, finishedBy, part, wayOf, after, tells, isAccepted, hasRoom, isOwn, isSweep, mine, start, holding, ends, crossed, repliesTo}
-use Rattle.orders.specs.Happened.{Event, push-event, sweep-event, Happens, by-push, by-sweep, Happened, none, more, callOf, Got, from-push, from-sweep, gotBy, replyOf, isRefused, isFull, sameBytes, isFrom, isSweepEvent, isAbout}
+use Rattle.orders.specs.Happened.{Happening, push-event, sweep-event, Happens, by-push, by-sweep, Happened, none, more, callOf, Got, from-push, from-sweep, gotBy, replyOf, isRefused, isFull, sameBytes, isFrom, isSweepEvent, isAbout}
 use Rattle.orders.specs.Claims.{Reordered, IsRun, AskedReordered, NoneFull, SameGot, AskedAlone, GotAlone}
 use Rattle.machines.proofs.Lists.{left-true, right-true, those-both}
 use Rattle.orders.proofs.Orders.{run-made, told-alone, order-across-keys}
@@ -35,7 +35,7 @@ one-got (from-push p bytes) (from-sweep c) e = let no : _≡_ {A = ℕ} 0 1 = cc
 one-got (from-sweep c) (from-push q bytes) e = let no : _≡_ {A = ℕ} 0 1 = cc in absurd (omega arith)
 one-got (from-sweep c) (from-sweep d) e = cc
 
-all-got : (xs ys : List Event) → map (λ e. replyOf (gotBy e)) xs ≡ map (λ e. replyOf (gotBy e)) ys → map gotBy xs ≡ map gotBy ys
+all-got : (xs ys : List Happening) → map (λ e. replyOf (gotBy e)) xs ≡ map (λ e. replyOf (gotBy e)) ys → map gotBy xs ≡ map gotBy ys
 all-got [] [] h = refl
 all-got [] (y ∷ ys) h = let no : _≡_ {A = ℕ} 0 1 = cc in absurd (omega arith)
 all-got (x ∷ xs) [] h = let no : _≡_ {A = ℕ} 0 1 = cc in absurd (omega arith)
@@ -46,7 +46,7 @@ pub finished-shown : (z : State) (p : Push) (out : List ℕ) → shown (answerBy
 finished-shown z p out = shown-same (z .table) (part z p) (p .arrival) (p .payload) (p .room) out
 
 -- one call that happened is a call of the run
-happens : {z z′ : State} {e : Event} → Happens z e z′ → (after z (callOf e) ≡ z′) × (tells z (callOf e) ≡ replyOf (gotBy e))
+happens : {z z′ : State} {e : Happening} → Happens z e z′ → (after z (callOf e) ≡ z′) × (tells z (callOf e) ≡ replyOf (gotBy e))
 happens {z = z} (by-push {p = p} {answer = answer} {table′ = table′} {part′ = part′} {out = out} {out′ = out′} long goes) =
     let w = wayOf z p in
     let met : Goes w (z .table) (part z p) out (p .arrival) (p .payload) answer table′ part′ out′ = rw long at goes in
@@ -55,8 +55,8 @@ happens {z = z} (by-push {p = p} {answer = answer} {table′ = table′} {part�
 happens {z = z} (by-sweep e) = (ap (λ (r : Swept). record { table = r .table; store = z .store }) (sym e), ap (λ (r : Swept). dropped (r .dropped)) (sym e))
 
 -- what a run gathers from the calls that pass a test is what the events that pass it have
-module _ (test : State → Call → Bool) (passes : Event → Bool) (agree : (z z′ : State) (e : Event) → Happens z e z′ → test z (callOf e) ≡ passes e) where
-  remains : {z z′ : State} {es : List Event} → Happened z es z′ → remaining after test z (map callOf es) ≡ map callOf (those passes es)
+module _ (test : State → Call → Bool) (passes : Happening → Bool) (agree : (z z′ : State) (e : Happening) → Happens z e z′ → test z (callOf e) ≡ passes e) where
+  remains : {z z′ : State} {es : List Happening} → Happened z es z′ → remaining after test z (map callOf es) ≡ map callOf (those passes es)
   unfolding remaining those
   remains none = refl
   remains (more {z = z} {z′ = z′} {e = e} {es = es} h hs) = rw (agree z z′ e h, happens h .0) (by-test (passes e) (remains hs))
@@ -66,7 +66,7 @@ module _ (test : State → Call → Bool) (passes : Event → Bool) (agree : (z 
       by-test true ih = rw ih
       by-test false ih = ih
 
-  gathers : {z z′ : State} {es : List Event} → Happened z es z′ → gathered after test tells z (map callOf es) ≡ map (λ e. replyOf (gotBy e)) (those passes es)
+  gathers : {z z′ : State} {es : List Happening} → Happened z es z′ → gathered after test tells z (map callOf es) ≡ map (λ e. replyOf (gotBy e)) (those passes es)
   unfolding gathered those
   gathers none = refl
   gathers (more {z = z} {z′ = z′} {e = e} {es = es} h hs) = rw (agree z z′ e h, happens h .0, happens h .1) (by-test (passes e) (gathers hs))
@@ -77,8 +77,8 @@ module _ (test : State → Call → Bool) (passes : Event → Bool) (agree : (z 
       by-test false ih = ih
 
 -- no event fails where each call passes
-module _ (test : State → Call → Bool) (fails : Event → Bool) (agree : (z z′ : State) (e : Event) → Happens z e z′ → test z (callOf e) ≡ not (fails e)) where
-  all-pass : {z z′ : State} {es : List Event} → Happened z es z′ → those fails es ≡ [] → every after test z (map callOf es) ≡ true
+module _ (test : State → Call → Bool) (fails : Happening → Bool) (agree : (z z′ : State) (e : Happening) → Happens z e z′ → test z (callOf e) ≡ not (fails e)) where
+  all-pass : {z z′ : State} {es : List Happening} → Happened z es z′ → those fails es ≡ [] → every after test z (map callOf es) ≡ true
   unfolding every those
   all-pass none n = refl
   all-pass (more {z = z} {z′ = z′} {e = e} {es = es} h hs) n = rw (agree z z′ e h, happens h .0) (by-test (fails e) n (all-pass hs))
@@ -87,7 +87,7 @@ module _ (test : State → Call → Bool) (fails : Event → Bool) (agree : (z z
       by-test true n ih = let no : _≡_ {A = ℕ} 0 1 = cc in absurd (omega arith)
       by-test false n ih = ih n
 
-  none-fails : {z z′ : State} {es : List Event} → Happened z es z′ → every after test z (map callOf es) ≡ true → those fails es ≡ []
+  none-fails : {z z′ : State} {es : List Happening} → Happened z es z′ → every after test z (map callOf es) ≡ true → those fails es ≡ []
   unfolding every those
   none-fails none n = refl
   none-fails (more {z = z} {z′ = z′} {e = e} {es = es} h hs) n = by-test (fails e) (rw (agree z z′ e h, happens h .0) at n) (none-fails hs)
@@ -96,7 +96,7 @@ module _ (test : State → Call → Bool) (fails : Event → Bool) (agree : (z z
       by-test true n ih = absurd (false≢true n)
       by-test false n ih = ih n
 
-ends-at : {z z′ : State} {es : List Event} → Happened z es z′ → ends z (map callOf es) ≡ z′
+ends-at : {z z′ : State} {es : List Happening} → Happened z es z′ → ends z (map callOf es) ≡ z′
 unfolding run
 ends-at none = refl
 ends-at (more {e = e} {es = es} h hs) = ap (λ (z : State). ends z (map callOf es)) (happens h .0) ∙ ends-at hs
@@ -128,11 +128,11 @@ one-key a o = by-key (eqb (keyFor a) (keyFor o)) refl
             absurd (eqb-false (keyFor a) (keyFor o) e (rw (sender, id)))
         by-both false h = refl
 
-own-from : (o : Origin) (e : Event) → isOwn (keyFor o) (callOf e) ≡ isFrom o e
+own-from : (o : Origin) (e : Happening) → isOwn (keyFor o) (callOf e) ≡ isFrom o e
 own-from o (push-event a p key out answer out′) = ap (λ (k : ℕ). eqb k (keyFor o)) key ∙ sym (one-key a o)
 own-from o (sweep-event time many) = refl
 
-about : (o : Origin) (es : List Event) → mine (keyFor o) (map callOf es) ≡ map callOf (those (isAbout o) es)
+about : (o : Origin) (es : List Happening) → mine (keyFor o) (map callOf es) ≡ map callOf (those (isAbout o) es)
 unfolding those
 about o [] = refl
 about o (e ∷ es) = rw (own-from o e) (by-test (isAbout o e) (about o es))
@@ -147,7 +147,7 @@ data Known (c : ℕ) (calls : List Call) : Type 0 where
   someone's : (o : Origin) → keyFor o ≡ c → Known c calls
   nobody's : mine c calls ≡ those isSweep calls → Known c calls
 
-known : (c : ℕ) (es : List Event) → Known c (map callOf es)
+known : (c : ℕ) (es : List Happening) → Known c (map callOf es)
 unfolding those
 known c [] = nobody's refl
 known c (push-event o p key out answer out′ ∷ es) = by-key (eqb (p .arrival .key) c) refl (known c es)
@@ -175,7 +175,7 @@ sweeps-among c (sweep time ∷ calls) = rw (sweeps-among c calls)
 nobody : Origin
 nobody = record { sender = replicate 6 0; message-id = 0; six = refl; bytes = λ i. omega (arith, all-same {A = ℕ} 6 i 0); two = omega arith }
 
-reordered : (es fs : List Event) → AskedReordered es fs → Reordered (map callOf es) (map callOf fs)
+reordered : (es fs : List Happening) → AskedReordered es fs → Reordered (map callOf es) (map callOf fs)
 reordered es fs same c = by-key (known c es) (known c fs)
   where
     at : (o : Origin) → mine (keyFor o) (map callOf es) ≡ mine (keyFor o) (map callOf fs)
@@ -187,26 +187,26 @@ reordered es fs same c = by-key (known c es) (known c fs)
     by-key (nobody's h) (nobody's k) = h ∙ sym (sweeps-among (keyFor nobody) (map callOf es)) ∙ ap (those isSweep) (at nobody) ∙ sweeps-among (keyFor nobody) (map callOf fs) ∙ sym k
 
 -- what is told of a key's own pushes
-own : (o : Origin) {z z′ : State} {es : List Event} → Happened z es z′ → repliesTo (keyFor o) z (map callOf es) ≡ map (λ e. replyOf (gotBy e)) (those (isFrom o) es)
+own : (o : Origin) {z z′ : State} {es : List Happening} → Happened z es z′ → repliesTo (keyFor o) z (map callOf es) ≡ map (λ e. replyOf (gotBy e)) (those (isFrom o) es)
 own o = gathers (λ s e. isOwn (keyFor o) e) (isFrom o) (λ z z′ e h. own-from o e)
 
 -- what a call's answer says of it
-accepted : (z z′ : State) (e : Event) → Happens z e z′ → isAccepted z (callOf e) ≡ not (isRefused e)
+accepted : (z z′ : State) (e : Happening) → Happens z e z′ → isAccepted z (callOf e) ≡ not (isRefused e)
 accepted z z′ e h = rw (happens h .1)
 
-roomy : (z z′ : State) (e : Event) → Happens z e z′ → hasRoom z (callOf e) ≡ not (isFull e)
+roomy : (z z′ : State) (e : Happening) → Happens z e z′ → hasRoom z (callOf e) ≡ not (isFull e)
 roomy z z′ e h = rw (happens h .1)
 
-all-those : (es : List Event) → those (λ e. true) es ≡ es
+all-those : (es : List Happening) → those (λ e. true) es ≡ es
 unfolding those
 all-those [] = refl
 all-those (e ∷ es) = rw (all-those es)
 
-module _ (store : List ℕ) (es : List Event) (z : State) (h : Happened (start store) es z) where
+module _ (store : List ℕ) (es : List Happening) (z : State) (h : Happened (start store) es z) where
   pub is-run : IsRun store es z
   is-run = record { replies = gathers (λ s e. true) (λ e. true) (λ s s′ e g. refl) h ∙ ap (map (λ e. replyOf (gotBy e))) (all-those es); end = ends-at h; made = subst (λ (s : State). Made (s .table)) (ends-at h) (run-made store (map callOf es)) }
 
-  module _ (store′ : List ℕ) (fs : List Event) (z′ : State) (h′ : Happened (start store′) fs z′) (long : length store′ ≡ length store) where
+  module _ (store′ : List ℕ) (fs : List Happening) (z′ : State) (h′ : Happened (start store′) fs z′) (long : length store′ ≡ length store) where
     -- demand 3
     pub order-across-senders : AskedReordered es fs → NoneFull es → NoneFull fs → SameGot es fs z z′
     order-across-senders same room room′ =

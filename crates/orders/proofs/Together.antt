@@ -8,7 +8,7 @@ use Rattle.machines.specs.Machine.{run, gathered}
 use Rattle.machines.specs.Both.{left, right, lefts, rights}
 use Rattle.machines.proofs.Both.{run-both, every-left, every-right, said-left, said-right}
 use Rattle.stations.specs.Whereabouts.{Event}
-use Rattle.stations.specs.Rows.{Stations, freshStations, placeOf, answerTo, tableAfter}
+use Rattle.stations.specs.Rows.{Stations, freshStations, whereOf, answerTo, tableAfter}
 use Rattle.stations.specs.Runs.{isAccepted, isOwn as isStations}
 use Rattle.stations.proofs.Orders.{order-across-stations}
 use Rattle.orders.specs.Runs.{State, Call, after, tells, hasRoom, start, ends, holding, isOwn, isSweep}
@@ -28,7 +28,7 @@ order-together store store′ long calls calls′ same room room′ =
       sweeps = to-calls isSweep store calls ∙ ap (map left) (messages .sweeps) ∙ sym (to-calls isSweep store′ calls′);
       events = λ station. to-events (isStations station) store calls ∙ ap (map right) (stations .answers station) ∙ sym (to-events (isStations station) store′ calls′);
       holds = λ key. ap (λ (z : State × Stations). holding key (z .0)) (apart store calls) ∙ messages .holds key ∙ sym (ap (λ (z : State × Stations). holding key (z .0)) (apart store′ calls′));
-      places = λ station. ap (λ (z : State × Stations). placeOf (z .1) station) (apart store calls) ∙ stations .places station ∙ sym (ap (λ (z : State × Stations). placeOf (z .1) station) (apart store′ calls′));
+      places = λ station. ap (λ (z : State × Stations). whereOf (z .1) station) (apart store calls) ∙ stations .places station ∙ sym (ap (λ (z : State × Stations). whereOf (z .1) station) (apart store′ calls′));
     }
   where
     to-calls : (asked : Call → Bool) (st : List ℕ) (cs : List Mixed) → toldTogether asked noEvent st cs ≡ map left (gathered after (λ z e. asked e) tells (start st) (lefts cs))

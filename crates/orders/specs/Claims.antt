@@ -15,14 +15,14 @@ use Rattle.pushing.specs.Made.{Made}
 use Rattle.reassembler.specs.Keys.{Origin, keyFor}
 use Rattle.machines.specs.Machine.{those, gathered, every}
 use Rattle.machines.specs.Both.{lefts, rights}
-use Rattle.stations.specs.Rows.{placeOf}
+use Rattle.stations.specs.Rows.{whereOf}
 use Rattle.stations.specs.Runs.{isOwn as isStations}
 use Rattle.stations.specs.Claims.{Reordered as EventsReordered}
 use Rattle.orders.specs.Shares.{share, total, isIn, distinct}
 use Rattle.orders.specs.Messages.{Message, Room, Sent, calls, completing}
 use Rattle.orders.specs.Together.{Mixed, noCall, noEvent, endsTogether, toldTogether, roomForAll}
 use Rattle.orders.specs.Runs.{State, Push, Call, push, sweep, pushed, finishedBy, wayOf, isAccepted, isOwn, isSweep, neverFull, hasRoom, after, tells, mine, start, Holding, holding, holdsNothing, ends, crossed, repliesTo, repliesToAccepted, repliesToSweeps}
-use Rattle.orders.specs.Happened.{Event, push-event, Happens, Happened, callOf, gotBy, replyOf, isRefused, isFull, isFrom, isSweepEvent, isAbout}
+use Rattle.orders.specs.Happened.{Happening, push-event, Happens, Happened, callOf, gotBy, replyOf, isRefused, isFull, isFrom, isSweepEvent, isAbout}
 
 -- What a key holds is untouched by every push under another key, refused or not; a refused call changes nothing.
 pub record Local (z : State) : Type 0 where
@@ -77,29 +77,29 @@ pub record Completes (m : Message) (bring : ℕ → Push) (order : List ℕ) (z 
   pub holds : holding (m .key) (ends z (calls m bring order)) ≡ holdsNothing
 
 -- Calls that happened are a run: what is told of each is what its caller got, and the table at their end is the run's, and one that push asks for.
-pub record IsRun (store : List ℕ) (events : List Event) (z : State) : Type 0 where
+pub record IsRun (store : List ℕ) (events : List Happening) (z : State) : Type 0 where
   pub replies : gathered after (λ s e. true) tells (start store) (map callOf events) ≡ map (λ e. replyOf (gotBy e)) events
   pub end : ends (start store) (map callOf events) ≡ z
   pub made : Made (z .table)
 
 -- Demand 3 for them: for each sender's message the same pushes, with all the sweeps between them, were asked in both
-abbrev pub AskedReordered : List Event → List Event → Type 0
+abbrev pub AskedReordered : List Happening → List Happening → Type 0
 AskedReordered events events′ = (o : Origin) → map callOf (those (isAbout o) events) ≡ map callOf (those (isAbout o) events′)
 
-abbrev pub NoneFull : List Event → Type 0
+abbrev pub NoneFull : List Happening → Type 0
 NoneFull events = those isFull events ≡ []
 
 -- and its callers got the same: the call's own answers, the bytes that show shows, the numbers of sweeps; and the tables hold the same
-pub record SameGot (events events′ : List Event) (z z′ : State) : Type 0 where
+pub record SameGot (events events′ : List Happening) (z z′ : State) : Type 0 where
   pub pushes : (o : Origin) → map gotBy (those (isFrom o) events) ≡ map gotBy (those (isFrom o) events′)
   pub sweeps : map gotBy (those isSweepEvent events) ≡ map gotBy (those isSweepEvent events′)
   pub holds : (o : Origin) → holding (keyFor o) z ≡ holding (keyFor o) z′
 
 -- Request 2026-09 for them: the second calls ask for one sender's message what was not refused in the first, and the sweeps
-abbrev pub AskedAlone : Origin → List Event → List Event → Type 0
+abbrev pub AskedAlone : Origin → List Happening → List Happening → Type 0
 AskedAlone o events events′ = map callOf events′ ≡ map callOf (those (isAbout o) (those (λ e. not (isRefused e)) events))
 
-pub record GotAlone (o : Origin) (events events′ : List Event) (z z′ : State) : Type 0 where
+pub record GotAlone (o : Origin) (events events′ : List Happening) (z z′ : State) : Type 0 where
   pub answers : map gotBy (those (isFrom o) (those (λ e. not (isRefused e)) events)) ≡ map gotBy (those (isFrom o) events′)
   pub holds : holding (keyFor o) z ≡ holding (keyFor o) z′
   pub none-refused : those isRefused events′ ≡ []
@@ -114,7 +114,7 @@ pub record SameTogether (store store′ : List ℕ) (calls calls′ : List Mixed
   pub sweeps : toldTogether isSweep noEvent store calls ≡ toldTogether isSweep noEvent store′ calls′
   pub events : (station : ℕ) → toldTogether noCall (isStations station) store calls ≡ toldTogether noCall (isStations station) store′ calls′
   pub holds : (key : ℕ) → holding key (endsTogether store calls .0) ≡ holding key (endsTogether store′ calls′ .0)
-  pub places : (station : ℕ) → placeOf (endsTogether store calls .1) station ≡ placeOf (endsTogether store′ calls′ .1) station
+  pub places : (station : ℕ) → whereOf (endsTogether store calls .1) station ≡ whereOf (endsTogether store′ calls′ .1) station
 
 pub record Claims : Type 0 where
   -- what one call does, at every table that the calls made
@@ -136,10 +136,10 @@ pub record Claims : Type 0 where
   pub order-together : (store store′ : List ℕ) → length store′ ≡ length store → (calls calls′ : List Mixed) → ReorderedTogether calls calls′
       → roomForAll store calls ≡ true → roomForAll store′ calls′ ≡ true → SameTogether store store′ calls calls′
   -- the same for calls that happened
-  pub is-run : (store : List ℕ) (events : List Event) (z : State) → Happened (start store) events z → IsRun store events z
-  pub order-across-senders : (store : List ℕ) (events : List Event) (z : State) → Happened (start store) events z → (store′ : List ℕ) (events′ : List Event) (z′ : State) → Happened (start store′) events′ z′
+  pub is-run : (store : List ℕ) (events : List Happening) (z : State) → Happened (start store) events z → IsRun store events z
+  pub order-across-senders : (store : List ℕ) (events : List Happening) (z : State) → Happened (start store) events z → (store′ : List ℕ) (events′ : List Happening) (z′ : State) → Happened (start store′) events′ z′
       → length store′ ≡ length store → AskedReordered events events′ → NoneFull events → NoneFull events′ → SameGot events events′ z z′
-  pub sender-alone : (store : List ℕ) (events : List Event) (z : State) → Happened (start store) events z → (store′ : List ℕ) (events′ : List Event) (z′ : State) → Happened (start store′) events′ z′
+  pub sender-alone : (store : List ℕ) (events : List Happening) (z : State) → Happened (start store) events z → (store′ : List ℕ) (events′ : List Happening) (z′ : State) → Happened (start store′) events′ z′
       → length store′ ≡ length store → (o : Origin) → AskedAlone o events events′ → GotAlone o events events′ z z′
   -- document 02, 2026-05: "From now on a duplicate leaves the kept fragment untouched": what its caller lent comes back as it was
   pub duplicate-untouched : (z z′ : State) (o : Origin) (p : Push) (key : p .arrival .key ≡ keyFor o) (out out′ : List ℕ) → Happens z (push-event o p key out DuplicatedFragment out′) z′ → (z′ ≡ z) × (out′ ≡ out)

@@ -14,12 +14,12 @@ use Rattle.reassembler.specs.Keys.{Origin, keyFor}
 use Rattle.orders.specs.Runs.{State, Push, Call, push, sweep, Reply, pushed, dropped, part, refusedBy, forRoom, isSweep}
 
 -- a call as it happened: a push under the key that key_of makes, with the output as it was lent, the answer, and the output as it came back; a sweep with its time and its answer
-pub data Event : Type 0 where
-  push-event : (o : Origin) (p : Push) → p .arrival .key ≡ keyFor o → (out : List ℕ) → Pushed → (out′ : List ℕ) → Event
-  sweep-event : ℕ → ℕ → Event
+pub data Happening : Type 0 where
+  push-event : (o : Origin) (p : Push) → p .arrival .key ≡ keyFor o → (out : List ℕ) → Pushed → (out′ : List ℕ) → Happening
+  sweep-event : ℕ → ℕ → Happening
 
 -- one call, by its contract: push is lent the first bytes of the store, and the rest stays
-pub data Happens : State → Event → State → Type 0 where
+pub data Happens : State → Happening → State → Type 0 where
   by-push : {z : State} {o : Origin} {p : Push} {answer : Pushed} {table′ : Table} {part′ out out′ : List ℕ} {key : p .arrival .key ≡ keyFor o} → length out ≡ p .room
       → Goes (way (z .table) (part z p) (p .arrival) (p .payload) (length out)) (z .table) (part z p) out (p .arrival) (p .payload) answer table′ part′ out′
       → Happens z (push-event o p key out answer out′) (record { table = table′; store = part′ ++ drop (p .lent) (z .store) })
@@ -27,12 +27,12 @@ pub data Happens : State → Event → State → Type 0 where
       → Happens z (sweep-event time many) (record { table = table′; store = z .store })
 
 -- calls one after the other
-pub data Happened : State → List Event → State → Type 0 where
+pub data Happened : State → List Happening → State → Type 0 where
   none : {z : State} → Happened z [] z
-  more : {z z′ z″ : State} {e : Event} {es : List Event} → Happens z e z′ → Happened z′ es z″ → Happened z (e ∷ es) z″
+  more : {z z′ z″ : State} {e : Happening} {es : List Happening} → Happens z e z′ → Happened z′ es z″ → Happened z (e ∷ es) z″
 
 -- what was asked, as a call of a run
-abbrev pub callOf : Event → Call
+abbrev pub callOf : Happening → Call
 callOf (push-event o p key out answer out′) = push p
 callOf (sweep-event time many) = sweep time
 
@@ -41,7 +41,7 @@ pub data Got : Type 0 where
   from-push : Pushed → List ℕ → Got
   from-sweep : ℕ → Got
 
-abbrev pub gotBy : Event → Got
+abbrev pub gotBy : Happening → Got
 gotBy (push-event o p key out answer out′) = from-push answer (shown (pushedOf answer) (p .payload) out′)
 gotBy (sweep-event time many) = from-sweep many
 
@@ -50,10 +50,10 @@ abbrev pub replyOf : Got → Reply
 replyOf (from-push answer bytes) = pushed (pushedOf answer) bytes
 replyOf (from-sweep many) = dropped many
 
-abbrev pub isRefused : Event → Bool
+abbrev pub isRefused : Happening → Bool
 isRefused e = refusedBy (λ n. true) (replyOf (gotBy e))
 
-abbrev pub isFull : Event → Bool
+abbrev pub isFull : Happening → Bool
 isFull e = refusedBy forRoom (replyOf (gotBy e))
 
 -- the pushes of one sender's message, the sweeps, and both
@@ -63,12 +63,12 @@ sameBytes [] (c ∷ cs) = false
 sameBytes (b ∷ bs) [] = false
 sameBytes (b ∷ bs) (c ∷ cs) = eqb b c && sameBytes bs cs
 
-abbrev pub isFrom : Origin → Event → Bool
+abbrev pub isFrom : Origin → Happening → Bool
 isFrom o (push-event o′ p key out answer out′) = sameBytes (o′ .sender) (o .sender) && eqb (o′ .message-id) (o .message-id)
 isFrom o (sweep-event time many) = false
 
-abbrev pub isSweepEvent : Event → Bool
+abbrev pub isSweepEvent : Happening → Bool
 isSweepEvent e = isSweep (callOf e)
 
-abbrev pub isAbout : Origin → Event → Bool
+abbrev pub isAbout : Origin → Happening → Bool
 isAbout o e = isFrom o e || isSweepEvent e

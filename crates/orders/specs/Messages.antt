@@ -9,7 +9,7 @@ use Rattle.numbers.specs.Numbers.{gives}
 use Rattle.table.specs.declared.Table.{Table}
 use Rattle.table.specs.Rows.{keys, places, placeSize, storeSize, placeAt, isFree, spareRow}
 use Rattle.pushing.specs.Joining.{Held, heldOf, inOrder}
-use Rattle.pushing.specs.Push.{Heard, waiting, single, joined}
+use Rattle.pushing.specs.Push.{PushAnswer, waiting, single, joined}
 use Rattle.orders.specs.Runs.{Push, Call, push, Reply, pushed}
 use Rattle.orders.specs.Shares.{isIn, distinct}
 
@@ -62,7 +62,7 @@ pub record Room (m : Message) (t : Table) : Type 0 where
   pub row : 1 ≤ m .final → spareRow t < keys
 
 -- all wait, and the last completes: "A single fragment's message is shown as the caller's payload, any other as the first bytes of the output buffer"
-abbrev pub completed : Message → Heard
+abbrev pub completed : Message → PushAnswer
 completed m = cond (eqb (m .final) 0) (single (length (whole m))) (joined (length (whole m)))
 
 abbrev pub completing : Message → List ℕ → List Reply

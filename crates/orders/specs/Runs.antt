@@ -9,7 +9,7 @@ use Rattle.table.specs.declared.Table.{Table}
 use Rattle.pushing.specs.declared.Arrival.{Arrival}
 use Rattle.table.specs.Rows.{freshTable}
 use Rattle.pushing.specs.Joining.{nothing, Fragments, Since, never, heldBy, firstTime}
-use Rattle.pushing.specs.Push.{Heard, Way, way, tableBy, storeBy, outputBy, answerBy}
+use Rattle.pushing.specs.Push.{PushAnswer, Way, way, tableBy, storeBy, outputBy, answerBy}
 use Rattle.sweeping.specs.Sweep.{swept}
 use Rattle.pushing.specs.Show.{shown}
 use Rattle.machines.specs.Machine.{those, run, remaining, gathered, every}
@@ -34,7 +34,7 @@ pub data Call : Type 0 where
 
 -- what a call tells as it returns: a push its answer and the finished bytes, a sweep how many keys it dropped
 pub data Reply : Type 0 where
-  pushed : Answer Heard → List ℕ → Reply
+  pushed : Answer PushAnswer → List ℕ → Reply
   dropped : ℕ → Reply
 
 -- the finished bytes: what the showing call shows of the payload and of an output, whatever it held (see `finished-shown`): here, of an empty one

@@ -6,10 +6,10 @@ use Rattle.numbers.proofs.Firm.{firm, never}
 use Rattle.numbers.proofs.Answers.{given as one}
 use Rattle.pushing.specs.declared.Pushed.{Pushed}
 use Rattle.pushing.specs.declared.Pushed.the-variants.{WaitingForMoreFragments, DuplicatedFragment, InconsistentMetadata, MissingFragments, MissingLastFragment, Single, Joined, Refused}
-use Rattle.pushing.specs.Push.{Heard, waiting, duplicated, inconsistent, missing, missingLast, single, joined, pushedOf}
+use Rattle.pushing.specs.Push.{PushAnswer, waiting, duplicated, inconsistent, missing, missingLast, single, joined, pushedOf}
 
 -- the answer that gives x
-abbrev giver : Heard → Pushed
+abbrev giver : PushAnswer → Pushed
 giver waiting = WaitingForMoreFragments
 giver duplicated = DuplicatedFragment
 giver inconsistent = InconsistentMetadata
@@ -18,7 +18,7 @@ giver missingLast = MissingLastFragment
 giver (single n) = Single n
 giver (joined n) = Joined n
 
-given : (q : Pushed) (x : Heard) → pushedOf q ≡ gives x → q ≡ giver x
+given : (q : Pushed) (x : PushAnswer) → pushedOf q ≡ gives x → q ≡ giver x
 given WaitingForMoreFragments x e = ap giver (one waiting x e)
 given DuplicatedFragment x e = ap giver (one duplicated x e)
 given InconsistentMetadata x e = ap giver (one inconsistent x e)
@@ -36,7 +36,7 @@ refused MissingFragments r e = never missing (number r) (values r) e
 refused MissingLastFragment r e = never missingLast (number r) (values r) e
 refused (Single n) r e = never (single n) (number r) (values r) e
 refused (Joined n) r e = never (joined n) (number r) (values r) e
-refused (Refused s) r e = ap Refused (firm Heard s r e)
+refused (Refused s) r e = ap Refused (firm PushAnswer s r e)
 
 pub one-answer : (p q : Pushed) → pushedOf p ≡ pushedOf q → p ≡ q
 one-answer WaitingForMoreFragments q e = sym (given q waiting (sym e))

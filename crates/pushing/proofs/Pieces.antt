@@ -18,7 +18,7 @@ use Rattle.searching.specs.Search.{lowest, some}
 use Rattle.table.specs.Rows.{Place, ownerOf, placeAt, placeOf, bytesAt}
 use Rattle.pushing.specs.Joining.{Held, Kept, nothing, kept, Fragments, isKept, heldOf, heldAs, heldIn, andNew, keptAt, unlike, inconsistentWith, reach, gapped, isLast, payloadOf, inOrder, payloads}
 use Rattle.pushing.specs.Push.{messageWay, joinWay, joinedWith, over}
-use Rattle.pushing.specs.PrivateSteps.{placesIn, numberedIn, unlikeIn, beyondIn, pieceAt, sizeAt, markedAt, pieceBytes, sizeTo, piecesTo, isGap, countFor, verdictFor, joinWayIn}
+use Rattle.pushing.specs.PrivateSteps.{placesIn, numberedIn, unlikeIn, beyondIn, fragmentAt, sizeAt, markedAt, pieceBytes, sizeTo, piecesTo, isGap, countFor, verdictFor, joinWayIn}
 use Rattle.searching.proofs.Search.{lowest-le, lowest-holds, lowest-before, lowest-same}
 use Rattle.table.proofs.Sound.{Sound, owned-place, place-holds, not-held, held-at}
 
@@ -61,15 +61,15 @@ module _ (owners numbers : List ℕ) (row number : ℕ) where
   abbrev count : ℕ
   count = countFor owners numbers row number
 
-  pub piece-new : (k : ℕ) → k ≡ number → pieceAt owners numbers row number k ≡ 33
-  unfolding pieceAt
+  pub piece-new : (k : ℕ) → k ≡ number → fragmentAt owners numbers row number k ≡ 33
+  unfolding fragmentAt
   piece-new k e = rw (eq-eqb _ _ e)
 
-  pub piece-old : (k : ℕ) → (k ≡ number → ⊥) → pieceAt owners numbers row number k ≡ numberedIn owners numbers (ownerOf row) k
-  unfolding pieceAt
+  pub piece-old : (k : ℕ) → (k ≡ number → ⊥) → fragmentAt owners numbers row number k ≡ numberedIn owners numbers (ownerOf row) k
+  unfolding fragmentAt
   piece-old k e = rw (ne-eqb _ _ e)
 
-  pub no-gap : (k : ℕ) → k < count → pieceAt owners numbers row number k ≡ 32 → ⊥
+  pub no-gap : (k : ℕ) → k < count → fragmentAt owners numbers row number k ≡ 32 → ⊥
   no-gap k h e = eqb-false _ _ (lowest-before (isGap owners numbers row number) 256 k h) e
 
   -- number 0 is there, if the new one is not beyond a gap
@@ -91,7 +91,7 @@ module _ (sizes owners numbers : List ℕ) (row number size : ℕ) where
   unfolding sizeTo
   size-none = refl
 
-  pub size-next : (k : ℕ) → sizeTo sizes owners numbers row number size k + sizeAt sizes size (pieceAt owners numbers row number k) ≡ sizeTo sizes owners numbers row number size (k + 1)
+  pub size-next : (k : ℕ) → sizeTo sizes owners numbers row number size k + sizeAt sizes size (fragmentAt owners numbers row number k) ≡ sizeTo sizes owners numbers row number size (k + 1)
   unfolding sizeTo
   size-next k = sym (ap (sizeTo sizes owners numbers row number size) (add-one k))
 
@@ -114,7 +114,7 @@ module _ (p : Table) (row : ℕ) (f : Fragment) (size : ℕ) where
   beyond = beyondIn (p .owners) (p .numbers) (ownerOf row) n
 
   abbrev marked : Bool
-  marked = markedAt (f .last) (pieceAt (p .owners) (p .numbers) row (f .number) (n - 1))
+  marked = markedAt (f .last) (fragmentAt (p .owners) (p .numbers) row (f .number) (n - 1))
 
   abbrev total : ℕ
   total = sizeTo (p .sizes) (p .owners) (p .numbers) row (f .number) size n
@@ -201,7 +201,7 @@ module _ (sizes owners numbers store : List ℕ) (row number : ℕ) (payload : L
   upto = piecesTo sizes owners numbers store row number payload
 
   abbrev nth : ℕ → List ℕ
-  nth k = pieceBytes sizes store payload (pieceAt owners numbers row number k)
+  nth k = pieceBytes sizes store payload (fragmentAt owners numbers row number k)
 
   pub pieces-none : [] ≡ upto 0
   unfolding inOrder
@@ -225,7 +225,7 @@ module _ (sizes owners numbers store : List ℕ) (row number : ℕ) (payload : L
   pub pieces-size : ((i : ℕ) → getD sizes i 0 ≤ 1492) → 47744 ≤ length store → (n : ℕ) → length (upto n) ≡ sizeTo sizes owners numbers row number (length payload) n
   unfolding inOrder sizeTo
   pieces-size small long zero = refl
-  pieces-size small long (suc n) = length-append (upto n) (nth n) ∙ rw (pieces-size small long n, size-is sizes store payload small long (pieceAt owners numbers row number n))
+  pieces-size small long (suc n) = length-append (upto n) (nth n) ∙ rw (pieces-size small long n, size-is sizes store payload small long (fragmentAt owners numbers row number n))
 
 -- what a place holds
 module _ (t : Table) (store : List ℕ) (i : ℕ) where
@@ -284,10 +284,10 @@ module _ (t : Table) (store : List ℕ) (row : ℕ) (f : Fragment) (payload : Li
   -- a property of a number from those three
   by-piece : (P : Kept → ℕ → Type 0) (k : ℕ) → (k ≡ f .number → P (kept new) 33)
       → ((k ≡ f .number → ⊥) → placeOf t row k < 32 → P (kept (fragment t store (placeOf t row k))) (placeOf t row k))
-      → ((k ≡ f .number → ⊥) → placeOf t row k ≡ 32 → P nothing 32) → P (fs k) (pieceAt (t .owners) (t .numbers) row (f .number) k)
+      → ((k ≡ f .number → ⊥) → placeOf t row k ≡ 32 → P nothing 32) → P (fs k) (fragmentAt (t .owners) (t .numbers) row (f .number) k)
   by-piece P k a b c = by-tests (eqb k (f .number)) refl (ltb (placeOf t row k) 32) refl
     where
-      by-tests : (x : Bool) → eqb k (f .number) ≡ x → (y : Bool) → ltb (placeOf t row k) 32 ≡ y → P (fs k) (pieceAt (t .owners) (t .numbers) row (f .number) k)
+      by-tests : (x : Bool) → eqb k (f .number) ≡ x → (y : Bool) → ltb (placeOf t row k) 32 ≡ y → P (fs k) (fragmentAt (t .owners) (t .numbers) row (f .number) k)
       by-tests true e y g = let n = eqb-true _ _ e in rw (at-new k n, piece-new (t .owners) (t .numbers) row (f .number) k n) (a n)
       by-tests false e true g = let n = eqb-false _ _ e in rw (at-place k n (ltb-true _ _ g), piece-old (t .owners) (t .numbers) row (f .number) k n) (b n (ltb-true _ _ g))
       by-tests false e false g =
@@ -302,15 +302,15 @@ module _ (t : Table) (store : List ℕ) (row : ℕ) (f : Fragment) (payload : Li
   unfolding reach
   reach-is = lowest-same (λ k. not (isKept (fs k))) (isGap (t .owners) (t .numbers) row (f .number)) 256 (λ k h. gap-is k)
 
-  pub mark-is : (k : ℕ) → (pieceAt (t .owners) (t .numbers) row (f .number) k ≡ 32 → ⊥) → isLast (fs k) ≡ markedAt (f .last) (pieceAt (t .owners) (t .numbers) row (f .number) k)
+  pub mark-is : (k : ℕ) → (fragmentAt (t .owners) (t .numbers) row (f .number) k ≡ 32 → ⊥) → isLast (fs k) ≡ markedAt (f .last) (fragmentAt (t .owners) (t .numbers) row (f .number) k)
   mark-is k = by-piece (λ (x : Kept) (i : ℕ). (i ≡ 32 → ⊥) → isLast x ≡ markedAt (f .last) i) k (λ n g. refl) (λ n h g. rw (lt-ltb _ _ h)) (λ n h g. absurd (g refl))
 
-  pub bytes-are : (k : ℕ) → (pieceAt (t .owners) (t .numbers) row (f .number) k ≡ 32 → ⊥) → payloadOf (fs k) ≡ pieceBytes (t .sizes) store payload (pieceAt (t .owners) (t .numbers) row (f .number) k)
+  pub bytes-are : (k : ℕ) → (fragmentAt (t .owners) (t .numbers) row (f .number) k ≡ 32 → ⊥) → payloadOf (fs k) ≡ pieceBytes (t .sizes) store payload (fragmentAt (t .owners) (t .numbers) row (f .number) k)
   unfolding pieceBytes
   bytes-are k = by-piece (λ (x : Kept) (i : ℕ). (i ≡ 32 → ⊥) → payloadOf x ≡ cond (ltb i 32) (bytesAt store i (placeAt t i .size)) payload) k (λ n g. refl) (λ n h g. rw (lt-ltb _ _ h)) (λ n h g. absurd (g refl))
 
   pub payloads-are : (n : ℕ) → n ≤ countFor (t .owners) (t .numbers) row (f .number) → payloads fs n ≡ piecesTo (t .sizes) (t .owners) (t .numbers) store row (f .number) payload n
-  payloads-are n h = in-order-same (λ k. payloadOf (fs k)) (λ k. pieceBytes (t .sizes) store payload (pieceAt (t .owners) (t .numbers) row (f .number) k)) n (λ k l. bytes-are k (no-gap (t .owners) (t .numbers) row (f .number) k (omega arith)))
+  payloads-are n h = in-order-same (λ k. payloadOf (fs k)) (λ k. pieceBytes (t .sizes) store payload (fragmentAt (t .owners) (t .numbers) row (f .number) k)) n (λ k l. bytes-are k (no-gap (t .owners) (t .numbers) row (f .number) k (omega arith)))
 
   module _ (s : Sound t) (byte : f .number < 256) (once : 32 ≤ placeOf t row (f .number)) where
     -- a place of the row has a number of its own, and stands for that number

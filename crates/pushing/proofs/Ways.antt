@@ -13,7 +13,7 @@ use Rattle.table.specs.declared.Table.{Table}
 use Rattle.pushing.specs.declared.Arrival.{Arrival}
 use Rattle.table.specs.Rows.{rowOf, spareRow, placeOf, lowestFree}
 use Rattle.pushing.specs.Joining.{Held, Fragments, heldOf, heldIn, andNew, inconsistentWith, gapped, isLast, reach, payloads}
-use Rattle.pushing.specs.Push.{Heard, waiting, duplicated, inconsistent, missing, missingLast, single, joined, Way, refuse, duplicate, keepAt, openAt, end, keepWay, messageWay, joinWay, joinedWith, wayBy, way, over, outputBy, answerBy}
+use Rattle.pushing.specs.Push.{PushAnswer, waiting, duplicated, inconsistent, missing, missingLast, single, joined, Way, refuse, duplicate, keepAt, openAt, end, keepWay, messageWay, joinWay, joinedWith, wayBy, way, over, outputBy, answerBy}
 use Rattle.pushing.specs.Show.{startOf, shown}
 
 -- step 3
@@ -92,7 +92,7 @@ Last (openAt i row) = ⊥
 Last (end h bytes) = (payload out : List ℕ) → shown (gives h) payload (over bytes out) ≡ shown (gives h) payload (over bytes [])
 
 -- whether an answer is that of a duplicate
-abbrev pub isDuplicated : Answer Heard → Bool
+abbrev pub isDuplicated : Answer PushAnswer → Bool
 isDuplicated (gives waiting) = false
 isDuplicated (gives duplicated) = true
 isDuplicated (gives inconsistent) = false
@@ -148,7 +148,7 @@ pub data Went (t : Table) (store : List ℕ) (a : Arrival) (payload : List ℕ) 
       → i ≡ lowestFree t → i < 32 → rowOf t (a .key) < 16 → Went t store a payload room (keepAt i)
   went-open : (i row : ℕ) → 47744 ≤ length store → length payload ≤ 1492 → 32 ≤ placeOf t (rowOf t (a .key)) (a .fragment .number) → a .fragment .last ≡ false
       → i ≡ lowestFree t → i < 32 → 16 ≤ rowOf t (a .key) → row ≡ spareRow t → row < 16 → Went t store a payload room (openAt i row)
-  went-end : (h : Heard) (bytes : List ℕ) → 47744 ≤ length store → length payload ≤ 1492 → 32 ≤ placeOf t (rowOf t (a .key)) (a .fragment .number) → a .fragment .last ≡ true
+  went-end : (h : PushAnswer) (bytes : List ℕ) → 47744 ≤ length store → length payload ≤ 1492 → 32 ≤ placeOf t (rowOf t (a .key)) (a .fragment .number) → a .fragment .last ≡ true
       → joinedWith t store (rowOf t (a .key)) (a .fragment) payload room ≡ end h bytes → Went t store a payload room (end h bytes)
 
 module _ (t : Table) (store : List ℕ) (a : Arrival) (payload : List ℕ) (room : ℕ) where

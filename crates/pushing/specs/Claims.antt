@@ -11,7 +11,7 @@ use Rattle.sweeping.specs.Sweep.{swept, sweptAs}
 use Rattle.pushing.specs.declared.Arrival.{Arrival}
 use Rattle.pushing.specs.declared.Pushed.{Pushed}
 use Rattle.pushing.specs.declared.Pushed.the-variants.{DuplicatedFragment}
-use Rattle.pushing.specs.declared.Stepped.{Stepped}
+use Rattle.pushing.specs.declared.AfterPush.{AfterPush}
 use Rattle.pushing.specs.Joining.{heldBy, firstTime}
 use Rattle.pushing.specs.Push.{way, tableBy, storeBy, outputBy, answerBy, Goes}
 use Rattle.pushing.specs.Show.{shown}
@@ -20,7 +20,7 @@ use Rattle.pushing.specs.Made.{Made}
 -- any two outcomes that its contract allows are one: the answer and the table, every byte of the store and of the output
 pub record Firmness : Type 0 where
   pub push-step : (t : Table) (store out : List ℕ) (a : Arrival) (payload : List ℕ)
-      → Firm {A = Stepped × List ℕ × List ℕ} (λ o. Goes (way t store a payload (length out)) t store out a payload (o .0 .answer) (o .0 .table) (o .1) (o .2))
+      → Firm {A = AfterPush × List ℕ × List ℕ} (λ o. Goes (way t store a payload (length out)) t store out a payload (o .0 .answer) (o .0 .table) (o .1) (o .2))
 
 -- a table that these calls made stays one, by what each call ensures: the next may be called on what the last one left
 abbrev pub FreshMade : Type 0

@@ -46,8 +46,8 @@ placesIn types sizes owners numbers versions = record { codes = []; firsts = [];
 abbrev pub newPiece : ℕ
 newPiece = places + 1
 
-unfoldable pub pieceAt : (owners numbers : List ℕ) → (row number k : ℕ) → ℕ
-pieceAt owners numbers row number k = cond (eqb k number) newPiece (numberedIn owners numbers (ownerOf row) k)
+unfoldable pub fragmentAt : (owners numbers : List ℕ) → (row number k : ℕ) → ℕ
+fragmentAt owners numbers row number k = cond (eqb k number) newPiece (numberedIn owners numbers (ownerOf row) k)
 
 abbrev pub sizeAt : List ℕ → (size piece : ℕ) → ℕ
 sizeAt sizes size piece = cond (ltb piece places) (getD sizes piece 0) size
@@ -61,13 +61,13 @@ pieceBytes sizes store payload piece = cond (ltb piece places) (bytesAt store pi
 -- the first n pieces: how many bytes they have, and the bytes
 unfoldable pub sizeTo : (sizes owners numbers : List ℕ) → (row number size n : ℕ) → ℕ
 sizeTo sizes owners numbers row number size zero = 0
-sizeTo sizes owners numbers row number size (suc n) = sizeTo sizes owners numbers row number size n + sizeAt sizes size (pieceAt owners numbers row number n)
+sizeTo sizes owners numbers row number size (suc n) = sizeTo sizes owners numbers row number size n + sizeAt sizes size (fragmentAt owners numbers row number n)
 
 abbrev pub piecesTo : (sizes owners numbers store : List ℕ) → (row number : ℕ) → List ℕ → ℕ → List ℕ
-piecesTo sizes owners numbers store row number payload = inOrder (λ k. pieceBytes sizes store payload (pieceAt owners numbers row number k))
+piecesTo sizes owners numbers store row number payload = inOrder (λ k. pieceBytes sizes store payload (fragmentAt owners numbers row number k))
 
 abbrev pub isGap : (owners numbers : List ℕ) → (row number k : ℕ) → Bool
-isGap owners numbers row number k = eqb (pieceAt owners numbers row number k) places
+isGap owners numbers row number k = eqb (fragmentAt owners numbers row number k) places
 
 abbrev pub countFor : (owners numbers : List ℕ) → (row number : ℕ) → ℕ
 countFor owners numbers row number = lowest (isGap owners numbers row number) 256
@@ -80,7 +80,7 @@ verdictFor p row f size =
     cond (ltb (unlikeIn (p .owners) (p .versions) (p .«message_types») (ownerOf row) (f .version) (f .«message_type»)) places) Inconsistent
     (cond (ltb (countFor (p .owners) (p .numbers) row (f .number)) (f .number)) Missing
     (cond (ltb (beyondIn (p .owners) (p .numbers) (ownerOf row) (countFor (p .owners) (p .numbers) row (f .number))) places) Missing
-    (cond (markedAt (f .last) (pieceAt (p .owners) (p .numbers) row (f .number) (countFor (p .owners) (p .numbers) row (f .number) - 1)))
+    (cond (markedAt (f .last) (fragmentAt (p .owners) (p .numbers) row (f .number) (countFor (p .owners) (p .numbers) row (f .number) - 1)))
     (Message (countFor (p .owners) (p .numbers) row (f .number)) (sizeTo (p .sizes) (p .owners) (p .numbers) row (f .number) size (countFor (p .owners) (p .numbers) row (f .number))))
     MissingLast)))
 

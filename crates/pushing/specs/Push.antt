@@ -16,17 +16,17 @@ use Rattle.table.specs.Rows.{keys, places, placeSize, storeSize, Place, ownerOf
 use Rattle.pushing.specs.Joining.{Held, Fragments, heldOf, heldIn, andNew, inconsistentWith, gapped, isLast, reach, payloads}
 
 -- what push answers where it does not refuse
-pub data Heard : Type 0 where
-  waiting : Heard
-  duplicated : Heard
-  inconsistent : Heard
-  missing : Heard
-  missingLast : Heard
+pub data PushAnswer : Type 0 where
+  waiting : PushAnswer
+  duplicated : PushAnswer
+  inconsistent : PushAnswer
+  missing : PushAnswer
+  missingLast : PushAnswer
   -- the message is the payload, or the first bytes of the output; with its length
-  single : ℕ → Heard
-  joined : ℕ → Heard
+  single : ℕ → PushAnswer
+  joined : ℕ → PushAnswer
 
-abbrev pub pushedOf : Pushed → Answer Heard
+abbrev pub pushedOf : Pushed → Answer PushAnswer
 pushedOf WaitingForMoreFragments = gives waiting
 pushedOf DuplicatedFragment = gives duplicated
 pushedOf InconsistentMetadata = gives inconsistent
@@ -47,7 +47,7 @@ pub data Way : Type 0 where
   -- to a free place, under a row that was spare
   openAt : ℕ → ℕ → Way
   -- joined: what is answered, and the bytes for the output
-  end : Heard → List ℕ → Way
+  end : PushAnswer → List ℕ → Way
 
 -- "Push, in this order": by the lengths of the store and the payload, the place that holds the fragment's number, the last mark, and the ways of steps 3 and 4
 unfoldable pub wayBy : (stored size place : ℕ) → Bool → (keeps joins : Way) → Way
@@ -129,7 +129,7 @@ outputBy (openAt i row) out = out
 outputBy (end h bytes) out = over bytes out
 
 -- and what it answers
-abbrev pub answerBy : Way → Answer Heard
+abbrev pub answerBy : Way → Answer PushAnswer
 answerBy (refuse n values) = refuses n values
 answerBy duplicate = gives duplicated
 answerBy (keepAt i) = gives waiting

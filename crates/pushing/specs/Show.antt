@@ -5,14 +5,14 @@ use Prim.Native.Nat.{ℕ}
 use lib.Dec.{leb}
 use lib.ListN.{length, take}
 use Rattle.numbers.specs.Numbers.{Answer, gives, refuses}
-use Rattle.pushing.specs.Push.{Heard, waiting, duplicated, inconsistent, missing, missingLast, single, joined}
+use Rattle.pushing.specs.Push.{PushAnswer, waiting, duplicated, inconsistent, missing, missingLast, single, joined}
 
 -- "A stated length beyond that slice shows its empty start"
 abbrev pub startOf : ℕ → List ℕ → List ℕ
 startOf n s = cond (leb n (length s)) (take n s) []
 
 -- "an answer without a message shows the payload's [empty start]"
-abbrev pub shown : Answer Heard → List ℕ → List ℕ → List ℕ
+abbrev pub shown : Answer PushAnswer → List ℕ → List ℕ → List ℕ
 shown (gives waiting) payload out = []
 shown (gives duplicated) payload out = []
 shown (gives inconsistent) payload out = []

@@ -12,7 +12,7 @@ ghost use lib.ListN.{length, getD};
 ghost use lib.Seq.{paste};
 ghost use Rattle.table.specs.Rows.{keys, placeSize, storeSize};
 ghost use Rattle.pushing.specs.Push.{over};
-ghost use Rattle.pushing.specs.PrivateSteps.{placesIn, pieceAt, sizeAt, markedAt, pieceBytes, piecesTo, reachFor, verdictFor};
+ghost use Rattle.pushing.specs.PrivateSteps.{placesIn, fragmentAt, sizeAt, markedAt, pieceBytes, piecesTo, reachFor, verdictFor};
 
 // Where the new fragment stands among the places: behind `PLACES`, which stands for none.
 const NEW_PIECE: usize = PLACES + 1;
@@ -26,7 +26,7 @@ pub(crate) fn piece_at<'a>(
     k: u8,
 ) -> usize
     requires { ⌜ row ≤ keys ⌝ }
-    ensures { λ r. ⌜ r ≡ pieceAt (now (owners .entry)) (now (numbers .entry)) row number k ⌝ }
+    ensures { λ r. ⌜ r ≡ fragmentAt (now (owners .entry)) (now (numbers .entry)) row number k ⌝ }
 {
     if k == number {
         return NEW_PIECE;

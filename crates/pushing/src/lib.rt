@@ -49,13 +49,19 @@ pub enum Pushed {
     Refused(Refusal),
 }
 
-pub struct Stepped {
+pub struct AfterPush {
     pub table: Table,
     pub answer: Pushed,
 }
 
 // A fragment comes in: the table after it, and what there is to say. The store keeps the payloads, the output gets a message that was joined.
-pub fn push_step(t: Table, store: &mut [u8], out: &mut [u8], a: Arrival, payload: &[u8]) -> Stepped
+pub fn push_step(
+    t: Table,
+    store: &mut [u8],
+    out: &mut [u8],
+    a: Arrival,
+    payload: &[u8],
+) -> AfterPush
     requires { ⌜ Made t ⌝ }
     ensures { λ r. ⌜ Goes (way t (now (store .entry)) a (now (payload .entry)) (length (now (out .entry)))) t (now (store .entry)) (now (out .entry)) a (now (payload .entry)) (r .answer) (r .table) (now (store .exit)) (now (out .exit)) ⌝ }
 {
@@ -76,18 +82,18 @@ pub fn push_step(t: Table, store: &mut [u8], out: &mut [u8], a: Arrival, payload
     let change = chosen.change;
     let answer = chosen.answer;
     match change {
-        Change::Stay => Stepped { table: t, answer },
+        Change::Stay => AfterPush { table: t, answer },
         Change::PutAt(place, under, opens) => {
             copy(payload, 0, payload.len(), store, place * PLACE_SIZE);
             let kept = with_fragment(t, place, under, opens, a, payload.len());
-            Stepped {
+            AfterPush {
                 table: kept,
                 answer,
             }
         }
         Change::DropKey => {
             let table = without_key(t, row);
-            Stepped { table, answer }
+            AfterPush { table, answer }
         }
     }
 }

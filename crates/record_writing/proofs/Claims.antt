@@ -16,7 +16,7 @@ use Rattle.records.specs.declared.Record.{Record}
 use Rattle.records.specs.declared.NeighborMac.{NeighborMac}
 use Rattle.records.specs.Values.{neighborOctets, bytesOf}
 use Rattle.records.specs.Kinds.{codeOf, kindOf}
-use Rattle.records.specs.Reading.{Reading, readRecord}
+use Rattle.records.specs.Reading.{RecordRead, readRecord}
 use Rattle.records.proofs.Ways.{by-kind}
 use Rattle.records.proofs.Given.{kind-read, consumed-within}
 use Rattle.record_writing.specs.Writing.{readable}
@@ -37,7 +37,7 @@ read-back r rest h e = by-kind (kindOf r) (bytesOf r ++ rest) ∙ back r rest h 
 alone : (r : Record) → readable r ≡ true → readRecord (codeOf (kindOf r)) (bytesOf r) ≡ gives (itself r)
 alone r h = rw (append-nil (bytesOf r)) at (read-back r [] h (λ e. refl))
 
-write-back : (c : ℕ) (s : List ℕ) (x : Reading) → Bytes s → readRecord c s ≡ gives x → Rewritten c s x
+write-back : (c : ℕ) (s : List ℕ) (x : RecordRead) → Bytes s → readRecord c s ≡ gives x → Rewritten c s x
 write-back c s x b e =
     let k = kind-read c s x e in
     let y = kept (k .kind) s b x (k .reads) in
@@ -46,7 +46,7 @@ write-back c s x b e =
     let again : itself (x .value) ≡ x = rw size in
     record { own = own; bytes = y .bytes; writable = y .good; alone = rw (← y .bytes, ← own, ← again) (alone (x .value) (y .good)) }
 
-never-read : (r : Record) (c : ℕ) (s : List ℕ) (x : Reading) → readable r ≡ false → Bytes s → readRecord c s ≡ gives x → x .value ≡ r → ⊥
+never-read : (r : Record) (c : ℕ) (s : List ℕ) (x : RecordRead) → readable r ≡ false → Bytes s → readRecord c s ≡ gives x → x .value ≡ r → ⊥
 never-read r c s x f b e v =
     let z : true ≡ false = sym (write-back c s x b e .writable) ∙ ap readable v ∙ f in
     let z′ : _≡_ {A = ℕ} 0 1 = cc in

@@ -15,7 +15,7 @@ use Rattle.records.specs.declared.Record.{Record}
 use Rattle.records.specs.Values.{bandOf, bandByte, versionOf, versionByte, resultOf, resultByte, profileOf, profileByte, stateOf, stateByte, hasAddress, queryIn, bytesOf}
 use Rattle.records.specs.declared.Kind.{Kind}
 use Rattle.records.specs.Kinds.{kindOf}
-use Rattle.records.specs.Reading.{Reading, fixed, ofKind}
+use Rattle.records.specs.Reading.{RecordRead, fixed, ofKind}
 use Rattle.records.proofs.Given.{reads, reads-empty}
 use Rattle.record_writing.specs.Writing.{lowestBand, lowestVersion, lowestResult, lowestProfile, readable}
 use Rattle.record_writing.proofs.Flags.{flags-kept}
@@ -64,13 +64,13 @@ state-kept b h a = go (eqb b 128) refl where
       omega arith
 
 -- what was read, and the bytes that it was read from
-pub record Kept (k : Kind) (s : List ℕ) (x : Reading) : Type 0 where
+pub record Kept (k : Kind) (s : List ℕ) (x : RecordRead) : Type 0 where
   pub same : kindOf (x .value) ≡ k
   pub bytes : bytesOf (x .value) ≡ take (x .consumed) s
   pub good : readable (x .value) ≡ true
 
 -- a layout whose bytes are the record's
-holds : (k : Kind) (n : ℕ) (ok : Bool) (r : Record) (s : List ℕ) (x : Reading) → fixed n ok r s ≡ gives x →
+holds : (k : Kind) (n : ℕ) (ok : Bool) (r : Record) (s : List ℕ) (x : RecordRead) → fixed n ok r s ≡ gives x →
     (n ≤ length s → ok ≡ true → Kept k s (record { value = r; consumed = n })) → Kept k s x
 holds k n ok r s x e then = let h = reads n ok r s x e in rw (← h .is) (then (h .within) (h .taken))
 
@@ -81,7 +81,7 @@ query-kept s h = go (eqb (getD s 0 0) 1) refl
     go true e = record { same = refl; bytes = simp e (front 8 s (simp e at h)); good = simp e }
     go false e = record { same = refl; bytes = simp e (front 2 s (simp e at h)); good = simp e }
 
-pub kept : (k : Kind) (s : List ℕ) → Bytes s → (x : Reading) → ofKind k s ≡ gives x → Kept k s x
+pub kept : (k : Kind) (s : List ℕ) → Bytes s → (x : RecordRead) → ofKind k s ≡ gives x → Kept k s x
 kept Kind.EndOfMessage s b x e = rw (← reads-empty _ s x e) (record { same = refl; bytes = refl; good = refl })
 kept Kind.AlMacAddress s b x e = holds _ _ _ _ s x e (λ h a. record { same = refl; bytes = front 6 s h; good = refl })
 kept Kind.MacAddress s b x e = holds _ _ _ _ s x e (λ h a. record { same = refl; bytes = front 6 s h; good = refl })

@@ -12,7 +12,7 @@ use Rattle.framing.specs.Tlv.{readTlv, valueIn, tlvBytes, writtenOf, leaves}
 use Rattle.records.specs.declared.Record.{Record}
 use Rattle.records.specs.Values.{bytesOf}
 use Rattle.records.specs.Kinds.{codeOf, kindOf}
-use Rattle.records.specs.Reading.{Reading, readRecord}
+use Rattle.records.specs.Reading.{RecordRead, readRecord}
 use Rattle.record_writing.specs.Writing.{readable, valueSize, recordSize}
 
 -- each public call by its name: any two answers that its contract allows are one, with what the lent buffer holds afterwards
@@ -26,11 +26,11 @@ pub record Firmness : Type 0 where
       × (o .1 ≡ leaves (recordSize item (length out)) (tlvBytes (codeOf (kindOf item)) (bytesOf item)) out))
 
 -- what reading gives of a record's own bytes
-abbrev pub itself : Record → Reading
+abbrev pub itself : Record → RecordRead
 itself item = record { value = item; consumed = length (bytesOf item) }
 
 -- what was read, written again: under the code that was read, as the bytes that were consumed, which alone read as the same
-pub record Rewritten (code : ℕ) (s : List ℕ) (x : Reading) : Type 0 where
+pub record Rewritten (code : ℕ) (s : List ℕ) (x : RecordRead) : Type 0 where
   pub own : codeOf (kindOf (x .value)) ≡ code
   pub bytes : bytesOf (x .value) ≡ take (x .consumed) s
   pub writable : readable (x .value) ≡ true
@@ -45,6 +45,6 @@ pub record RoundTrips : Type 0 where
   pub tlv-back : (item : Record) (rest : List ℕ) → readable item ≡ true → let t = tlvBytes (codeOf (kindOf item)) (bytesOf item) ++ rest in
       (readTlv t ≡ gives (asRead (codeOf (kindOf item)) (bytesOf item)))
       × (readRecord (codeOf (kindOf item)) (valueIn (readTlv t) t) ≡ gives (itself item))
-  pub write-back : (code : ℕ) (s : List ℕ) (x : Reading) → Bytes s → readRecord code s ≡ gives x → Rewritten code s x
+  pub write-back : (code : ℕ) (s : List ℕ) (x : RecordRead) → Bytes s → readRecord code s ≡ gives x → Rewritten code s x
   -- no bytes read as a record that is refused by 9
-  pub never-read : (item : Record) (code : ℕ) (s : List ℕ) (x : Reading) → readable item ≡ false → Bytes s → readRecord code s ≡ gives x → x .value ≡ item → ⊥
+  pub never-read : (item : Record) (code : ℕ) (s : List ℕ) (x : RecordRead) → readable item ≡ false → Bytes s → readRecord code s ≡ gives x → x .value ≡ item → ⊥

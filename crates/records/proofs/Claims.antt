@@ -5,16 +5,16 @@ use Rattle.numbers.proofs.Answers.{given}
 use Rattle.numbers.proofs.Firm.{firm, never, by-equation, by-telling}
 use Rattle.records.specs.declared.Read.{Read}
 use Rattle.records.specs.declared.Measured.{Measured}
-use Rattle.records.specs.Reading.{Reading, gotOf, measuredOf}
+use Rattle.records.specs.Reading.{RecordRead, gotOf, measuredOf}
 use Rattle.records.specs.Claims.{Firmness, OwnCodes, Inside}
 use Rattle.records.proofs.Ways.{by-kind}
 use Rattle.records.proofs.Given.{consumed-within}
 
 read-one : (a b : Read) → gotOf a ≡ gotOf b → a ≡ b
-read-one (Read.Got r n) (Read.Got r′ n′) e = ap (λ (x : Reading). Read.Got (x .value) (x .consumed)) (given _ _ e)
+read-one (Read.Got r n) (Read.Got r′ n′) e = ap (λ (x : RecordRead). Read.Got (x .value) (x .consumed)) (given _ _ e)
 read-one (Read.Got r n) (Read.Refused f) e = never _ _ _ e
 read-one (Read.Refused f) (Read.Got r n) e = never _ _ _ (sym e)
-read-one (Read.Refused f) (Read.Refused g) e = ap Read.Refused (firm Reading f g e)
+read-one (Read.Refused f) (Read.Refused g) e = ap Read.Refused (firm RecordRead f g e)
 
 measured-one : (a b : Measured) → measuredOf a ≡ measuredOf b → a ≡ b
 measured-one (Measured.Bytes n) (Measured.Bytes m) e = ap Measured.Bytes (given n m e)

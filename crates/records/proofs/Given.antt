@@ -13,7 +13,7 @@ use Rattle.numbers.proofs.Firm.{never}
 use Rattle.records.specs.declared.Record.{Record}
 use Rattle.records.specs.declared.Kind.{Kind}
 use Rattle.records.specs.Kinds.{kinds, codeOf}
-use Rattle.records.specs.Reading.{Reading, empty, fixed, ofKind, withCode, isRecord, readRecord}
+use Rattle.records.specs.Reading.{RecordRead, empty, fixed, ofKind, withCode, isRecord, readRecord}
 
 -- an answer that is not 16
 abbrev pub isKnown : {A : Type 0} → Answer A → Bool
@@ -21,18 +21,18 @@ isKnown (gives a) = true
 isKnown (refuses n vs) = not (eqb n 16)
 
 -- what a fixed layout that reads says: it lies within the value, nothing of it is refused, and the answer is what it holds
-pub record Reads (n : ℕ) (ok : Bool) (r : Record) (s : List ℕ) (x : Reading) : Type 0 where
+pub record Reads (n : ℕ) (ok : Bool) (r : Record) (s : List ℕ) (x : RecordRead) : Type 0 where
   pub within : n ≤ length s
   pub taken : ok ≡ true
   pub is : record { value = r; consumed = n } ≡ x
 
 -- what each kind's reading is: 16 is no answer of it, and what was consumed lies in the value
-pub record Formed (s : List ℕ) (a : Answer Reading) : Type 0 where
+pub record Formed (s : List ℕ) (a : Answer RecordRead) : Type 0 where
   pub is-known : isKnown a ≡ true
-  pub inside : (x : Reading) → a ≡ gives x → x .consumed ≤ length s
+  pub inside : (x : RecordRead) → a ≡ gives x → x .consumed ≤ length s
 
 module _ (n : ℕ) (ok : Bool) (r : Record) (s : List ℕ) where
-  pub reads : (x : Reading) → fixed n ok r s ≡ gives x → Reads n ok r s x
+  pub reads : (x : RecordRead) → fixed n ok r s ≡ gives x → Reads n ok r s x
   unfolding fixed
   reads x e = go (ltb (length s) n) ok refl refl e
     where
@@ -45,13 +45,13 @@ module _ (n : ℕ) (ok : Bool) (r : Record) (s : List ℕ) where
   unfolding fixed
   fixed-formed = record { is-known = go (ltb (length s) n) ok; inside = λ x e. let h = reads x e in rw (← h .is) (h .within) }
     where
-      go : (short b : Bool) → isKnown {A = Reading} (cond short (refuses 3 []) (cond b (gives (record { value = r; consumed = n })) (refuses 5 []))) ≡ true
+      go : (short b : Bool) → isKnown {A = RecordRead} (cond short (refuses 3 []) (cond b (gives (record { value = r; consumed = n })) (refuses 5 []))) ≡ true
       go true b = refl
       go false false = refl
       go false true = refl
 
 module _ (r : Record) (s : List ℕ) where
-  pub reads-empty : (x : Reading) → empty r s ≡ gives x → record { value = r; consumed = 0 } ≡ x
+  pub reads-empty : (x : RecordRead) → empty r s ≡ gives x → record { value = r; consumed = 0 } ≡ x
   unfolding empty
   reads-empty x e = go (ltb 0 (length s)) e
     where
@@ -63,7 +63,7 @@ module _ (r : Record) (s : List ℕ) where
   unfolding empty
   empty-formed = record { is-known = go (ltb 0 (length s)); inside = λ x e. rw (← reads-empty x e) (omega arith) }
     where
-      go : (more : Bool) → isKnown {A = Reading} (cond more (refuses 4 []) (gives (record { value = r; consumed = 0 }))) ≡ true
+      go : (more : Bool) → isKnown {A = RecordRead} (cond more (refuses 4 []) (gives (record { value = r; consumed = 0 }))) ≡ true
       go true = refl
       go false = refl
 
@@ -107,15 +107,15 @@ known c s = go (withCode c kinds) (unknown c kinds)
     go (refuses n vs) e = e
 
 -- the kind that a code which reads has
-pub record Coded (c : ℕ) (s : List ℕ) (x : Reading) : Type 0 where
+pub record Coded (c : ℕ) (s : List ℕ) (x : RecordRead) : Type 0 where
   pub kind : Kind
   pub its : codeOf kind ≡ c
   pub reads : ofKind kind s ≡ gives x
 
-pub kind-read : (c : ℕ) (s : List ℕ) (x : Reading) → readRecord c s ≡ gives x → Coded c s x
+pub kind-read : (c : ℕ) (s : List ℕ) (x : RecordRead) → readRecord c s ≡ gives x → Coded c s x
 unfolding readRecord
 kind-read c s x e = let g = gave (withCode c kinds) (λ k. ofKind k s) x e in record { kind = g .first; its = coded c kinds (g .first) (g .is); reads = g .then }
 
 -- consumed never exceeds the value's length, so that the rest is what stands behind it
-pub consumed-within : (c : ℕ) (s : List ℕ) (x : Reading) → readRecord c s ≡ gives x → x .consumed ≤ length s
+pub consumed-within : (c : ℕ) (s : List ℕ) (x : RecordRead) → readRecord c s ≡ gives x → x .consumed ≤ length s
 consumed-within c s x e = let k = kind-read c s x e in formed (k .kind) s .inside x (k .reads)

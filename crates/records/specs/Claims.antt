@@ -8,7 +8,7 @@ use Rattle.numbers.specs.Firmness.{Firm}
 use Rattle.records.specs.declared.Record.{Record}
 use Rattle.records.specs.declared.Kind.{Kind}
 use Rattle.records.specs.Kinds.{codeOf, kindOf}
-use Rattle.records.specs.Reading.{Reading, gotOf, measuredOf, isRecord, ofKind, readRecord}
+use Rattle.records.specs.Reading.{RecordRead, gotOf, measuredOf, isRecord, ofKind, readRecord}
 
 -- each public call by its name: any two answers that its contract allows are one
 pub record Firmness : Type 0 where
@@ -24,4 +24,4 @@ OwnCodes = (k : Kind) (s : List ℕ) → readRecord (codeOf k) s ≡ ofKind k s
 
 -- what was consumed lies in the value, so that the rest is what stands behind it
 abbrev pub Inside : Type 0
-Inside = (code : ℕ) (s : List ℕ) (x : Reading) → readRecord code s ≡ gives x → x .consumed ≤ length s
+Inside = (code : ℕ) (s : List ℕ) (x : RecordRead) → readRecord code s ≡ gives x → x .consumed ≤ length s

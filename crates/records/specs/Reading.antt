@@ -12,12 +12,12 @@ use Rattle.records.specs.Values.{addressAt, bandOf, versionOf, resultOf,
 use Rattle.records.specs.declared.Kind.{Kind}
 use Rattle.records.specs.Kinds.{kinds, codeOf}
 
-pub record Reading : Type 0 where
+pub record RecordRead : Type 0 where
   pub value : Record
   pub consumed : ℕ
 
 -- what each answer of a reader says
-abbrev pub gotOf : Read → Answer Reading
+abbrev pub gotOf : Read → Answer RecordRead
 gotOf (Read.Got r n) = gives (record { value = r; consumed = n })
 gotOf (Read.Refused r) = told r
 
@@ -26,11 +26,11 @@ measuredOf (Measured.Bytes n) = gives n
 measuredOf (Measured.Refused r) = told r
 
 -- "must be empty": 4 where it is not
-unfoldable pub empty : Record → List ℕ → Answer Reading
+unfoldable pub empty : Record → List ℕ → Answer RecordRead
 empty r s = cond (ltb 0 (length s)) (refuses 4 []) (gives (record { value = r; consumed = 0 }))
 
 -- "fixed" so many bytes: 3 where the value ends inside them, and then 5 where what stands in them is refused. Those behind them are handed back as the rest.
-unfoldable pub fixed : ℕ → Bool → Record → List ℕ → Answer Reading
+unfoldable pub fixed : ℕ → Bool → Record → List ℕ → Answer RecordRead
 fixed n accepted r s =
     cond (ltb (length s) n) (refuses 3 [])
     (cond accepted (gives (record { value = r; consumed = n }))
@@ -40,7 +40,7 @@ abbrev any : Bool
 any = true
 
 -- the lines of document 01's table: the bytes that the layout takes, what of them is accepted ("role not 0, association bits 0-6 set, profile 0" are not), the record
-abbrev pub ofKind : Kind → List ℕ → Answer Reading
+abbrev pub ofKind : Kind → List ℕ → Answer RecordRead
 ofKind Kind.EndOfMessage s = empty Record.EndOfMessage s
 ofKind Kind.AlMacAddress s = fixed 6 any (Record.AlMacAddress (addressAt s 0)) s
 ofKind Kind.MacAddress s = fixed 6 any (Record.MacAddress (addressAt s 0)) s
@@ -64,5 +64,5 @@ abbrev pub isRecord : ℕ → Bool
 isRecord c = isGiven (withCode c kinds)
 
 -- "Order elsewhere: 16, then .. 3, 4, 5"
-unfoldable pub readRecord : ℕ → List ℕ → Answer Reading
+unfoldable pub readRecord : ℕ → List ℕ → Answer RecordRead
 readRecord c s = andThen (withCode c kinds) (λ k. ofKind k s)

@@ -10,7 +10,7 @@ use Rattle.numbers.proofs.Answers.{given}
 use Rattle.numbers.proofs.Firm.{firm, never, by-equation, by-telling, both}
 use Rattle.machines.specs.Machine.{run}
 use Rattle.records.specs.declared.MacAddr.{MacAddr}
-use Rattle.records.specs.Reading.{Reading, readRecord}
+use Rattle.records.specs.Reading.{RecordRead, readRecord}
 use Rattle.records.specs.Values.{octets}
 use Rattle.stations.specs.declared.Heard.{Heard}
 use Rattle.stations.specs.declared.Answered.{Answered}
@@ -49,7 +49,7 @@ firmness = record {
 value-refused : (t : Stations) (value : List ℕ) → isGiven (answerFrom t value) ≡ false → tableFrom t value ≡ t
 value-refused t value h = by-reading (readRecord associationCode value) (answerTo t (eventIn value)) refl h
   where
-    by-reading : (x : Answer Reading) (a : Answer Heard) → answerTo t (eventIn value) ≡ a → isGiven {A = Taken} (andThen x (λ y. mapped (λ k. record { heard = k; consumed = y .consumed }) a)) ≡ false
+    by-reading : (x : Answer RecordRead) (a : Answer Heard) → answerTo t (eventIn value) ≡ a → isGiven {A = Taken} (andThen x (λ y. mapped (λ k. record { heard = k; consumed = y .consumed }) a)) ≡ false
         → cond (isGiven x) (tableAfter t (eventIn value)) t ≡ t
     by-reading (gives x) (gives k) e h = absurd (true≢false h)
     by-reading (gives x) (refuses n vs) e h = why-refused t (eventIn value) (ap isGiven e) .unaltered

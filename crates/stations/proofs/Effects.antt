@@ -9,17 +9,17 @@ use borrow.Author.Tests.{ltb-true, ltb-false, ne-eqb}
 use Rattle.searching.proofs.Search.{lowest-none}
 use Rattle.numbers.specs.Numbers.{gives, isGiven}
 use Rattle.stations.specs.declared.Heard.{Heard}
-use Rattle.stations.specs.Whereabouts.{Place, nowhere, at, Event, placeAfter, answerAt}
-use Rattle.stations.specs.Rows.{Stations, freshStations, pointAt, rowWith, withRow, placeOf, answerTo, tableAfter}
+use Rattle.stations.specs.Whereabouts.{Whereabouts, nowhere, at, Event, whereAfter, answerAt}
+use Rattle.stations.specs.Rows.{Stations, freshStations, pointAt, rowWith, withRow, whereOf, answerTo, tableAfter}
 use Rattle.stations.specs.Runs.{isAccepted}
 use Rattle.stations.proofs.Ways.{known-place, unknown-place, known, new, full, removed, late, not-held}
 use Rattle.stations.proofs.Written.{Kept, has-code, no-code, row-written, point-written, stays, goes, gone, keeps}
 
 -- a table after which the station is at a place, and all others are where they were
-record Effect (t t′ : Stations) (station : ℕ) (became : Place) : Type 0 where
+record Effect (t t′ : Stations) (station : ℕ) (became : Whereabouts) : Type 0 where
   pub kept : Kept t′
-  pub own : placeOf t′ station ≡ became
-  pub others : (s : ℕ) → (s ≡ station → ⊥) → placeOf t′ s ≡ placeOf t s
+  pub own : whereOf t′ station ≡ became
+  pub others : (s : ℕ) → (s ≡ station → ⊥) → whereOf t′ s ≡ whereOf t s
 
 module _ (t : Stations) (k : Kept t) (station : ℕ) where
   abbrev row : ℕ
@@ -58,16 +58,16 @@ module _ (t : Stations) (k : Kept t) (station : ℕ) where
         others = λ s ne. stays t _ row 0 0 w s (λ q. ne (omega (arith, is))) (λ q. absurd (omega arith));
       }
 
-  same-effect : Effect t t station (placeOf t station)
+  same-effect : Effect t t station (whereOf t station)
   same-effect = record { kept = k; own = refl; others = λ s ne. refl }
 
 -- what an event does and answers
 pub record Acts (t : Stations) (e : Event) : Type 0 where
   pub kept : Kept (tableAfter t e)
-  pub own : isAccepted t e ≡ true → placeOf (tableAfter t e) (e .station) ≡ placeAfter e (placeOf t (e .station))
-  pub others : (s : ℕ) → (s ≡ e .station → ⊥) → placeOf (tableAfter t e) s ≡ placeOf t s
+  pub own : isAccepted t e ≡ true → whereOf (tableAfter t e) (e .station) ≡ whereAfter e (whereOf t (e .station))
+  pub others : (s : ℕ) → (s ≡ e .station → ⊥) → whereOf (tableAfter t e) s ≡ whereOf t s
   pub refused : isAccepted t e ≡ false → tableAfter t e ≡ t
-  pub said : isAccepted t e ≡ true → answerTo t e ≡ answerAt false e (placeOf t (e .station))
+  pub said : isAccepted t e ≡ true → answerTo t e ≡ answerAt false e (whereOf t (e .station))
 
 module _ (t : Stations) (k : Kept t) (station point : ℕ) where
   abbrev join : Event
@@ -77,13 +77,13 @@ module _ (t : Stations) (k : Kept t) (station point : ℕ) where
   leave = record { station = station; point = point; joined = false }
 
   -- by its effect, where it is accepted
-  by-effect : (e : Event) (t′ : Stations) (given : Heard) → t′ ≡ tableAfter t e → gives given ≡ answerTo t e → gives given ≡ answerAt false e (placeOf t (e .station))
-      → Effect t t′ (e .station) (placeAfter e (placeOf t (e .station))) → Acts t e
+  by-effect : (e : Event) (t′ : Stations) (given : Heard) → t′ ≡ tableAfter t e → gives given ≡ answerTo t e → gives given ≡ answerAt false e (whereOf t (e .station))
+      → Effect t t′ (e .station) (whereAfter e (whereOf t (e .station))) → Acts t e
   by-effect e t′ given is answer same f =
       record {
         kept = subst Kept is (f .kept);
-        own = λ h. ap (λ (x : Stations). placeOf x (e .station)) (sym is) ∙ f .own;
-        others = λ s ne. ap (λ (x : Stations). placeOf x s) (sym is) ∙ f .others s ne;
+        own = λ h. ap (λ (x : Stations). whereOf x (e .station)) (sym is) ∙ f .own;
+        others = λ s ne. ap (λ (x : Stations). whereOf x s) (sym is) ∙ f .others s ne;
         refused = λ h. absurd (true≢false (ap isGiven answer ∙ h));
         said = λ h. sym answer ∙ same;
       }
@@ -105,7 +105,7 @@ module _ (t : Stations) (k : Kept t) (station point : ℕ) where
       record {
         kept = subst Kept (x .1) k;
         own = λ h. absurd (no h);
-        others = λ s ne. ap (λ (z : Stations). placeOf z s) (sym (x .1));
+        others = λ s ne. ap (λ (z : Stations). whereOf z s) (sym (x .1));
         refused = λ h. sym (x .1);
         said = λ h. absurd (no h);
       }
@@ -142,7 +142,7 @@ fresh-kept = record {
   bare = λ i l e. fresh-zero (128 + i) (omega arith);
 }
 
-pub fresh-place : (station : ℕ) → placeOf freshStations station ≡ nowhere
+pub fresh-place : (station : ℕ) → whereOf freshStations station ≡ nowhere
 fresh-place station = unknown-place freshStations station 128 (lowest-none (λ i. eqb (getD freshStations i 0) (station + 1)) 128 none) (omega arith)
   where
     none : (j : ℕ) → j < 128 → eqb (getD freshStations j 0) (station + 1) ≡ false

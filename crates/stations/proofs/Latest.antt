@@ -7,12 +7,12 @@ use native.Mathlib.Omega.{arith}
 use lib.Dec.{eqb}
 use borrow.Author.Tests.{eqb-false, eq-eqb, ne-eqb}
 use Rattle.machines.specs.Machine.{those}
-use Rattle.stations.specs.Whereabouts.{Place, nowhere, at, Event, isAt, placeAfter}
+use Rattle.stations.specs.Whereabouts.{Whereabouts, nowhere, at, Event, isAt, whereAfter}
 use Rattle.stations.specs.Runs.{LatestJoin}
 
-unfoldable pub led : Place → List Event → Place
+unfoldable pub led : Whereabouts → List Event → Whereabouts
 led p [] = p
-led p (e ∷ es) = led (placeAfter e p) es
+led p (e ∷ es) = led (whereAfter e p) es
 
 module _ (point : ℕ) where
   abbrev named : Event → Bool
@@ -24,7 +24,7 @@ module _ (point : ℕ) where
     pub no-leave : those named es ≡ []
 
   -- either the latest join did it, or the station was there all the time
-  data Because (p : Place) (es : List Event) : Type 0 where
+  data Because (p : Whereabouts) (es : List Event) : Type 0 where
     joined-it : LatestJoin point es → Because p es
     was-there : p ≡ at point → Quiet es → Because p es
 
@@ -47,7 +47,7 @@ module _ (point : ℕ) where
   one-more e es f g q = record { no-join = rw f (q .no-join); no-leave = rw g (q .no-leave) }
 
   -- a leave of another access point leaves the station there
-  not-moved : (e : Event) → e .joined ≡ false → named e ≡ false → placeAfter e (at point) ≡ at point
+  not-moved : (e : Event) → e .joined ≡ false → named e ≡ false → whereAfter e (at point) ≡ at point
   not-moved e f g = rw (f, ne-eqb point (e .point) (λ q. eqb-false (e .point) point g (sym q)))
 
   stays-there : (es : List Event) → Quiet es → led (at point) es ≡ at point
@@ -55,26 +55,26 @@ module _ (point : ℕ) where
   stays-there [] q = refl
   stays-there (e ∷ es) q =
       let x = first-quiet e es q in
-      ap (λ (p : Place). led p es) (not-moved e (x .0) (x .1)) ∙ stays-there es (x .2)
+      ap (λ (p : Whereabouts). led p es) (not-moved e (x .0) (x .1)) ∙ stays-there es (x .2)
 
-  led-append : (before later : List Event) (p : Place) → led p (before ++ later) ≡ led (led p before) later
+  led-append : (before later : List Event) (p : Whereabouts) → led p (before ++ later) ≡ led (led p before) later
   unfolding led
   led-append [] later p = refl
-  led-append (e ∷ before) later p = led-append before later (placeAfter e p)
+  led-append (e ∷ before) later p = led-append before later (whereAfter e p)
 
-  pub leads : (p : Place) (es : List Event) → LatestJoin point es → led p es ≡ at point
+  pub leads : (p : Whereabouts) (es : List Event) → LatestJoin point es → led p es ≡ at point
   unfolding led
   leads p es l =
       ap (led p) (l .are)
       ∙ led-append (l .before) (l .join ∷ l .later) p
-      ∙ ap (λ (x : Place). led x (l .later)) (joined-there (led p (l .before)))
+      ∙ ap (λ (x : Whereabouts). led x (l .later)) (joined-there (led p (l .before)))
       ∙ stays-there (l .later) (record { no-join = l .latest; no-leave = l .not-left })
     where
-      joined-there : (x : Place) → placeAfter (l .join) x ≡ at point
+      joined-there : (x : Whereabouts) → whereAfter (l .join) x ≡ at point
       joined-there x = rw (l .joins) (ap at (l .named))
 
   -- the way back
-  back : (e : Event) (es : List Event) (p : Place) → Because (placeAfter e p) es → (b : Bool) → e .joined ≡ b → (c : Bool) → isAt (e .point) p ≡ c → Because p (e ∷ es)
+  back : (e : Event) (es : List Event) (p : Whereabouts) → Because (whereAfter e p) es → (b : Bool) → e .joined ≡ b → (c : Bool) → isAt (e .point) p ≡ c → Because p (e ∷ es)
   back e es p (joined-it l) b f c g = joined-it (record {
     before = e ∷ l .before;
     join = l .join;
@@ -97,10 +97,10 @@ module _ (point : ℕ) where
       let other : named e ≡ false = ne-eqb (e .point) point (λ h. true≢false (sym (ap (isAt (e .point)) is ∙ eq-eqb point (e .point) (sym h)) ∙ g)) in
       was-there is (one-more e es f other q)
 
-  because : (es : List Event) (p : Place) → led p es ≡ at point → Because p es
+  because : (es : List Event) (p : Whereabouts) → led p es ≡ at point → Because p es
   unfolding led those
   because [] p h = was-there h (record { no-join = refl; no-leave = refl })
-  because (e ∷ es) p h = back e es p (because es (placeAfter e p) h) (e .joined) refl (isAt (e .point) p) refl
+  because (e ∷ es) p h = back e es p (because es (whereAfter e p) h) (e .joined) refl (isAt (e .point) p) refl
 
   pub led-only : (es : List Event) → led nowhere es ≡ at point → LatestJoin point es
   led-only es h = by-case (because es nowhere h)

@@ -11,22 +11,22 @@ use Rattle.machines.proofs.Story.{Machine}
 use Rattle.machines.proofs.Story as Y
 use Rattle.machines.proofs.TwoRuns as R
 use Rattle.stations.specs.declared.Heard.{Heard}
-use Rattle.stations.specs.Whereabouts.{Place, nowhere, Event, placeAfter, answerAt}
-use Rattle.stations.specs.Rows.{Stations, freshStations, placeOf, answerTo, tableAfter}
+use Rattle.stations.specs.Whereabouts.{Whereabouts, nowhere, Event, whereAfter, answerAt}
+use Rattle.stations.specs.Rows.{Stations, freshStations, whereOf, answerTo, tableAfter}
 use Rattle.stations.specs.Runs.{isOwn, isAccepted, ends, accepted, noneRefused}
 use Rattle.stations.specs.Claims.{ExactlyWhen, Reordered, SameStations}
 use Rattle.stations.proofs.Written.{Kept}
 use Rattle.stations.proofs.Effects.{acts, fresh-kept, fresh-place}
 use Rattle.stations.proofs.Latest.{led, leads, led-only}
 
-abbrev pub table : Machine Stations Event (Answer Heard) Place
+abbrev pub table : Machine Stations Event (Answer Heard) Whereabouts
 table = record {
   step = tableAfter;
   says = answerTo;
-  view = λ station t. placeOf t station;
+  view = λ station t. whereOf t station;
   own = isOwn;
   common = λ e. false;
-  tell = λ p e. placeAfter e p;
+  tell = λ p e. whereAfter e p;
   answer = λ p e. answerAt false e p;
 }
 
@@ -38,9 +38,9 @@ local = record {
   stays = λ t e k. acts t k e .kept;
   crossed = λ t e k h. acts t k e .refused h;
   always = λ t e h. absurd (false≢true h);
-  same = λ station t e k h own. subst (λ (s : ℕ). placeOf (tableAfter t e) s ≡ placeAfter e (placeOf t s)) (is-own station e own) (acts t k e .own h);
+  same = λ station t e k h own. subst (λ (s : ℕ). whereOf (tableAfter t e) s ≡ whereAfter e (whereOf t s)) (is-own station e own) (acts t k e .own h);
   other = λ station t e k own. acts t k e .others station (λ q. eqb-false (e .station) station (sym (or-false (isOwn station e)) ∙ own) (sym q));
-  said = λ station t e k h own. subst (λ (s : ℕ). answerTo t e ≡ answerAt false e (placeOf t s)) (eqb-true _ _ own) (acts t k e .said h);
+  said = λ station t e k h own. subst (λ (s : ℕ). answerTo t e ≡ answerAt false e (whereOf t s)) (eqb-true _ _ own) (acts t k e .said h);
 }
 
 -- a run keeps what the calls keep
@@ -51,15 +51,15 @@ run-kept events = Y.good-run table isAccepted Kept local events freshStations fr
 own-those : (station : ℕ) (events : List Event) → those (λ e. isOwn station e || false) events ≡ those (isOwn station) events
 own-those station events = λ i. those (λ e. or-false (isOwn station e) i) events
 
-led-view : (p : Place) (events : List Event) → Y.viewAfter table p events ≡ led p events
+led-view : (p : Whereabouts) (events : List Event) → Y.viewAfter table p events ≡ led p events
 unfolding led Y.viewAfter
 led-view p [] = refl
-led-view p (e ∷ events) = led-view (placeAfter e p) events
+led-view p (e ∷ events) = led-view (whereAfter e p) events
 
-ends-led : (station : ℕ) (events : List Event) → placeOf (ends freshStations events) station ≡ led nowhere (those (isOwn station) (accepted freshStations events))
+ends-led : (station : ℕ) (events : List Event) → whereOf (ends freshStations events) station ≡ led nowhere (those (isOwn station) (accepted freshStations events))
 ends-led station events =
     Y.alone table isAccepted Kept local station events freshStations fresh-kept
-    ∙ led-view (placeOf freshStations station) _
+    ∙ led-view (whereOf freshStations station) _
     ∙ (λ i. led (fresh-place station i) (own-those station (accepted freshStations events) i))
 
 -- the sentence of the request

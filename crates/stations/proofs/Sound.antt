@@ -9,8 +9,8 @@ use lib.ListN.{getD}
 use borrow.Author.Tests.{ltb-true, ltb-false, lt-ltb, eqb-true, eqb-false, ne-eqb, not-true}
 use Rattle.numbers.specs.Numbers.{isGiven, gives, refuses}
 use Rattle.stations.specs.declared.Heard.{Heard}
-use Rattle.stations.specs.Whereabouts.{Place, nowhere, at, Event, isNowhere, heardOf}
-use Rattle.stations.specs.Rows.{Stations, pointAt, rowWith, placeOf, isFull, afterJoin, free, holds, rowOf, rowAt, oneIf, countBelow, countOf}
+use Rattle.stations.specs.Whereabouts.{Whereabouts, nowhere, at, Event, isNowhere, heardOf}
+use Rattle.stations.specs.Rows.{Stations, pointAt, rowWith, whereOf, allHeld, afterJoin, free, holds, rowFrom, rowAt, oneIf, countBelow, countOf}
 use Rattle.stations.specs.Runs.{isAccepted}
 use Rattle.stations.specs.Claims.{Made, Moves, WhyRefused, FullIs128, InRow, Sound}
 use Rattle.stations.proofs.Ways.{known-place, unknown-place}
@@ -27,7 +27,7 @@ record Has (t : Stations) (i station point : ℕ) : Type 0 where
 has : (t : Stations) (i station point : ℕ) → rowAt t i ≡ holds station point → Has t i station point
 has t i station point h = by-end (ltb i 128) refl (getD t i 0) refl h
   where
-    by-end : (b : Bool) → ltb i 128 ≡ b → (code : ℕ) → getD t i 0 ≡ code → cond b (rowOf code (pointAt t i)) free ≡ holds station point → Has t i station point
+    by-end : (b : Bool) → ltb i 128 ≡ b → (code : ℕ) → getD t i 0 ≡ code → cond b (rowFrom code (pointAt t i)) free ≡ holds station point → Has t i station point
     by-end true e zero q h = let z : _≡_ {A = ℕ} 0 1 = cc in absurd (omega arith)
     by-end true e (suc s) q h =
         let one : s ≡ station = cc in
@@ -38,14 +38,14 @@ has t i station point h = by-end (ltb i 128) refl (getD t i 0) refl h
 row-is : (t : Stations) (i station : ℕ) → i < 128 → getD t i 0 ≡ station + 1 → rowAt t i ≡ holds station (pointAt t i)
 row-is t i station l e = rw (lt-ltb i 128 l) (by-code (getD t i 0) e)
   where
-    by-code : (code : ℕ) → code ≡ station + 1 → rowOf code (pointAt t i) ≡ holds station (pointAt t i)
+    by-code : (code : ℕ) → code ≡ station + 1 → rowFrom code (pointAt t i) ≡ holds station (pointAt t i)
     by-code zero e = absurd (omega arith)
     by-code (suc s) e = ap (λ (x : ℕ). holds x (pointAt t i)) (omega arith)
 
 free-code : (t : Stations) (i : ℕ) → i < 128 → rowAt t i ≡ free → getD t i 0 ≡ 0
 free-code t i l h = by-code (getD t i 0) refl (sym (rw (lt-ltb i 128 l)) ∙ h)
   where
-    by-code : (code : ℕ) → getD t i 0 ≡ code → rowOf code (pointAt t i) ≡ free → getD t i 0 ≡ 0
+    by-code : (code : ℕ) → getD t i 0 ≡ code → rowFrom code (pointAt t i) ≡ free → getD t i 0 ≡ 0
     by-code zero e q = e
     by-code (suc s) e q = let z : _≡_ {A = ℕ} 0 1 = cc in absurd (omega arith)
 
@@ -83,12 +83,12 @@ one-free t i (suc n) l e = by-last (eqb i n) refl (one-free t i n)
         let other : i ≡ n → ⊥ = eqb-false i n q in
         omega (arith, ih (omega (arith, other)) e, at-most-one (eqb (getD t n 0) 0))
 
-full-all : (t : Stations) → isFull t ≡ true → countOf t ≡ 128
-unfolding isFull
+full-all : (t : Stations) → allHeld t ≡ true → countOf t ≡ 128
+unfolding allHeld
 full-all t h = all-held t (no-code t 0 (ltb-false _ _ (not-true _ h))) 128 (omega arith)
 
 pub full-is-128 : (t : Stations) → FullIs128 t
-unfolding isFull
+unfolding allHeld
 full-is-128 t = record { only = full-all t; if = λ h. by-end (ltb (rowWith t 0) 128) refl h }
   where
     by-end : (b : Bool) → ltb (rowWith t 0) 128 ≡ b → countOf t ≡ 128 → not b ≡ true
@@ -102,7 +102,7 @@ pub moves : (t : Stations) → Made t → (e : Event) → Moves t e
 moves t m e = let a = acts t (made-kept t m) e in record { own = a .own; others = a .others }
 
 -- a join that finds no room alters nothing
-no-room : (t : Stations) (station point : ℕ) → placeOf t station ≡ nowhere → isFull t ≡ true → afterJoin t station point ≡ t
+no-room : (t : Stations) (station point : ℕ) → whereOf t station ≡ nowhere → allHeld t ≡ true → afterJoin t station point ≡ t
 unfolding afterJoin
 no-room t station point none full = by-end (ltb (rowWith t (station + 1)) 128) refl
   where
@@ -111,9 +111,9 @@ no-room t station point none full = by-end (ltb (rowWith t (station + 1)) 128) r
     by-end false q = rw (q, full)
 
 pub why-refused : (t : Stations) (e : Event) → isAccepted t e ≡ false → WhyRefused t e
-why-refused t e h = by-tests (e .joined) refl (placeOf t (e .station)) refl (isFull t) refl h
+why-refused t e h = by-tests (e .joined) refl (whereOf t (e .station)) refl (allHeld t) refl h
   where
-    by-tests : (a : Bool) → e .joined ≡ a → (p : Place) → placeOf t (e .station) ≡ p → (b : Bool) → isFull t ≡ b
+    by-tests : (a : Bool) → e .joined ≡ a → (p : Whereabouts) → whereOf t (e .station) ≡ p → (b : Bool) → allHeld t ≡ b
         → isGiven {A = Heard} (cond (a && (isNowhere p && b)) (refuses 17 []) (gives (heardOf e p))) ≡ false → WhyRefused t e
     by-tests true f nowhere g true k h = record { join = f; unknown = g; full = full-all t k; unaltered = rw f (no-room t (e .station) (e .point) g k) }
     by-tests true f nowhere g false k h = absurd (true≢false h)
@@ -144,7 +144,7 @@ sound t m = record {
         by-end true q = let h = ltb-true (rowWith t (station + 1)) 128 q in k .once i (rowWith t (station + 1)) l h (e ∙ sym (has-code t (station + 1) h)) (λ z. absurd (omega arith))
         by-end false q = absurd (no-code t (station + 1) (ltb-false (rowWith t (station + 1)) 128 q) i l e)
 
-    find : (station point : ℕ) (b : Bool) → ltb (rowWith t (station + 1)) 128 ≡ b → placeOf t station ≡ at point → InRow t station point
+    find : (station point : ℕ) (b : Bool) → ltb (rowWith t (station + 1)) 128 ≡ b → whereOf t station ≡ at point → InRow t station point
     find station point true q h =
         let l = ltb-true (rowWith t (station + 1)) 128 q in
         let same : at (pointAt t (rowWith t (station + 1))) ≡ at point = sym (known-place t station (rowWith t (station + 1)) refl l) ∙ h in

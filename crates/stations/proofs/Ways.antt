@@ -11,26 +11,26 @@ use borrow.Author.Tests.{lt-ltb, le-ltb}
 use Rattle.numbers.specs.Numbers.{Answer, gives, refuses}
 use Rattle.stations.specs.declared.Heard.{Heard}
 use Rattle.stations.specs.Whereabouts.{nowhere, at, Event, heardOfJoin}
-use Rattle.stations.specs.Rows.{Stations, rowWith, pointAt, placeOf, isFull, answerTo, afterJoin, afterLeave, withRow, free, holds, rowOf, rowAt, oneIf, countBelow}
+use Rattle.stations.specs.Rows.{Stations, rowWith, pointAt, whereOf, allHeld, answerTo, afterJoin, afterLeave, withRow, free, holds, rowFrom, rowAt, oneIf, countBelow}
 
 module _ (t : Stations) (station : ℕ) where
   abbrev row : ℕ
   row = rowWith t (station + 1)
 
-  pub known-place : (n : ℕ) → n ≡ row → n < 128 → placeOf t station ≡ at (pointAt t n)
-  unfolding placeOf
+  pub known-place : (n : ℕ) → n ≡ row → n < 128 → whereOf t station ≡ at (pointAt t n)
+  unfolding whereOf
   known-place n e h = rw (sym e, lt-ltb n 128 h)
 
-  pub unknown-place : (n : ℕ) → n ≡ row → 128 ≤ n → placeOf t station ≡ nowhere
-  unfolding placeOf
+  pub unknown-place : (n : ℕ) → n ≡ row → 128 ≤ n → whereOf t station ≡ nowhere
+  unfolding whereOf
   unknown-place n e h = rw (sym e, le-ltb n 128 h)
 
-pub full-is : (t : Stations) (n : ℕ) → n ≡ rowWith t 0 → 128 ≤ n → isFull t ≡ true
-unfolding isFull
+pub full-is : (t : Stations) (n : ℕ) → n ≡ rowWith t 0 → 128 ≤ n → allHeld t ≡ true
+unfolding allHeld
 full-is t n e h = rw (sym e, le-ltb n 128 h)
 
-pub room-is : (t : Stations) (n : ℕ) → n ≡ rowWith t 0 → n < 128 → isFull t ≡ false
-unfolding isFull
+pub room-is : (t : Stations) (n : ℕ) → n ≡ rowWith t 0 → n < 128 → allHeld t ≡ false
+unfolding allHeld
 room-is t n e h = rw (sym e, lt-ltb n 128 h)
 
 -- a join and a leave, by their ways
@@ -75,7 +75,7 @@ module _ (t : Stations) (station point : ℕ) where
 pub row-held : (t : Stations) (n : ℕ) → n < 128 → (getD t n 0 ≡ 0 → ⊥) → rowAt t n ≡ holds (getD t n 0 - 1) (pointAt t n)
 row-held t n h ne = rw (lt-ltb n 128 h) (by-code (getD t n 0) ne)
   where
-    by-code : (code : ℕ) → (code ≡ 0 → ⊥) → rowOf code (pointAt t n) ≡ holds (code - 1) (pointAt t n)
+    by-code : (code : ℕ) → (code ≡ 0 → ⊥) → rowFrom code (pointAt t n) ≡ holds (code - 1) (pointAt t n)
     by-code zero ne = absurd (ne refl)
     by-code (suc s) ne = ap (λ (x : ℕ). holds x (pointAt t n)) (omega arith)
 

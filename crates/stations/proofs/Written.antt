@@ -9,7 +9,7 @@ use lib.Seq.{getD-set-same, getD-set-other}
 use borrow.Author.Tests.{ltb-true, ltb-false, eqb-true, eqb-false, eq-eqb, ne-eqb}
 use Rattle.searching.proofs.Search.{lowest-holds, lowest-before, lowest-is, lowest-none, lowest-same}
 use Rattle.stations.specs.Whereabouts.{nowhere, at}
-use Rattle.stations.specs.Rows.{Stations, pointAt, rowWith, withRow, placeOf}
+use Rattle.stations.specs.Rows.{Stations, pointAt, rowWith, withRow, whereOf}
 use Rattle.stations.proofs.Ways.{known-place, unknown-place}
 
 -- what the calls keep: both lists have their length, no code but 0 stands twice, and a free row has no access point
@@ -66,10 +66,10 @@ module _ (t t′ : Stations) (r c p : ℕ) (w : Written t t′ r c p) where
     same-row : rowWith t′ (station + 1) ≡ rowWith t (station + 1)
     same-row = lowest-same (λ i. eqb (getD t′ i 0) (station + 1)) (λ i. eqb (getD t i 0) (station + 1)) 128 (λ i l. same-test i l (eqb i r) refl)
 
-    pub stays : placeOf t′ station ≡ placeOf t station
+    pub stays : whereOf t′ station ≡ whereOf t station
     stays = by-end (ltb (rowWith t (station + 1)) 128) refl
       where
-        by-end : (b : Bool) → ltb (rowWith t (station + 1)) 128 ≡ b → placeOf t′ station ≡ placeOf t station
+        by-end : (b : Bool) → ltb (rowWith t (station + 1)) 128 ≡ b → whereOf t′ station ≡ whereOf t station
         by-end true e =
             let n = rowWith t (station + 1) in
             let l : n < 128 = ltb-true _ _ e in
@@ -82,14 +82,14 @@ module _ (t t′ : Stations) (r c p : ℕ) (w : Written t t′ r c p) where
   abbrev pub Alone : ℕ → Type 0
   Alone code = (i : ℕ) → i < 128 → (i ≡ r → ⊥) → getD t i 0 ≡ code → ⊥
 
-  pub goes : (station : ℕ) → c ≡ station + 1 → Alone (station + 1) → placeOf t′ station ≡ at p
+  pub goes : (station : ℕ) → c ≡ station + 1 → Alone (station + 1) → whereOf t′ station ≡ at p
   goes station is none = known-place t′ station r here (w .within) ∙ ap at (w .point)
     where
       here : r ≡ rowWith t′ (station + 1)
       here = lowest-is (λ i. eqb (getD t′ i 0) (station + 1)) 128 r (w .within) (eq-eqb _ _ (w .code ∙ is))
           (λ j l. ne-eqb _ _ (λ q. none j (omega (arith, w .within)) (λ e. absurd (omega arith)) (sym (w .codes j (omega (arith, w .within)) (λ e. absurd (omega arith))) ∙ q)))
 
-  pub gone : (station : ℕ) → (c ≡ station + 1 → ⊥) → Alone (station + 1) → placeOf t′ station ≡ nowhere
+  pub gone : (station : ℕ) → (c ≡ station + 1 → ⊥) → Alone (station + 1) → whereOf t′ station ≡ nowhere
   gone station is none = unknown-place t′ station 128 here (omega arith)
     where
       not-there : (j : ℕ) → j < 128 → (b : Bool) → eqb j r ≡ b → eqb (getD t′ j 0) (station + 1) ≡ false

@@ -16,8 +16,8 @@ use Rattle.stations.specs.declared.Applied.{Applied}
 use Rattle.stations.specs.declared.Where.{Where}
 use Rattle.stations.specs.declared.Listed.{Listed}
 use Rattle.stations.specs.Addresses.{numberOf, addressOf}
-use Rattle.stations.specs.Whereabouts.{nowhere, at, Event, eventOf, placeAfter}
-use Rattle.stations.specs.Rows.{Stations, freshStations, rows, pointAt, placeOf, isFull, answerTo, tableAfter, free, holds, rowAt, countOf, shown, listed}
+use Rattle.stations.specs.Whereabouts.{nowhere, at, Event, eventOf, whereAfter}
+use Rattle.stations.specs.Rows.{Stations, freshStations, rows, pointAt, whereOf, allHeld, answerTo, tableAfter, free, holds, rowAt, countOf, whereShown, rowShown}
 use Rattle.stations.specs.Events.{answeredOf, appliedOf, eventIn, associationCode, answerFrom, tableFrom}
 use Rattle.stations.specs.Runs.{isOwn, isAccepted, ends, accepted, answersTo, noneRefused, LatestJoin}
 
@@ -26,9 +26,9 @@ pub record Firmness : Type 0 where
   pub fresh : Firm {A = Stations} (λ r. r ≡ freshStations)
   pub event : (t : Stations) (e : ClientAssociation) → Firm {A = Answered × Stations} (λ o. (answeredOf (o .0) ≡ answerTo t (eventOf e)) × (o .1 ≡ tableAfter t (eventOf e)))
   pub event-from : (t : Stations) (value : List ℕ) → Firm {A = Applied × Stations} (λ o. (appliedOf (o .0) ≡ answerFrom t value) × (o .1 ≡ tableFrom t value))
-  pub where-is : (t : Stations) (station : MacAddr) → Firm {A = Where} (λ r. r ≡ shown (placeOf t (numberOf station)))
+  pub where-is : (t : Stations) (station : MacAddr) → Firm {A = Where} (λ r. r ≡ whereShown (whereOf t (numberOf station)))
   pub count : (t : Stations) → Firm (λ r. r ≡ countOf t)
-  pub row : (t : Stations) (n : ℕ) → Firm {A = Listed} (λ r. r ≡ listed (rowAt t n))
+  pub row : (t : Stations) (n : ℕ) → Firm {A = Listed} (λ r. r ≡ rowShown (rowAt t n))
 
 -- a table that events made of a fresh one
 pub record Made (t : Stations) : Type 0 where
@@ -37,20 +37,20 @@ pub record Made (t : Stations) : Type 0 where
 
 -- What one event does: its own station goes where the event says, and every other one stays where it was.
 pub record Moves (t : Stations) (e : Event) : Type 0 where
-  pub own : isAccepted t e ≡ true → placeOf (tableAfter t e) (e .station) ≡ placeAfter e (placeOf t (e .station))
-  pub others : (station : ℕ) → (station ≡ e .station → ⊥) → placeOf (tableAfter t e) station ≡ placeOf t station
+  pub own : isAccepted t e ≡ true → whereOf (tableAfter t e) (e .station) ≡ whereAfter e (whereOf t (e .station))
+  pub others : (station : ℕ) → (station ≡ e .station → ⊥) → whereOf (tableAfter t e) station ≡ whereOf t station
 
 -- Refused is a join of a station that is not held, with 128 held, and nothing else; it alters nothing.
 pub record WhyRefused (t : Stations) (e : Event) : Type 0 where
   pub join : e .joined ≡ true
-  pub unknown : placeOf t (e .station) ≡ nowhere
+  pub unknown : whereOf t (e .station) ≡ nowhere
   pub full : countOf t ≡ 128
   pub unaltered : tableAfter t e ≡ t
 
 -- a table is full where 128 are held
 pub record FullIs128 (t : Stations) : Type 0 where
-  pub only : isFull t ≡ true → countOf t ≡ 128
-  pub if : countOf t ≡ 128 → isFull t ≡ true
+  pub only : allHeld t ≡ true → countOf t ≡ 128
+  pub if : countOf t ≡ 128 → allHeld t ≡ true
 
 -- a row holds a station with its access point
 pub record InRow (t : Stations) (station point : ℕ) : Type 0 where
@@ -62,13 +62,13 @@ pub record Sound (t : Stations) : Type 0 where
   pub at-most : countOf t ≤ 128
   pub once : (station i p j q : ℕ) → rowAt t i ≡ holds station p → rowAt t j ≡ holds station q → i ≡ j
   pub free-is-fresh : (i : ℕ) → i < rows → rowAt t i ≡ free → (getD t i 0 ≡ 0) × (pointAt t i ≡ 0)
-  pub rows-list : (station point i : ℕ) → rowAt t i ≡ holds station point → placeOf t station ≡ at point
-  pub in-a-row : (station point : ℕ) → placeOf t station ≡ at point → InRow t station point
+  pub rows-list : (station point i : ℕ) → rowAt t i ≡ holds station point → whereOf t station ≡ at point
+  pub in-a-row : (station point : ℕ) → whereOf t station ≡ at point → InRow t station point
 
 -- "A station is at A exactly when its latest accepted join named A and no later leave named A": over any events from a fresh table, with no premise about room
 pub record ExactlyWhen (station point : ℕ) (events : List Event) : Type 0 where
-  pub only : placeOf (ends freshStations events) station ≡ at point → LatestJoin point (those (isOwn station) (accepted freshStations events))
-  pub if : LatestJoin point (those (isOwn station) (accepted freshStations events)) → placeOf (ends freshStations events) station ≡ at point
+  pub only : whereOf (ends freshStations events) station ≡ at point → LatestJoin point (those (isOwn station) (accepted freshStations events))
+  pub if : LatestJoin point (those (isOwn station) (accepted freshStations events)) → whereOf (ends freshStations events) station ≡ at point
 
 -- "events of different stations, if no event is refused: those of one station keep their order"
 abbrev pub Reordered : List Event → List Event → Type 0
@@ -77,7 +77,7 @@ Reordered events events′ = (station : ℕ) → those (isOwn station) events �
 -- each event gets the same answer, "and both tables end with the same stations at the same access points"
 pub record SameStations (events events′ : List Event) : Type 0 where
   pub answers : (station : ℕ) → answersTo station freshStations events ≡ answersTo station freshStations events′
-  pub places : (station : ℕ) → placeOf (ends freshStations events) station ≡ placeOf (ends freshStations events′) station
+  pub places : (station : ℕ) → whereOf (ends freshStations events) station ≡ whereOf (ends freshStations events′) station
 
 pub record Claims : Type 0 where
   pub moves : (t : Stations) → Made t → (e : Event) → Moves t e

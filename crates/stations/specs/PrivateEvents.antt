@@ -5,10 +5,10 @@ use Rattle.records.specs.declared.ClientAssociation.{ClientAssociation}
 use Rattle.stations.specs.declared.reading.Association.{Association}
 
 -- an association that was read, and how many bytes it took
-pub record Found : Type 0 where
+pub record AssociationRead : Type 0 where
   pub association : ClientAssociation
   pub consumed : ℕ
 
-abbrev pub associationOf : Association → Answer Found
+abbrev pub associationOf : Association → Answer AssociationRead
 associationOf (Association.Event e n) = gives (record { association = e; consumed = n })
 associationOf (Association.Refused r) = told r

@@ -10,7 +10,7 @@ use Rattle.stations.specs.declared.Heard.{Heard}
 use Rattle.stations.specs.declared.Where.{Where}
 use Rattle.stations.specs.declared.Listed.{Listed}
 use Rattle.stations.specs.Addresses.{addressOf}
-use Rattle.stations.specs.Whereabouts.{Place, nowhere, at, Event, isAt, answerAt}
+use Rattle.stations.specs.Whereabouts.{Whereabouts, nowhere, at, Event, isAt, answerAt}
 
 abbrev pub rows : ℕ
 rows = 128
@@ -22,8 +22,8 @@ abbrev pub freshStations : Stations
 freshStations = replicate (rows + rows) 0
 
 -- what stands for a station in its row; a free row has 0 there, and 0 for an access point
-abbrev pub codeOf : ℕ → ℕ
-codeOf station = station + 1
+abbrev pub markOf : ℕ → ℕ
+markOf station = station + 1
 
 abbrev pub pointAt : Stations → ℕ → ℕ
 pointAt t row = getD t (rows + row) 0
@@ -33,18 +33,18 @@ abbrev pub rowWith : Stations → ℕ → ℕ
 rowWith t code = lowest (λ row. eqb (getD t row 0) code) rows
 
 -- where the table says that a station is
-abbrev pub placeIn : Stations → ℕ → Place
-placeIn t row = cond (ltb row rows) (at (pointAt t row)) nowhere
+abbrev pub whereIn : Stations → ℕ → Whereabouts
+whereIn t row = cond (ltb row rows) (at (pointAt t row)) nowhere
 
-unfoldable pub placeOf : Stations → ℕ → Place
-placeOf t station = placeIn t (rowWith t (codeOf station))
+unfoldable pub whereOf : Stations → ℕ → Whereabouts
+whereOf t station = whereIn t (rowWith t (markOf station))
 
 -- "128 held": no row is free
-unfoldable pub isFull : Stations → Bool
-isFull t = not (ltb (rowWith t 0) rows)
+unfoldable pub allHeld : Stations → Bool
+allHeld t = not (ltb (rowWith t 0) rows)
 
 abbrev pub answerTo : Stations → Event → Answer Heard
-answerTo t e = answerAt (isFull t) e (placeOf t (e .station))
+answerTo t e = answerAt (allHeld t) e (whereOf t (e .station))
 
 -- the table with a row written
 abbrev pub withRow : Stations → (row code point : ℕ) → Stations
@@ -53,13 +53,13 @@ withRow t row code point = set (set t row code) (rows + row) point
 -- the table after an event. A join of a station that is held alters its access point; of another one, it takes the lowest free row: "Freed rows are used again."
 unfoldable pub afterJoin : Stations → (station point : ℕ) → Stations
 afterJoin t station point =
-    cond (ltb (rowWith t (codeOf station)) rows) (set t (rows + rowWith t (codeOf station)) point)
-    (cond (isFull t) t
-    (withRow t (rowWith t 0) (codeOf station) point))
+    cond (ltb (rowWith t (markOf station)) rows) (set t (rows + rowWith t (markOf station)) point)
+    (cond (allHeld t) t
+    (withRow t (rowWith t 0) (markOf station) point))
 
 -- a leave that is not stale frees the row: it is as a fresh one
 unfoldable pub afterLeave : Stations → (station point : ℕ) → Stations
-afterLeave t station point = cond (isAt point (placeOf t station)) (withRow t (rowWith t (codeOf station)) 0 0) t
+afterLeave t station point = cond (isAt point (whereOf t station)) (withRow t (rowWith t (markOf station)) 0 0) t
 
 abbrev pub tableAfter : Stations → Event → Stations
 tableAfter t e = cond (e .joined) (afterJoin t (e .station) (e .point)) (afterLeave t (e .station) (e .point))
@@ -69,12 +69,12 @@ pub data Row : Type 0 where
   free : Row
   holds : (station point : ℕ) → Row
 
-abbrev pub rowOf : (code point : ℕ) → Row
-rowOf zero point = free
-rowOf (suc station) point = holds station point
+abbrev pub rowFrom : (code point : ℕ) → Row
+rowFrom zero point = free
+rowFrom (suc station) point = holds station point
 
 abbrev pub rowAt : Stations → ℕ → Row
-rowAt t n = cond (ltb n rows) (rowOf (getD t n 0) (pointAt t n)) free
+rowAt t n = cond (ltb n rows) (rowFrom (getD t n 0) (pointAt t n)) free
 
 -- how many of the first n rows hold a station, and how many do at all
 abbrev pub oneIf : (code : ℕ) → ℕ
@@ -88,10 +88,10 @@ abbrev pub countOf : Stations → ℕ
 countOf t = countBelow t rows
 
 -- what a call shows of a place and of a row
-abbrev pub shown : Place → Where
-shown nowhere = Where.Nowhere
-shown (at point) = Where.At (addressOf point)
+abbrev pub whereShown : Whereabouts → Where
+whereShown nowhere = Where.Nowhere
+whereShown (at point) = Where.At (addressOf point)
 
-abbrev pub listed : Row → Listed
-listed free = Listed.Free
-listed (holds station point) = Listed.Held (addressOf station) (addressOf point)
+abbrev pub rowShown : Row → Listed
+rowShown free = Listed.Free
+rowShown (holds station point) = Listed.Held (addressOf station) (addressOf point)

@@ -9,9 +9,9 @@ use Rattle.records.specs.declared.ClientAssociation.{ClientAssociation}
 use Rattle.stations.specs.declared.Heard.{Heard}
 use Rattle.stations.specs.Addresses.{numberOf, addressOf}
 
-pub data Place : Type 0 where
-  nowhere : Place
-  at : ℕ → Place
+pub data Whereabouts : Type 0 where
+  nowhere : Whereabouts
+  at : ℕ → Whereabouts
 
 -- an event: a station joined an access point, or left it
 pub record Event : Type 0 where
@@ -26,26 +26,26 @@ isJoined AssociationState.LeftBss = false
 abbrev pub eventOf : ClientAssociation → Event
 eventOf a = record { station = numberOf (a .«sta_mac»); point = numberOf (a .«ap_mac»); joined = isJoined (a .«association_state») }
 
-abbrev pub isAt : ℕ → Place → Bool
+abbrev pub isAt : ℕ → Whereabouts → Bool
 isAt point nowhere = false
 isAt point (at p) = eqb p point
 
-abbrev pub isNowhere : Place → Bool
+abbrev pub isNowhere : Whereabouts → Bool
 isNowhere nowhere = true
 isNowhere (at p) = false
 
 -- where the station of an event that is not refused is after it: "A joined event puts the station at that access point; a left event removes it only if it names the access point the table holds."
-abbrev pub placeAfter : Event → Place → Place
-placeAfter e was = cond (e .joined) (at (e .point)) (cond (isAt (e .point) was) nowhere was)
+abbrev pub whereAfter : Event → Whereabouts → Whereabouts
+whereAfter e was = cond (e .joined) (at (e .point)) (cond (isAt (e .point) was) nowhere was)
 
 -- what is answered: a join says if the station is new, has moved, or was there already; "such a late leave, or a leave of a station not held, changes nothing and answers "stale""
-abbrev pub heardOfJoin : ℕ → Place → Heard
+abbrev pub heardOfJoin : ℕ → Whereabouts → Heard
 heardOfJoin point nowhere = Heard.Placed
 heardOfJoin point (at p) = cond (eqb p point) Heard.Same (Heard.Moved (addressOf p))
 
-abbrev pub heardOf : Event → Place → Heard
+abbrev pub heardOf : Event → Whereabouts → Heard
 heardOf e was = cond (e .joined) (heardOfJoin (e .point) was) (cond (isAt (e .point) was) Heard.Removed Heard.Stale)
 
 -- "Refusals: 17, a join of an unknown station with 128 held"
-abbrev pub answerAt : (full : Bool) → Event → Place → Answer Heard
+abbrev pub answerAt : (full : Bool) → Event → Whereabouts → Answer Heard
 answerAt full e was = cond (e .joined && (isNowhere was && full)) (refuses 17 []) (gives (heardOf e was))

@@ -19,7 +19,7 @@ use rows::row_with;
 ghost use mathlib.Core.Path.{_≡_};
 ghost use Rattle.stations.specs.Addresses.{numberOf};
 ghost use Rattle.stations.specs.Whereabouts.{eventOf};
-ghost use Rattle.stations.specs.Rows.{freshStations, placeOf, answerTo, tableAfter, rowAt, countOf, shown, listed};
+ghost use Rattle.stations.specs.Rows.{freshStations, whereOf, answerTo, tableAfter, rowAt, countOf, whereShown, rowShown};
 ghost use Rattle.stations.specs.Events.{answeredOf, appliedOf, answerFrom, tableFrom};
 
 // How many stations a table holds, at most.
@@ -102,7 +102,7 @@ pub fn event_from(t: &mut Stations, value: &[u8]) -> Applied
 
 // Where a station is.
 pub fn where_is(t: &Stations, station: MacAddr) -> Where
-    ensures { λ r. ⌜ r ≡ shown (placeOf (now (t .entry)) (numberOf station)) ⌝ }
+    ensures { λ r. ⌜ r ≡ whereShown (whereOf (now (t .entry)) (numberOf station)) ⌝ }
 {
     let row = row_with(t, number_of(station) + 1);
     if row < STATIONS {
@@ -126,7 +126,7 @@ pub fn count(t: &Stations) -> usize
 
 // The station in row n and its access point. With each n below STATIONS a caller lists them all.
 pub fn row(t: &Stations, n: usize) -> Listed
-    ensures { λ r. ⌜ r ≡ listed (rowAt (now (t .entry)) n) ⌝ }
+    ensures { λ r. ⌜ r ≡ rowShown (rowAt (now (t .entry)) n) ⌝ }
 {
     if n < STATIONS {
         let code = t[n];

@@ -18,8 +18,8 @@ use Rattle.layouts.specs.Claims.{Shown}
 use Rattle.layouts.proofs.Claims.{reading-told, located-told, counted-told, part-alone}
 use Rattle.utf8.specs.Utf8.{isUtf8}
 use Rattle.texts.specs.Texts.{Piece, field, string, to-end, TextKind, textKind, isText}
-use Rattle.texts.specs.Reading.{Held, pieceAt, Pieces, before, piecesAt, Laid, textIn, allValid, wholeOf, consumedIn, readText}
-use Rattle.texts.specs.Access.{numbered, wholeSpan, textSpan, ofText, radioIn, countIn, locateRadio, countRadios, locateText, locateRadioText}
+use Rattle.texts.specs.Reading.{ReadPiece, pieceAt, Pieces, before, piecesAt, Laid, textIn, allValid, wholeOf, consumedIn, readText}
+use Rattle.texts.specs.Access.{nthOf, wholeSpan, textSpan, ofText, radioIn, radioCount, locateRadio, countRadios, locateText, locateRadioText}
 use Rattle.texts.specs.Claims.{Firmness, Text, Values, Alone, ConsumedAlone}
 use Rattle.texts.proofs.Whole.{parts, valid, list-within, each-within}
 use Rattle.texts.proofs.Asked.{answers, Among, text-among, radio-among, one-radio}
@@ -111,26 +111,26 @@ pieces-many (suc n) x s p r e =
     let m = mapped-gave (before (g .first)) (piecesAt n x s (g .first .end)) r (g .then) in
     rw (← (given _ r (m .then))) (ap suc (pieces-many n x s (g .first .end) (m .first) (m .is)))
 
-record Numbered (hs : List Held) (i : ℕ) : Type 0 where
-  held : Held
-  is : numbered hs i ≡ gives held
+record Numbered (hs : List ReadPiece) (i : ℕ) : Type 0 where
+  readPiece : ReadPiece
+  is : nthOf hs i ≡ gives readPiece
 
-some-number : (hs : List Held) (i : ℕ) → i < length hs → Numbered hs i
+some-number : (hs : List ReadPiece) (i : ℕ) → i < length hs → Numbered hs i
 some-number [] i l = absurd (omega arith)
-some-number (h ∷ hs) zero l = record { held = h; is = refl }
-some-number (h ∷ hs) (suc i) l = let n = some-number hs i (le-of-suc-le-suc l) in record { held = n .held; is = n .is }
+some-number (h ∷ hs) zero l = record { readPiece = h; is = refl }
+some-number (h ∷ hs) (suc i) l = let n = some-number hs i (le-of-suc-le-suc l) in record { readPiece = n .readPiece; is = n .is }
 
-past-number : (hs : List Held) (i : ℕ) → length hs ≤ i → numbered hs i ≡ refuses 6 []
+past-number : (hs : List ReadPiece) (i : ℕ) → length hs ≤ i → nthOf hs i ≡ refuses 6 []
 past-number [] i l = refl
 past-number (h ∷ hs) zero l = absurd (omega arith)
 past-number (h ∷ hs) (suc i) l = past-number hs i (le-of-suc-le-suc l)
 
-valid-number : (s : List ℕ) (hs : List Held) (i : ℕ) (h : Held) → allValid s hs ≡ true → numbered hs i ≡ gives h → isUtf8 (textIn s h) ≡ true
+valid-number : (s : List ℕ) (hs : List ReadPiece) (i : ℕ) (h : ReadPiece) → allValid s hs ≡ true → nthOf hs i ≡ gives h → isUtf8 (textIn s h) ≡ true
 valid-number s [] i h a e = never h 6 [] (sym e)
 valid-number s (g ∷ hs) i h a e = go i (isUtf8 (textIn s g)) refl a e (λ j. valid-number s hs j h)
   where
-    go : (i : ℕ) (t : Bool) → isUtf8 (textIn s g) ≡ t → cond t (allValid s hs) false ≡ true → numbered (g ∷ hs) i ≡ gives h →
-        ((j : ℕ) → allValid s hs ≡ true → numbered hs j ≡ gives h → isUtf8 (textIn s h) ≡ true) → isUtf8 (textIn s h) ≡ true
+    go : (i : ℕ) (t : Bool) → isUtf8 (textIn s g) ≡ t → cond t (allValid s hs) false ≡ true → nthOf (g ∷ hs) i ≡ gives h →
+        ((j : ℕ) → allValid s hs ≡ true → nthOf hs j ≡ gives h → isUtf8 (textIn s h) ≡ true) → isUtf8 (textIn s h) ≡ true
     go zero true t a e on = rw (← (given g h e)) t
     go (suc i) true t a e on = on i a e
     go i false t a e on = let z : _≡_ {A = ℕ} 0 1 = cc in absurd (omega arith)
@@ -143,10 +143,10 @@ part-same : (x : Answer Span) (s : List ℕ) (q : ℕ) → q ≤ length s → ((
 part-same (gives r) s q l inside = let i = inside r refl in part-alone s (r .start) q (r .end) (i .0) (i .1) l
 part-same (refuses n vs) s q l inside = refl
 
-whole-inside : {s : List ℕ} {p q : ℕ} (h : Held) → Among s p q h → Inside (wholeSpan h) q
+whole-inside : {s : List ℕ} {p q : ℕ} (h : ReadPiece) → Among s p q h → Inside (wholeSpan h) q
 whole-inside h a = let b = a .lies in let c = b .low in let d = b .ordered in let e = b .high in (omega arith, a .high)
 
-text-inside : {s : List ℕ} {p q : ℕ} (h : Held) (n : ℕ) → Among s p q h → q ≤ n → Inside (h .text) n
+text-inside : {s : List ℕ} {p q : ℕ} (h : ReadPiece) (n : ℕ) → Among s p q h → q ≤ n → Inside (h .text) n
 text-inside h n a l = let b = a .lies in let d = b .ordered in let e = b .high in let f = a .high in (d, omega arith)
 
 -- a value that reads
@@ -181,14 +181,14 @@ module _ (code : ℕ) (s : List ℕ) (r : Consumed) (a : Read code s r) where
       let b = radio-among (a .kind) s (a .value) (a .reads) (f .number) (f .piece) (f .is) in
       rw (← (f .span), ← end) (whole-inside (f .piece) b)
 
-  text-lies : (i : ℕ) (p : Span) → mapped textSpan (numbered (a .value .texts .each) i) ≡ gives p → Inside p (r .consumed)
+  text-lies : (i : ℕ) (p : Span) → mapped textSpan (nthOf (a .value .texts .each) i) ≡ gives p → Inside p (r .consumed)
   text-lies i p e =
-      let m = mapped-gave textSpan (numbered (a .value .texts .each) i) p e in
+      let m = mapped-gave textSpan (nthOf (a .value .texts .each) i) p e in
       rw (← (given _ p (m .then))) (text-inside (m .first) (r .consumed) (text-among (a .kind) s (a .value) (a .reads) i (m .first) (m .is)) (ends .0))
 
-  radio-text-lies : (i : ℕ) (p : Span) → mapped textSpan (numbered (a .value .radios .each) i) ≡ gives p → Inside p (r .consumed)
+  radio-text-lies : (i : ℕ) (p : Span) → mapped textSpan (nthOf (a .value .radios .each) i) ≡ gives p → Inside p (r .consumed)
   radio-text-lies i p e =
-      let m = mapped-gave textSpan (numbered (a .value .radios .each) i) p e in
+      let m = mapped-gave textSpan (nthOf (a .value .radios .each) i) p e in
       let z = end in
       rw (← (given _ p (m .then))) (text-inside (m .first) (r .consumed) (radio-among (a .kind) s (a .value) (a .reads) i (m .first) (m .is)) (omega arith))
 
@@ -229,9 +229,9 @@ own-count : (code : ℕ) (is s : List ℕ) (r : Consumed) (n : ℕ) → readText
 unfolding countRadios
 own-count code is s r n x y =
     let a = read code s r x in
-    go (a .kind .radios) is (sym (says code s r a (λ k v. countIn (k .radios) is v)) ∙ y) ∙ many code s r a
+    go (a .kind .radios) is (sym (says code s r a (λ k v. radioCount (k .radios) is v)) ∙ y) ∙ many code s r a
   where
-    go : (b : Bool) (is : List ℕ) → countIn b is (read code s r x .value) ≡ gives n → n ≡ read code s r x .value .list .many
+    go : (b : Bool) (is : List ℕ) → radioCount b is (read code s r x .value) ≡ gives n → n ≡ read code s r x .value .list .many
     go true [] e = sym (given _ n e)
     go true (i ∷ is) e = never n 6 [] (sym e)
     go false is e = never n 6 [] (sym e)
@@ -244,7 +244,7 @@ every-radio code s r i x l =
     let n = some-number (a .value .radios .each) i (omega arith) in
     let e = mapped-given wholeSpan _ _ (n .is) in
     let b = radio-lies code s r a (i ∷ []) _ e in
-    record { span = wholeSpan (n .held); shown = says code s r a (λ k v. radioIn (i ∷ []) v) ∙ e; ordered = b .0; inside = b .1 }
+    record { span = wholeSpan (n .readPiece); shown = says code s r a (λ k v. radioIn (i ∷ []) v) ∙ e; ordered = b .0; inside = b .1 }
 
 every-radio-text : (s : List ℕ) (r : Consumed) (i : ℕ) → readText 0xD4 s ≡ gives r → i < r .entries → Text (locateRadioText i s) s (r .consumed)
 unfolding locateRadioText
@@ -254,10 +254,10 @@ every-radio-text s r i x l =
     let n = some-number (a .value .radios .each) i (omega arith) in
     let e = mapped-given textSpan _ _ (n .is) in
     let b = radio-text-lies 0xD4 s r a i _ e in
-    let shown = says 0xD4 s r a (λ k v. mapped textSpan (numbered (v .radios .each) i)) ∙ e in
+    let shown = says 0xD4 s r a (λ k v. mapped textSpan (nthOf (v .radios .each) i)) ∙ e in
     record {
-      shown = record { span = n .held .text; shown = shown; ordered = b .0; inside = b .1 };
-      valid = ap (λ x. isUtf8 (partOf x s)) shown ∙ valid-number s (a .value .radios .each) i (n .held) (valid (a .kind) s (a .value) (a .reads) .radios) (n .is);
+      shown = record { span = n .readPiece .text; shown = shown; ordered = b .0; inside = b .1 };
+      valid = ap (λ x. isUtf8 (partOf x s)) shown ∙ valid-number s (a .value .radios .each) i (n .readPiece) (valid (a .kind) s (a .value) (a .reads) .radios) (n .is);
     }
 
 no-other : (code i : ℕ) (s : List ℕ) (r : Consumed) → readText code s ≡ gives r → r .entries ≤ i →
@@ -268,7 +268,7 @@ no-other code i s r x l =
     let z = radios code s r a in
     let p = past-number (a .value .radios .each) i (omega arith) in (
       says code s r a (λ k v. radioIn (i ∷ []) v) ∙ mapped-refused wholeSpan _ 6 [] p,
-      λ e. rw (← e) (says code s r a (λ k v. mapped textSpan (numbered (v .radios .each) i)) ∙ mapped-refused textSpan _ 6 [] p),
+      λ e. rw (← e) (says code s r a (λ k v. mapped textSpan (nthOf (v .radios .each) i)) ∙ mapped-refused textSpan _ 6 [] p),
     )
 
 one-number : (code i j : ℕ) (is s : List ℕ) (r : Consumed) → readText code s ≡ gives r → (locateRadio code [] s ≡ refuses 6 []) × (locateRadio code (i ∷ j ∷ is) s ≡ refuses 6 [])
@@ -287,10 +287,10 @@ module _ (code : ℕ) (s : List ℕ) (k : TextKind) (r : Consumed) (i : ℕ) (y 
       let n = some-number (a .value .texts .each) i (omega arith) in
       let e = mapped-given textSpan _ _ (n .is) in
       let b = text-lies code s r a i _ e in
-      let shown = says code s r a (λ k v. mapped textSpan (numbered (v .texts .each) i)) ∙ e in
+      let shown = says code s r a (λ k v. mapped textSpan (nthOf (v .texts .each) i)) ∙ e in
       record {
-        shown = record { span = n .held .text; shown = shown; ordered = b .0; inside = b .1 };
-        valid = ap (λ x. isUtf8 (partOf x s)) shown ∙ valid-number s (a .value .texts .each) i (n .held) (valid (a .kind) s (a .value) (a .reads) .own) (n .is);
+        shown = record { span = n .readPiece .text; shown = shown; ordered = b .0; inside = b .1 };
+        valid = ap (λ x. isUtf8 (partOf x s)) shown ∙ valid-number s (a .value .texts .each) i (n .readPiece) (valid (a .kind) s (a .value) (a .reads) .own) (n .is);
       }
 
   beyond : k .many ≤ i → locateText code i s ≡ refuses 6 []
@@ -298,7 +298,7 @@ module _ (code : ℕ) (s : List ℕ) (k : TextKind) (r : Consumed) (i : ℕ) (y 
   beyond l =
       let a = read code s r x in
       let z = so-many in
-      says code s r a (λ k v. mapped textSpan (numbered (v .texts .each) i)) ∙ mapped-refused textSpan _ 6 [] (past-number (a .value .texts .each) i (omega arith))
+      says code s r a (λ k v. mapped textSpan (nthOf (v .texts .each) i)) ∙ mapped-refused textSpan _ 6 [] (past-number (a .value .texts .each) i (omega arith))
 
 -- what is asked of the consumed bytes is what is asked of the value
 module _ (code : ℕ) (s : List ℕ) (r : Consumed) (x : readText code s ≡ gives r) where
@@ -327,13 +327,13 @@ module _ (code : ℕ) (s : List ℕ) (r : Consumed) (x : readText code s ≡ giv
       let m = many code s r a in
       record {
         reads = follows (textKind code) (a .kind) _ (a .is) ∙ mapped-given (consumedIn t) _ _ alone-reads ∙ rw (none, e, m);
-        counts = λ is. same (λ k v. countIn (k .radios) is v);
+        counts = λ is. same (λ k v. radioCount (k .radios) is v);
         located = λ is. same (λ k v. radioIn is v);
         parts = λ is. part (λ k v. radioIn is v) (radio-lies code s r a is);
-        texts = λ i. same (λ k v. mapped textSpan (numbered (v .texts .each) i));
-        text-parts = λ i. part (λ k v. mapped textSpan (numbered (v .texts .each) i)) (text-lies code s r a i);
-        radio-texts = λ c i. rw (← c) (same (λ k v. mapped textSpan (numbered (v .radios .each) i)));
-        radio-text-parts = λ c i. rw (← c) (part (λ k v. mapped textSpan (numbered (v .radios .each) i)) (radio-text-lies code s r a i));
+        texts = λ i. same (λ k v. mapped textSpan (nthOf (v .texts .each) i));
+        text-parts = λ i. part (λ k v. mapped textSpan (nthOf (v .texts .each) i)) (text-lies code s r a i);
+        radio-texts = λ c i. rw (← c) (same (λ k v. mapped textSpan (nthOf (v .radios .each) i)));
+        radio-text-parts = λ c i. rw (← c) (part (λ k v. mapped textSpan (nthOf (v .radios .each) i)) (radio-text-lies code s r a i));
       }
 
 pub consumed-alone : ConsumedAlone

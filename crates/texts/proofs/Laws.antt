@@ -12,12 +12,12 @@ use lib.Dec.{eqb, ltb}
 use borrow.Author.Tests.{eq-eqb, ne-eqb, lt-ltb, le-ltb, ltb-true, ltb-false}
 use Rattle.numbers.specs.Numbers.{Answer, gives, refuses, andThen, mapped}
 use Rattle.numbers.proofs.Answers.{Given, given, gave, mapped-gave, follows, stops}
-use Rattle.layouts.specs.Reading.{reaching, Listed}
+use Rattle.layouts.specs.Reading.{reaching, ListAt}
 use Rattle.layouts.proofs.Within.{Within, reaches, cut, reached}
 use Rattle.utf8.specs.Utf8.{isUtf8}
 use Rattle.texts.specs.Texts.{Piece, field, string, to-end}
-use Rattle.texts.specs.Reading.{untilZero, Held, held, stringAt, pieceAt, Pieces, before, piecesAt, radioList, textIn}
-use Rattle.texts.specs.Access.{numbered}
+use Rattle.texts.specs.Reading.{untilZero, ReadPiece, readPiece, stringAt, pieceAt, Pieces, before, piecesAt, radioList, textIn}
+use Rattle.texts.specs.Access.{nthOf}
 use Rattle.texts.specs.PrivatePieces.{endIn, validIn, nthAt}
 
 -- a byte that is none, a zero byte, and the end
@@ -43,7 +43,7 @@ until-within (b ∷ s) = go (eqb b 0) (until-within s) where
 
 -- a field and a string that are there, and those that are cut
 module _ (s : List ℕ) (p n : ℕ) where
-  pub field-there : p + n ≤ length s → pieceAt (field n) s p ≡ gives (held p p (p + untilZero (take n (drop p s))) (p + n))
+  pub field-there : p + n ≤ length s → pieceAt (field n) s p ≡ gives (readPiece p p (p + untilZero (take n (drop p s))) (p + n))
   unfolding pieceAt
   field-there h = reaches (p + n) s _ h
 
@@ -56,7 +56,7 @@ module _ (s : List ℕ) (p n : ℕ) where
   string-on h = follows _ (p + n + 1) _ (reaches (p + n + 1) s (p + n + 1) h)
 
   pub string-there : p + n + 1 + getD s (p + n) 0 ≤ length s →
-      pieceAt (string n) s p ≡ gives (held p (p + n + 1) (p + n + 1 + getD s (p + n) 0) (p + n + 1 + getD s (p + n) 0))
+      pieceAt (string n) s p ≡ gives (readPiece p (p + n + 1) (p + n + 1 + getD s (p + n) 0) (p + n + 1 + getD s (p + n) 0))
   string-there h = string-on (omega arith) ∙ reaches _ s _ h
 
   pub string-headless : length s < p + n + 1 → pieceAt (string n) s p ≡ refuses 3 []
@@ -67,14 +67,14 @@ module _ (s : List ℕ) (p n : ℕ) where
   string-cut h l = string-on h ∙ cut _ s _ l
 
 -- a piece that was read lies in the value, and its text in it
-pub record Lies (s : List ℕ) (p : ℕ) (h : Held) : Type 0 where
+pub record Lies (s : List ℕ) (p : ℕ) (h : ReadPiece) : Type 0 where
   pub from : h .start ≡ p
   pub low : p ≤ h .text .start
   pub ordered : h .text .start ≤ h .text .end
   pub high : h .text .end ≤ h .end
   pub inside : h .end ≤ length s
 
-pub piece-lies : (x : Piece) (s : List ℕ) (p : ℕ) (h : Held) → p ≤ length s → pieceAt x s p ≡ gives h → Lies s p h
+pub piece-lies : (x : Piece) (s : List ℕ) (p : ℕ) (h : ReadPiece) → p ≤ length s → pieceAt x s p ≡ gives h → Lies s p h
 unfolding pieceAt
 piece-lies (field n) s p h l e =
     let r = reached (p + n) s _ h e in
@@ -115,22 +115,22 @@ module _ {B : Type 0} (f : Answer Pieces → B) (x : Piece) (s : List ℕ) (n at
   pub left-cut : (m : ℕ) (vs : List ℕ) → i < n → pieceAt x s p ≡ refuses m vs → f (refuses m vs) ≡ f (piecesAt n x s at)
   left-cut m vs h e = sym (left .2 ∙ ap f (pieces-more x s n i p h ∙ stops _ m vs _ e))
 
-  pub left-then : (h : Held) → i < n → pieceAt x s p ≡ gives h → f (mapped (before h) (piecesAt (n - (i + 1)) x s (h .end))) ≡ f (piecesAt n x s at)
+  pub left-then : (h : ReadPiece) → i < n → pieceAt x s p ≡ gives h → f (mapped (before h) (piecesAt (n - (i + 1)) x s (h .end))) ≡ f (piecesAt n x s at)
   left-then h l e = sym (left .2 ∙ ap f (pieces-more x s n i p l ∙ follows _ h _ e))
 
-  pub left-more : (h : Held) → i < n → pieceAt x s p ≡ gives h → ((y : Answer Pieces) → f (mapped (before h) y) ≡ f y) → Left f x s n at (i + 1) (h .end)
+  pub left-more : (h : ReadPiece) → i < n → pieceAt x s p ≡ gives h → ((y : Answer Pieces) → f (mapped (before h) y) ≡ f y) → Left f x s n at (i + 1) (h .end)
   left-more h l e same = (omega arith, piece-lies x s p h (left .1) e .inside, sym (left-then h l e) ∙ same (piecesAt (n - (i + 1)) x s (h .end)))
 
 -- what a piece in front changes: not where the last one ends, and not whether all are valid, if it is
-pub end-before : (h : Held) (y : Answer Pieces) → mapped endIn (mapped (before h) y) ≡ mapped endIn y
+pub end-before : (h : ReadPiece) (y : Answer Pieces) → mapped endIn (mapped (before h) y) ≡ mapped endIn y
 end-before h (gives r) = refl
 end-before h (refuses n vs) = refl
 
-pub valid-before : (s : List ℕ) (h : Held) → isUtf8 (textIn s h) ≡ true → (y : Answer Pieces) → validIn s (mapped (before h) y) ≡ validIn s y
+pub valid-before : (s : List ℕ) (h : ReadPiece) → isUtf8 (textIn s h) ≡ true → (y : Answer Pieces) → validIn s (mapped (before h) y) ≡ validIn s y
 valid-before s h e (gives r) = rw e
 valid-before s h e (refuses n vs) = refl
 
-pub bad-before : (s : List ℕ) (h : Held) → isUtf8 (textIn s h) ≡ false → (y : Answer Pieces) → validIn s (mapped (before h) y) ≡ false
+pub bad-before : (s : List ℕ) (h : ReadPiece) → isUtf8 (textIn s h) ≡ false → (y : Answer Pieces) → validIn s (mapped (before h) y) ≡ false
 bad-before s h e (gives r) = rw e
 bad-before s h e (refuses n vs) = refl
 
@@ -154,7 +154,7 @@ ends-within n x s p q l e =
     let z : m .first .end ≡ q = given _ q (m .then) in
     omega arith
 
-pub radios-within : (b : Bool) (s : List ℕ) (p : ℕ) (m : Listed) → p ≤ length s → radioList b s p ≡ gives m → Within p (m .first) s
+pub radios-within : (b : Bool) (s : List ℕ) (p : ℕ) (m : ListAt) → p ≤ length s → radioList b s p ≡ gives m → Within p (m .first) s
 unfolding radioList
 radios-within false s p m l e = let y : p ≡ m .first = ap (λ m. m .first) (given _ m e) in omega arith
 radios-within true s p m l e = let r = reached (p + 1) s _ m e in let y : p + 1 ≡ m .first = ap (λ m. m .first) (r .1) in let z = r .0 in omega arith
@@ -170,28 +170,28 @@ module _ (x : Piece) (n i : ℕ) (s : List ℕ) (p : ℕ) where
   nth-behind h = rw (lt-ltb i n h)
 
 -- of pieces that are there, it is the one with this number
-pub nth-held : (x : Piece) (n i : ℕ) (s : List ℕ) (p : ℕ) (r : Pieces) → piecesAt n x s p ≡ gives r → nthAt x n i s p ≡ numbered (r .each) i
+pub nth-held : (x : Piece) (n i : ℕ) (s : List ℕ) (p : ℕ) (r : Pieces) → piecesAt n x s p ≡ gives r → nthAt x n i s p ≡ nthOf (r .each) i
 unfolding piecesAt
-nth-held x zero i s p r e = nth-none x 0 i s p (omega arith) ∙ ap (λ r. numbered (r .each) i) (given _ r e)
-nth-held x (suc n) i s p r e = go i (λ j. nth-held x n j s (h .end) (m .first) (m .is)) ∙ ap (λ r. numbered (r .each) i) (given _ r (m .then))
+nth-held x zero i s p r e = nth-none x 0 i s p (omega arith) ∙ ap (λ r. nthOf (r .each) i) (given _ r e)
+nth-held x (suc n) i s p r e = go i (λ j. nth-held x n j s (h .end) (m .first) (m .is)) ∙ ap (λ r. nthOf (r .each) i) (given _ r (m .then))
   where
     g : Given (pieceAt x s p) (λ h. mapped (before h) (piecesAt n x s (h .end))) r
     g = gave (pieceAt x s p) (λ h. mapped (before h) (piecesAt n x s (h .end))) r e
 
-    h : Held
+    h : ReadPiece
     h = g .first
 
     m : Given (piecesAt n x s (h .end)) (λ a. gives (before h a)) r
     m = mapped-gave (before h) (piecesAt n x s (h .end)) r (g .then)
 
-    shift : (y : Answer Pieces) (k : ℕ → Answer Held) → andThen (mapped endIn (mapped (before h) y)) k ≡ andThen (mapped endIn y) k
+    shift : (y : Answer Pieces) (k : ℕ → Answer ReadPiece) → andThen (mapped endIn (mapped (before h) y)) k ≡ andThen (mapped endIn y) k
     shift y k = rw (end-before h y)
 
-    go : (i : ℕ) → ((j : ℕ) → nthAt x n j s (h .end) ≡ numbered (m .first .each) j) → nthAt x (suc n) i s p ≡ numbered (h ∷ m .first .each) i
+    go : (i : ℕ) → ((j : ℕ) → nthAt x n j s (h .end) ≡ nthOf (m .first .each) j) → nthAt x (suc n) i s p ≡ nthOf (h ∷ m .first .each) i
     go zero on = nth-behind x (suc n) 0 s p (omega arith) ∙ g .is
     go (suc j) on = by-number (ltb j n) refl
       where
-        by-number : (t : Bool) → ltb j n ≡ t → nthAt x (suc n) (suc j) s p ≡ numbered (m .first .each) j
+        by-number : (t : Bool) → ltb j n ≡ t → nthAt x (suc n) (suc j) s p ≡ nthOf (m .first .each) j
         by-number true t =
             let l = ltb-true j n t in
             nth-behind x (suc n) (suc j) s p (omega arith) ∙ ap (λ y. andThen (mapped endIn y) (λ q. pieceAt x s q)) (follows _ h _ (g .is)) ∙

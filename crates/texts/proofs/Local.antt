@@ -8,11 +8,11 @@ use lib.ListN.{length, getD, take, drop}
 use lib.Seq.{getD-take, length-take-le, take-all}
 use Rattle.numbers.specs.Numbers.{gives, mapped}
 use Rattle.numbers.proofs.Answers.{given, gave, mapped-gave, follows, mapped-given}
-use Rattle.layouts.specs.Reading.{reaching, Listed}
+use Rattle.layouts.specs.Reading.{reaching, ListAt}
 use Rattle.layouts.proofs.Within.{Within, reaches, reached}
 use Rattle.layouts.proofs.Claims.{part-alone}
 use Rattle.texts.specs.Texts.{Piece, field, string, to-end, TextKind, radio}
-use Rattle.texts.specs.Reading.{Held, held, stringAt, pieceAt, Pieces, before, piecesAt, radioList, Laid, laidOf, textIn, allValid, wholeOf}
+use Rattle.texts.specs.Reading.{ReadPiece, readPiece, stringAt, pieceAt, Pieces, before, piecesAt, radioList, Laid, laidOf, textIn, allValid, wholeOf}
 use Rattle.texts.proofs.Laws.{piece-lies, pieces-within}
 use Rattle.texts.proofs.Whole.{Parts, parts, valid, valid-all, own-within, list-within, each-within}
 
@@ -29,7 +29,7 @@ module _ (s : List ℕ) (m : ℕ) (fits : m ≤ length s) where
   long : length t ≡ m
   long = length-take-le m s fits
 
-  piece-local : (x : Piece) (p : ℕ) (h : Held) → Closed x → p ≤ length s → h .end ≤ m → pieceAt x s p ≡ gives h → pieceAt x t p ≡ gives h
+  piece-local : (x : Piece) (p : ℕ) (h : ReadPiece) → Closed x → p ≤ length s → h .end ≤ m → pieceAt x s p ≡ gives h → pieceAt x t p ≡ gives h
   unfolding pieceAt
   piece-local (field n) p h c l b e =
       let r = reached (p + n) s _ h e in
@@ -61,7 +61,7 @@ module _ (s : List ℕ) (m : ℕ) (fits : m ≤ length s) where
       let z : k .first .end ≡ r .end = ap (λ r. r .end) (given _ r (k .then)) in
       follows _ h _ (piece-local x p h c l (omega arith) (g .is)) ∙ mapped-given (before h) _ _ (pieces-local n x (h .end) (k .first) c (a .inside) (omega arith) (k .is)) ∙ k .then
 
-  pub radios-local : (b : Bool) (p : ℕ) (l : Listed) → l .first ≤ m → radioList b s p ≡ gives l → radioList b t p ≡ gives l
+  pub radios-local : (b : Bool) (p : ℕ) (l : ListAt) → l .first ≤ m → radioList b s p ≡ gives l → radioList b t p ≡ gives l
   unfolding radioList
   radios-local false p l b e = e
   radios-local true p l b e =
@@ -71,7 +71,7 @@ module _ (s : List ℕ) (m : ℕ) (fits : m ≤ length s) where
       rw (getD-take m s p 0 (omega arith)) (reaches (p + 1) t _ (omega arith) ∙ ap gives (r .1))
 
   -- a text that lies in them is the same
-  pub text-local : (h : Held) → h .text .start ≤ h .text .end → h .text .end ≤ m → textIn t h ≡ textIn s h
+  pub text-local : (h : ReadPiece) → h .text .start ≤ h .text .end → h .text .end ≤ m → textIn t h ≡ textIn s h
   text-local h a b = part-alone s (h .text .start) m (h .text .end) a b fits
 
   pub valid-local : (n : ℕ) (x : Piece) (p : ℕ) (r : Pieces) → p ≤ length s → r .end ≤ m → piecesAt n x s p ≡ gives r → allValid t (r .each) ≡ allValid s (r .each)
@@ -94,7 +94,7 @@ pieces-to-end : (n : ℕ) (s : List ℕ) (p : ℕ) (r : Pieces) → piecesAt (su
 unfolding piecesAt pieceAt
 pieces-to-end zero s p r e = sym (ap (λ r. r .end) (given _ r e))
 pieces-to-end (suc n) s p r e =
-    let k = mapped-gave (before (held p p (length s) (length s))) (piecesAt (suc n) to-end s (length s)) r e in
+    let k = mapped-gave (before (readPiece p p (length s) (length s))) (piecesAt (suc n) to-end s (length s)) r e in
     sym (ap (λ r. r .end) (given _ r (k .then))) ∙ pieces-to-end n s (length s) (k .first) (k .is)
 
 -- a value that reads whole reads the same in the bytes that it consumes

@@ -8,16 +8,16 @@ use lib.ListN.{length}
 use Rattle.numbers.specs.Numbers.{Answer, gives, refuses, andThen, mapped}
 use Rattle.numbers.proofs.Firm.{never}
 use Rattle.numbers.proofs.Answers.{given, gave, mapped-gave, follows, stops}
-use Rattle.layouts.specs.Reading.{Listed}
+use Rattle.layouts.specs.Reading.{ListAt}
 use Rattle.texts.specs.Texts.{TextKind, radio}
 use Rattle.texts.specs.Reading.{Pieces, piecesAt, radioList, Laid, laidOf, allValid, validOf, wholeOf}
 use Rattle.layouts.proofs.Within.{Within}
-use Rattle.texts.specs.Access.{numbered}
+use Rattle.texts.specs.Access.{nthOf}
 use Rattle.texts.specs.PrivatePieces.{endIn, validIn, nthAt, Outline, outlineOf}
 use Rattle.texts.proofs.Laws.{pieces-within, radios-within, nth-held}
 
 -- the outline of a value: where its pieces end, its list, and where its radios end
-abbrev pub outlined : List ℕ → Listed → Answer Outline
+abbrev pub outlined : List ℕ → ListAt → Answer Outline
 outlined s m = mapped (λ q. record { list = m; end = q }) (mapped endIn (piecesAt (m .many) radio s (m .first)))
 
 pub outline-steps : (k : TextKind) (s : List ℕ) →
@@ -25,12 +25,12 @@ pub outline-steps : (k : TextKind) (s : List ℕ) →
 unfolding laidOf
 outline-steps k s = own (piecesAt (k .many) (k .piece) s 0)
   where
-    ends : (t : Pieces) (m : Listed) (y : Answer Pieces) →
+    ends : (t : Pieces) (m : ListAt) (y : Answer Pieces) →
         mapped outlineOf (mapped (λ r. record { texts = t; list = m; radios = r }) y) ≡ mapped (λ q. record { list = m; end = q }) (mapped endIn y)
     ends t m (gives r) = refl
     ends t m (refuses n vs) = refl
 
-    list : (t : Pieces) (y : Answer Listed) →
+    list : (t : Pieces) (y : Answer ListAt) →
         mapped outlineOf (andThen y (λ m. mapped (λ r. record { texts = t; list = m; radios = r }) (piecesAt (m .many) radio s (m .first)))) ≡ andThen y (outlined s)
     list t (gives m) = ends t m (piecesAt (m .many) radio s (m .first))
     list t (refuses n vs) = refl
@@ -145,10 +145,10 @@ module _ (k : TextKind) (s : List ℕ) (v : Laid) (e : laidOf k s ≡ gives v) w
   pub each-within : Within (v .list .first) (v .radios .end) s
   each-within = pieces-within (v .list .many) radio s (v .list .first) (v .radios) (list-within .1) (parts k s v e .each)
 
-  pub text-held : (i : ℕ) → nthAt (k .piece) (k .many) i s 0 ≡ numbered (v .texts .each) i
+  pub text-held : (i : ℕ) → nthAt (k .piece) (k .many) i s 0 ≡ nthOf (v .texts .each) i
   text-held i = nth-held (k .piece) (k .many) i s 0 (v .texts) (parts k s v e .own)
 
-  pub radio-held : (i : ℕ) → nthAt radio (v .list .many) i s (v .list .first) ≡ numbered (v .radios .each) i
+  pub radio-held : (i : ℕ) → nthAt radio (v .list .many) i s (v .list .first) ≡ nthOf (v .radios .each) i
   radio-held i = nth-held radio (v .list .many) i s (v .list .first) (v .radios) (parts k s v e .each)
 
 -- the same of a value whose outline was answered
@@ -162,8 +162,8 @@ module _ (k : TextKind) (s : List ℕ) (o : Outline) (w : Outlined (wholeOf k s)
   pub end-within : o .end ≤ length s
   end-within = rw (← (w .end)) (each-within k s (w .value) there .1)
 
-  pub text-found : (i : ℕ) → nthAt (k .piece) (k .many) i s 0 ≡ numbered (w .value .texts .each) i
+  pub text-found : (i : ℕ) → nthAt (k .piece) (k .many) i s 0 ≡ nthOf (w .value .texts .each) i
   text-found i = text-held k s (w .value) there i
 
-  pub radio-found : (i : ℕ) → nthAt radio (o .list .many) i s (o .list .first) ≡ numbered (w .value .radios .each) i
+  pub radio-found : (i : ℕ) → nthAt radio (o .list .many) i s (o .list .first) ≡ nthOf (w .value .radios .each) i
   radio-found i = rw (← (w .list)) (radio-held k s (w .value) there i)

@@ -5,19 +5,19 @@ use Prim.Native.Nat.{ℕ, zero, suc}
 use Rattle.numbers.specs.Numbers.{Answer, gives, refuses, andThen, mapped}
 use Rattle.layouts.specs.Access.{Span}
 use Rattle.texts.specs.Texts.{TextKind, textKind}
-use Rattle.texts.specs.Reading.{Held, Laid, wholeOf}
+use Rattle.texts.specs.Reading.{ReadPiece, Laid, wholeOf}
 
 -- number i of these, from 0; 6 where there is none
-abbrev pub numbered : List Held → ℕ → Answer Held
-numbered [] i = refuses 6 []
-numbered (h ∷ hs) zero = gives h
-numbered (h ∷ hs) (suc i) = numbered hs i
+abbrev pub nthOf : List ReadPiece → ℕ → Answer ReadPiece
+nthOf [] i = refuses 6 []
+nthOf (h ∷ hs) zero = gives h
+nthOf (h ∷ hs) (suc i) = nthOf hs i
 
 -- a piece from its start to its end
-abbrev pub wholeSpan : Held → Span
+abbrev pub wholeSpan : ReadPiece → Span
 wholeSpan h = record { start = h .start; end = h .end }
 
-abbrev pub textSpan : Held → Span
+abbrev pub textSpan : ReadPiece → Span
 textSpan h = h .text
 
 -- what is asked of a value that reads
@@ -27,24 +27,24 @@ ofText code f s = andThen (textKind code) (λ k. andThen (wholeOf k s) (λ v. f 
 -- "the radios are entries": the radio with this number, its id and its string; without a number, and with a second one, no entry is asked for
 abbrev pub radioIn : List ℕ → Laid → Answer Span
 radioIn [] v = refuses 6 []
-radioIn (i ∷ []) v = mapped wholeSpan (numbered (v .radios .each) i)
+radioIn (i ∷ []) v = mapped wholeSpan (nthOf (v .radios .each) i)
 radioIn (i ∷ j ∷ is) v = refuses 6 []
 
 unfoldable pub locateRadio : ℕ → List ℕ → List ℕ → Answer Span
 locateRadio code is s = ofText code (λ k v. radioIn is v) s
 
 -- how many radios there are; a kind without them, and a radio, has no entries to count
-abbrev pub countIn : Bool → List ℕ → Laid → Answer ℕ
-countIn true [] v = gives (v .list .many)
-countIn true (i ∷ is) v = refuses 6 []
-countIn false is v = refuses 6 []
+abbrev pub radioCount : Bool → List ℕ → Laid → Answer ℕ
+radioCount true [] v = gives (v .list .many)
+radioCount true (i ∷ is) v = refuses 6 []
+radioCount false is v = refuses 6 []
 
 unfoldable pub countRadios : ℕ → List ℕ → List ℕ → Answer ℕ
-countRadios code is s = ofText code (λ k v. countIn (k .radios) is v) s
+countRadios code is s = ofText code (λ k v. radioCount (k .radios) is v) s
 
 -- the value's own text with this number, and the text of the radio with this number
 unfoldable pub locateText : ℕ → ℕ → List ℕ → Answer Span
-locateText code i s = ofText code (λ k v. mapped textSpan (numbered (v .texts .each) i)) s
+locateText code i s = ofText code (λ k v. mapped textSpan (nthOf (v .texts .each) i)) s
 
 unfoldable pub locateRadioText : ℕ → List ℕ → Answer Span
-locateRadioText i s = ofText 0xD4 (λ k v. mapped textSpan (numbered (v .radios .each) i)) s
+locateRadioText i s = ofText 0xD4 (λ k v. mapped textSpan (nthOf (v .radios .each) i)) s

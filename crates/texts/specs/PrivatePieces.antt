@@ -5,17 +5,17 @@ use Prim.Native.Nat.{ℕ, _≤_}
 use lib.Dec.{ltb}
 use lib.ListN.{length}
 use Rattle.numbers.specs.Numbers.{Answer, gives, refuses, told, andThen, mapped}
-use Rattle.layouts.specs.Reading.{Listed}
+use Rattle.layouts.specs.Reading.{ListAt}
 use Rattle.layouts.specs.Access.{Span}
 use Rattle.texts.specs.Texts.{Piece, field, string, to-end, TextKind}
-use Rattle.texts.specs.Reading.{Held, held, pieceAt, Pieces, piecesAt, Laid, allValid}
+use Rattle.texts.specs.Reading.{ReadPiece, readPiece, pieceAt, Pieces, piecesAt, Laid, allValid}
 use Rattle.texts.specs.declared.rows.Piece as row
 use Rattle.texts.specs.declared.rows.Piece.the-variants.{Field, Counted, ToEnd}
 use Rattle.texts.specs.declared.rows.Row.{Row}
 use Rattle.texts.specs.declared.rows.KindRow.{KindRow}
 use Rattle.texts.specs.declared.rows.KindRow.the-variants.{Text, Refused as NoRow}
-use Rattle.texts.specs.declared.pieces.Held as piece
-use Rattle.texts.specs.declared.pieces.Held.the-variants.{Of, Refused as NotHeld}
+use Rattle.texts.specs.declared.pieces.ReadPiece as piece
+use Rattle.texts.specs.declared.pieces.ReadPiece.the-variants.{Of, Refused as NotRead}
 use Rattle.texts.specs.declared.pieces.End.{End}
 use Rattle.texts.specs.declared.pieces.End.the-variants.{At, Refused as NoEnd}
 use Rattle.texts.specs.declared.reading.Listing.{Listing}
@@ -35,15 +35,15 @@ abbrev pub rowTold : KindRow → Answer TextKind
 rowTold (Text r) = gives (rowKind r)
 rowTold (NoRow r) = told r
 
-abbrev pub heldTold : piece.Held → Answer Held
-heldTold (Of p a b q) = gives (held p a b q)
-heldTold (NotHeld r) = told r
+abbrev pub pieceTold : piece.ReadPiece → Answer ReadPiece
+pieceTold (Of p a b q) = gives (readPiece p a b q)
+pieceTold (NotRead r) = told r
 
 abbrev pub endTold : End → Answer ℕ
 endTold (At p) = gives p
 endTold (NoEnd r) = told r
 
-abbrev pub listTold : Listing → Answer Listed
+abbrev pub listTold : Listing → Answer ListAt
 listTold (Counts n p) = gives (record { many = n; first = p })
 listTold (NoList r) = told r
 
@@ -56,12 +56,12 @@ validIn s (gives r) = allValid s (r .each)
 validIn s (refuses n vs) = false
 
 -- piece i of n, which has those before it in front
-unfoldable pub nthAt : Piece → ℕ → ℕ → List ℕ → ℕ → Answer Held
+unfoldable pub nthAt : Piece → ℕ → ℕ → List ℕ → ℕ → Answer ReadPiece
 nthAt x n i s p = cond (ltb i n) (andThen (mapped endIn (piecesAt i x s p)) (λ q. pieceAt x s q)) (refuses 6 [])
 
 -- a value's radios, and where it ends
 pub record Outline : Type 0 where
-  pub list : Listed
+  pub list : ListAt
   pub end : ℕ
 
 abbrev pub outlineOf : Laid → Outline

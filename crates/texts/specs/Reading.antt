@@ -5,7 +5,7 @@ use Prim.Native.Nat.{ℕ, zero, suc, _+_, _-_}
 use lib.Dec.{eqb}
 use lib.ListN.{length, getD, take, drop}
 use Rattle.numbers.specs.Numbers.{Answer, gives, refuses, andThen, mapped}
-use Rattle.layouts.specs.Reading.{reaching, Listed, Consumed}
+use Rattle.layouts.specs.Reading.{reaching, ListAt, Consumed}
 use Rattle.layouts.specs.Access.{Span, partOf}
 use Rattle.utf8.specs.Utf8.{isUtf8}
 use Rattle.texts.specs.Texts.{Piece, field, string, to-end, TextKind, textKind, radio}
@@ -16,30 +16,30 @@ untilZero [] = 0
 untilZero (b ∷ s) = cond (eqb b 0) 0 (suc (untilZero s))
 
 -- a piece that was read: where it starts, where its text lies, and where it ends
-pub record Held : Type 0 where
+pub record ReadPiece : Type 0 where
   pub start : ℕ
   pub text : Span
   pub end : ℕ
 
-abbrev pub held : ℕ → ℕ → ℕ → ℕ → Held
-held p a b q = record { start = p; text = record { start = a; end = b }; end = q }
+abbrev pub readPiece : ℕ → ℕ → ℕ → ℕ → ReadPiece
+readPiece p a b q = record { start = p; text = record { start = a; end = b }; end = q }
 
 -- a string of n bytes whose first one is at q, in a piece that starts at p
-abbrev pub stringAt : ℕ → ℕ → ℕ → List ℕ → Answer Held
-stringAt p q n s = reaching (q + n) s (held p q (q + n) (q + n))
+abbrev pub stringAt : ℕ → ℕ → ℕ → List ℕ → Answer ReadPiece
+stringAt p q n s = reaching (q + n) s (readPiece p q (q + n) (q + n))
 
 -- the piece that starts at p; 3 where the value ends inside it
-unfoldable pub pieceAt : Piece → List ℕ → ℕ → Answer Held
-pieceAt (field n) s p = reaching (p + n) s (held p p (p + untilZero (take n (drop p s))) (p + n))
+unfoldable pub pieceAt : Piece → List ℕ → ℕ → Answer ReadPiece
+pieceAt (field n) s p = reaching (p + n) s (readPiece p p (p + untilZero (take n (drop p s))) (p + n))
 pieceAt (string n) s p = andThen (reaching (p + n + 1) s (p + n + 1)) (λ q. stringAt p q (getD s (p + n) 0) s)
-pieceAt to-end s p = gives (held p p (length s) (length s))
+pieceAt to-end s p = gives (readPiece p p (length s) (length s))
 
 -- pieces one behind the other: each of them, and where the last one ends
 pub record Pieces : Type 0 where
-  pub each : List Held
+  pub each : List ReadPiece
   pub end : ℕ
 
-abbrev pub before : Held → Pieces → Pieces
+abbrev pub before : ReadPiece → Pieces → Pieces
 before h r = record { each = h ∷ r .each; end = r .end }
 
 -- n pieces, the first of which starts at p
@@ -48,14 +48,14 @@ piecesAt zero x s p = gives (record { each = []; end = p })
 piecesAt (suc n) x s p = andThen (pieceAt x s p) (λ h. mapped (before h) (piecesAt n x s (h .end)))
 
 -- how many radios there are, and where the first one starts: "c1", a count in one byte
-unfoldable pub radioList : Bool → List ℕ → ℕ → Answer Listed
+unfoldable pub radioList : Bool → List ℕ → ℕ → Answer ListAt
 radioList false s p = gives (record { many = 0; first = p })
 radioList true s p = reaching (p + 1) s (record { many = getD s p 0; first = p + 1 })
 
 -- a value that is there whole
 pub record Laid : Type 0 where
   pub texts : Pieces
-  pub list : Listed
+  pub list : ListAt
   pub radios : Pieces
 
 unfoldable pub laidOf : TextKind → List ℕ → Answer Laid
@@ -65,10 +65,10 @@ laidOf k s =
     mapped (λ r. record { texts = t; list = m; radios = r }) (piecesAt (m .many) radio s (m .first))))
 
 -- "Text is valid by RFC 3629": that of each piece
-abbrev pub textIn : List ℕ → Held → List ℕ
+abbrev pub textIn : List ℕ → ReadPiece → List ℕ
 textIn s h = partOf (gives (h .text)) s
 
-abbrev pub allValid : List ℕ → List Held → Bool
+abbrev pub allValid : List ℕ → List ReadPiece → Bool
 allValid s [] = true
 allValid s (h ∷ hs) = cond (isUtf8 (textIn s h)) (allValid s hs) false
 

@@ -1,5 +1,5 @@
 // A radio by its number, and a text by its own.
-use crate::pieces::Held;
+use crate::pieces::ReadPiece;
 use crate::pieces::nth;
 use crate::reading::Laid;
 use crate::reading::read_row;
@@ -14,36 +14,36 @@ ghost use Rattle.numbers.specs.Numbers.{mapped, andThen};
 ghost use Rattle.numbers.specs.Parts.{behind};
 ghost use Rattle.layouts.specs.Access.{numbersOf, locatedOf, countedOf, partOf, startIn};
 ghost use Rattle.texts.specs.Reading.{wholeOf};
-ghost use Rattle.texts.specs.Access.{numbered, wholeSpan, textSpan, radioIn, countIn};
-ghost use Rattle.texts.specs.PrivatePieces.{rowKind, heldTold, InValue};
+ghost use Rattle.texts.specs.Access.{nthOf, wholeSpan, textSpan, radioIn, radioCount};
+ghost use Rattle.texts.specs.PrivatePieces.{rowKind, pieceTold, InValue};
 
 // A piece from its start to its end.
-fn whole_span(held: Held) -> Located
-    ensures { λ r. ⌜ locatedOf r ≡ mapped wholeSpan (heldTold held) ⌝ }
+fn whole_span(piece: ReadPiece) -> Located
+    ensures { λ r. ⌜ locatedOf r ≡ mapped wholeSpan (pieceTold piece) ⌝ }
 {
-    match held {
-        Held::Of {
+    match piece {
+        ReadPiece::Of {
             at,
             start: _,
             stop: _,
             end,
         } => Located::Entry { start: at, end },
-        Held::Refused(r) => Located::Refused(r),
+        ReadPiece::Refused(r) => Located::Refused(r),
     }
 }
 
 // The text of a piece.
-fn text_span(held: Held) -> Located
-    ensures { λ r. ⌜ locatedOf r ≡ mapped textSpan (heldTold held) ⌝ }
+fn text_span(piece: ReadPiece) -> Located
+    ensures { λ r. ⌜ locatedOf r ≡ mapped textSpan (pieceTold piece) ⌝ }
 {
-    match held {
-        Held::Of {
+    match piece {
+        ReadPiece::Of {
             at: _,
             start,
             stop,
             end: _,
         } => Located::Entry { start, end: stop },
-        Held::Refused(r) => Located::Refused(r),
+        ReadPiece::Refused(r) => Located::Refused(r),
     }
 }
 
@@ -76,7 +76,7 @@ pub(crate) fn radio_in(row: Row, path: Path, s: &[u8]) -> Located
 
 // How many radios such a value has.
 pub(crate) fn count_in(row: Row, path: Path, s: &[u8]) -> Counted
-    ensures { λ r. ⌜ countedOf r ≡ andThen (wholeOf (rowKind row) (now (s .entry))) (λ v. countIn (row .radios) (numbersOf path) v) ⌝ }
+    ensures { λ r. ⌜ countedOf r ≡ andThen (wholeOf (rowKind row) (now (s .entry))) (λ v. radioCount (row .radios) (numbersOf path) v) ⌝ }
 {
     match read_row(row, s) {
         Laid::Of {
@@ -97,7 +97,7 @@ pub(crate) fn count_in(row: Row, path: Path, s: &[u8]) -> Counted
 
 // The text with this number of such a value's own, and of its radios.
 pub(crate) fn text_in(row: Row, number: usize, s: &[u8]) -> Located
-    ensures { λ r. ⌜ locatedOf r ≡ andThen (wholeOf (rowKind row) (now (s .entry))) (λ v. mapped textSpan (numbered (v .texts .each) number)) ⌝ }
+    ensures { λ r. ⌜ locatedOf r ≡ andThen (wholeOf (rowKind row) (now (s .entry))) (λ v. mapped textSpan (nthOf (v .texts .each) number)) ⌝ }
 {
     match read_row(row, s) {
         Laid::Of {
@@ -113,7 +113,7 @@ pub(crate) fn text_in(row: Row, number: usize, s: &[u8]) -> Located
 }
 
 pub(crate) fn radio_text_in(row: Row, number: usize, s: &[u8]) -> Located
-    ensures { λ r. ⌜ locatedOf r ≡ andThen (wholeOf (rowKind row) (now (s .entry))) (λ v. mapped textSpan (numbered (v .radios .each) number)) ⌝ }
+    ensures { λ r. ⌜ locatedOf r ≡ andThen (wholeOf (rowKind row) (now (s .entry))) (λ v. mapped textSpan (nthOf (v .radios .each) number)) ⌝ }
 {
     match read_row(row, s) {
         Laid::Of { n, first, end: _ } => text_span(nth(radio(), n, number, s, first)),

@@ -8,10 +8,10 @@ ghost use Prim.Native.Nat.{_≤_, _<_};
 ghost use lib.ListN.{length};
 ghost use Rattle.numbers.specs.Numbers.{mapped};
 ghost use Rattle.texts.specs.Reading.{untilZero, pieceAt, piecesAt};
-ghost use Rattle.texts.specs.PrivatePieces.{pieceOf, heldTold, endTold, endIn, validIn, nthAt};
+ghost use Rattle.texts.specs.PrivatePieces.{pieceOf, pieceTold, endTold, endIn, validIn, nthAt};
 
 // A piece that was read: where it starts, where its text starts and ends, and where it ends.
-pub enum Held {
+pub enum ReadPiece {
     Of {
         at: usize,
         start: usize,
@@ -42,16 +42,16 @@ fn until_zero(s: &[u8]) -> usize
 }
 
 // The field of n bytes that starts at `at`.
-fn field_at(n: usize, s: &[u8], at: usize) -> Held
+fn field_at(n: usize, s: &[u8], at: usize) -> ReadPiece
     requires { ⌜ at ≤ length (now s) ⌝ }
-    ensures { λ r. ⌜ heldTold r ≡ pieceAt (pieceOf (Piece.Field n)) (now (s .entry)) at ⌝ }
+    ensures { λ r. ⌜ pieceTold r ≡ pieceAt (pieceOf (Piece.Field n)) (now (s .entry)) at ⌝ }
 {
     if s.len() - at < n {
-        return Held::Refused(Refusal::CutShort);
+        return ReadPiece::Refused(Refusal::CutShort);
     }
     let end = at + n;
     let field = &s[at..end];
-    Held::Of {
+    ReadPiece::Of {
         at,
         start: at,
         stop: at + until_zero(field),
@@ -60,20 +60,20 @@ fn field_at(n: usize, s: &[u8], at: usize) -> Held
 }
 
 // The string that stands behind n bytes and its one-byte length.
-fn string_at(n: usize, s: &[u8], at: usize) -> Held
+fn string_at(n: usize, s: &[u8], at: usize) -> ReadPiece
     requires { ⌜ at ≤ length (now s) ⌝ }
-    ensures { λ r. ⌜ heldTold r ≡ pieceAt (pieceOf (Piece.Counted n)) (now (s .entry)) at ⌝ }
+    ensures { λ r. ⌜ pieceTold r ≡ pieceAt (pieceOf (Piece.Counted n)) (now (s .entry)) at ⌝ }
 {
     if s.len() - at <= n {
-        return Held::Refused(Refusal::CutShort);
+        return ReadPiece::Refused(Refusal::CutShort);
     }
     let size = wide(s[at + n]);
     let start = at + n + 1;
     if s.len() - start < size {
-        return Held::Refused(Refusal::CutShort);
+        return ReadPiece::Refused(Refusal::CutShort);
     }
     let end = start + size;
-    Held::Of {
+    ReadPiece::Of {
         at,
         start,
         stop: end,
@@ -82,14 +82,14 @@ fn string_at(n: usize, s: &[u8], at: usize) -> Held
 }
 
 // The piece that starts at `at`.
-pub(crate) fn piece_at(piece: Piece, s: &[u8], at: usize) -> Held
+pub(crate) fn piece_at(piece: Piece, s: &[u8], at: usize) -> ReadPiece
     requires { ⌜ at ≤ length (now s) ⌝ }
-    ensures { λ r. ⌜ heldTold r ≡ pieceAt (pieceOf piece) (now (s .entry)) at ⌝ }
+    ensures { λ r. ⌜ pieceTold r ≡ pieceAt (pieceOf piece) (now (s .entry)) at ⌝ }
 {
     match piece {
         Piece::Field(n) => field_at(n, s, at),
         Piece::Counted(n) => string_at(n, s, at),
-        Piece::ToEnd => Held::Of {
+        Piece::ToEnd => ReadPiece::Of {
             at,
             start: at,
             stop: s.len(),
@@ -107,7 +107,7 @@ pub(crate) fn skip(piece: Piece, n: usize, s: &[u8], at: usize) -> End
     let mut i = 0;
     while i < n {
         match piece_at(piece, s, p) {
-            Held::Of {
+            ReadPiece::Of {
                 at: _,
                 start: _,
                 stop: _,
@@ -115,7 +115,7 @@ pub(crate) fn skip(piece: Piece, n: usize, s: &[u8], at: usize) -> End
             } => {
                 p = end;
             }
-            Held::Refused(r) => {
+            ReadPiece::Refused(r) => {
                 return End::Refused(r);
             }
         }
@@ -133,7 +133,7 @@ pub(crate) fn all_valid(piece: Piece, n: usize, s: &[u8], at: usize) -> bool
     let mut i = 0;
     while i < n {
         match piece_at(piece, s, p) {
-            Held::Of {
+            ReadPiece::Of {
                 at: _,
                 start,
                 stop,
@@ -144,7 +144,7 @@ pub(crate) fn all_valid(piece: Piece, n: usize, s: &[u8], at: usize) -> bool
                 }
                 p = end;
             }
-            Held::Refused(_) => {
+            ReadPiece::Refused(_) => {
                 return false;
             }
         }
@@ -154,9 +154,9 @@ pub(crate) fn all_valid(piece: Piece, n: usize, s: &[u8], at: usize) -> bool
 }
 
 // Piece i of n, the first of which starts at `at`.
-pub(crate) fn nth(piece: Piece, n: usize, i: usize, s: &[u8], at: usize) -> Held
+pub(crate) fn nth(piece: Piece, n: usize, i: usize, s: &[u8], at: usize) -> ReadPiece
     requires { ⌜ at ≤ length (now s) ⌝ }
-    ensures { λ r. ⌜ heldTold r ≡ nthAt (pieceOf piece) n i (now (s .entry)) at ⌝ }
+    ensures { λ r. ⌜ pieceTold r ≡ nthAt (pieceOf piece) n i (now (s .entry)) at ⌝ }
 {
     if i < n {
         match skip(piece, i, s, at) {
@@ -164,9 +164,9 @@ pub(crate) fn nth(piece: Piece, n: usize, i: usize, s: &[u8], at: usize) -> Held
                 return piece_at(piece, s, p);
             }
             End::Refused(r) => {
-                return Held::Refused(r);
+                return ReadPiece::Refused(r);
             }
         }
     }
-    Held::Refused(Refusal::NoEntry)
+    ReadPiece::Refused(Refusal::NoEntry)
 }

@@ -11,7 +11,7 @@ use lib.Seq.{take-append-seam, drop-append-seam}
 use lib.Dec.{leb}
 use borrow.Author.Tests.{leb-true}
 use Rattle.utf8.specs.Utf8.{Range, Form, forms, Fits, OneOf, Characters, joined, Octets, inRange, begun, goesOn, passes, isUtf8}
-use Rattle.utf8.specs.Claims.{Exactly, startOf, Cut}
+use Rattle.utf8.specs.Claims.{Exactly, beginOf, Cut}
 use Rattle.utf8.proofs.Grammar.{in-range, Begins, begun-is}
 
 never-true : {A : Type 0} → false ≡ true → A
@@ -134,6 +134,6 @@ cut s o n =
     let a = joined (take n (o .list)) in
     let b = joined (drop n (o .list)) in
     let all : s ≡ a ++ b = sym (rejoined n (o .list) ∙ o .all) in
-    let front : take (startOf o n) s ≡ a = ap (take (startOf o n)) all ∙ take-append-seam a b in
-    let back : drop (startOf o n) s ≡ b = ap (drop (startOf o n)) all ∙ drop-append-seam a b in
+    let front : take (beginOf o n) s ≡ a = ap (take (beginOf o n)) all ∙ take-append-seam a b in
+    let back : drop (beginOf o n) s ≡ b = ap (drop (beginOf o n)) all ∙ drop-append-seam a b in
     (ap isUtf8 front ∙ characters-pass (take n (o .list)) (first-ones n (o .list) (o .each)), ap isUtf8 back ∙ characters-pass (drop n (o .list)) (others n (o .list) (o .each)))

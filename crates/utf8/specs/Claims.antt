@@ -16,9 +16,9 @@ abbrev pub Exactly : Type 0
 Exactly = (s : List ℕ) → (isUtf8 s ≡ true → Octets s) × (Octets s → isUtf8 s ≡ true)
 
 -- where character n of a text starts, and so where the one before it ends
-abbrev pub startOf : {s : List ℕ} → Octets s → ℕ → ℕ
-startOf o n = length (joined (take n (o .list)))
+abbrev pub beginOf : {s : List ℕ} → Octets s → ℕ → ℕ
+beginOf o n = length (joined (take n (o .list)))
 
 -- a text that is cut there is two texts
 abbrev pub Cut : Type 0
-Cut = (s : List ℕ) (o : Octets s) (n : ℕ) → (isUtf8 (take (startOf o n) s) ≡ true) × (isUtf8 (drop (startOf o n) s) ≡ true)
+Cut = (s : List ℕ) (o : Octets s) (n : ℕ) → (isUtf8 (take (beginOf o n) s) ≡ true) × (isUtf8 (drop (beginOf o n) s) ≡ true)

@@ -7,7 +7,7 @@ use Rattle.numbers.specs.Numbers.{Answer, refuses, number, values}
 use Rattle.numbers.specs.declared.Refusal.{Refusal}
 use Rattle.numbers.proofs.Firm.{firm-numbered, never}
 use Rattle.numbers.proofs.Answers.{given}
-use Rattle.walking.specs.Walk.{Counted, steppedOf, walkedOf}
+use Rattle.walking.specs.Walk.{WalkCount, steppedOf, walkedOf}
 use Rattle.walking.specs.declared.Stepped.{Stepped}
 use Rattle.walking.specs.declared.Stepped.the-variants as Stepped
 use Rattle.walking.specs.declared.Walked.{Walked}
@@ -20,8 +20,8 @@ with-offset r r′ at at′ e = (firm-numbered r r′ (cc) (cc), cc)
 pub walked-one : (a b : Walked) → walkedOf a ≡ walkedOf b → a ≡ b
 walked-one (Walked.Count n k) (Walked.Count m l) e =
     let o = given _ _ e in
-    let i : n ≡ m = ap (λ (c : Counted). c .count) o in
-    let j : k ≡ l = ap (λ (c : Counted). c .padding) o in
+    let i : n ≡ m = ap (λ (c : WalkCount). c .count) o in
+    let j : k ≡ l = ap (λ (c : WalkCount). c .padding) o in
     rw (i, j)
 walked-one (Walked.Count n k) (Walked.Refused r at) e = never _ _ _ e
 walked-one (Walked.Refused r at) (Walked.Count n k) e = never _ _ _ (sym e)

@@ -6,11 +6,11 @@ use native.Mathlib.Omega.{arith}
 use lib.ListN.{length}
 use Rattle.numbers.specs.Numbers.{Answer, gives, refuses, mapped}
 use Rattle.walking.specs.declared.Tlv.{Tlv}
-use Rattle.walking.specs.Walk.{Ahead, ended, passed, last, Counted, stepAt, Walk, walkBy, walkFrom, walkOf, counted}
+use Rattle.walking.specs.Walk.{Ahead, ended, passed, last, WalkCount, stepAt, Walk, walkBy, walkFrom, walkOf, counted}
 use Rattle.walking.proofs.Stepping.{passes, turn}
 
 -- the answer of a walk w that had passed k TLVs before it
-abbrev countedFrom : ℕ → Walk → Answer Counted
+abbrev countedFrom : ℕ → Walk → Answer WalkCount
 countedFrom k w = mapped (λ padding. record { count = k + length (w .tlvs); padding = padding }) (w .end)
 
 pub record Walking (p : List ℕ) (at k : ℕ) : Type 0 where

@@ -5,7 +5,7 @@ use Prim.Native.Nat.{ℕ, _+_, _<_, _≤_}
 use lib.ListN.{length, getD}
 use Rattle.numbers.specs.Numbers.{Answer, gives, refuses}
 use Rattle.walking.specs.declared.Tlv.{Tlv}
-use Rattle.walking.specs.Walk.{Ahead, ended, passed, last, Counted, walkOf, listed, noTlv}
+use Rattle.walking.specs.Walk.{Ahead, ended, passed, last, WalkCount, walkOf, listed, noTlv}
 
 -- the TLV of a step, if it passes one, and where the next one stands
 abbrev pub tlvBy : Answer Ahead → Tlv
@@ -22,11 +22,11 @@ abbrev pub IsNumber : List ℕ → ℕ → Tlv → Type 0
 IsNumber p i t = i < length (walkOf p .tlvs) → t ≡ getD (walkOf p .tlvs) i noTlv
 
 -- how many entries are filled
-abbrev pub fills : Answer Counted → ℕ
+abbrev pub fills : Answer WalkCount → ℕ
 fills (gives c) = c .count
 fills (refuses n vs) = 0
 
-pub record Plan (p : List ℕ) (room count : ℕ) (first : Tlv) (answer : Answer Counted) : Type 0 where
+pub record Plan (p : List ℕ) (room count : ℕ) (first : Tlv) (answer : Answer WalkCount) : Type 0 where
   pub answered : answer ≡ listed room (walkOf p)
   pub counts : count ≡ fills (listed room (walkOf p))
   pub starts : IsNumber p 0 first

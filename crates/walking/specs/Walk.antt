@@ -24,7 +24,7 @@ pub data Ahead : Type 0 where
   last : Tlv → ℕ → Ahead
 
 -- the number of TLVs, and the padding's length
-pub record Counted : Type 0 where
+pub record WalkCount : Type 0 where
   pub count : ℕ
   pub padding : ℕ
 
@@ -35,7 +35,7 @@ steppedOf (Stepped.Tlv t next) = gives (passed t next)
 steppedOf (Stepped.Last t end) = gives (last t end)
 steppedOf (Stepped.Refused r at) = refuses (number r) (at ∷ values r)
 
-abbrev pub walkedOf : Walked → Answer Counted
+abbrev pub walkedOf : Walked → Answer WalkCount
 walkedOf (Walked.Count n padding) = gives (record { count = n; padding = padding })
 walkedOf (Walked.Refused r at) = refuses (number r) (at ∷ values r)
 
@@ -73,7 +73,7 @@ unfoldable pub walkOf : List ℕ → Walk
 walkOf p = walkFrom (length p) p 0
 
 -- "The answer is the number of TLVs", and the padding's length
-abbrev pub counted : Walk → Answer Counted
+abbrev pub counted : Walk → Answer WalkCount
 counted w = mapped (λ padding. record { count = length (w .tlvs); padding = padding }) (w .end)
 
 -- the offset of a TLV of the list, by its number from 0
@@ -84,10 +84,10 @@ abbrev pub offsetAt : List Tlv → ℕ → ℕ
 offsetAt tlvs k = getD tlvs k noTlv .offset
 
 -- the same with a list that has room for so many: 1 or 2 wherever it occurs, before 14 with the offset of the first TLV without a place
-abbrev pub listed : ℕ → Walk → Answer Counted
+abbrev pub listed : ℕ → Walk → Answer WalkCount
 listed room w = andThen (counted w) (λ c. cond (ltb room (c .count)) (refuses 14 (offsetAt (w .tlvs) room ∷ [])) (gives c))
 
 -- what the list then holds: "List entries past the last TLV stay as lent", on a refusal all do
-abbrev pub filled : Answer Counted → List Tlv → List Tlv → List Tlv
+abbrev pub filled : Answer WalkCount → List Tlv → List Tlv → List Tlv
 filled (gives c) tlvs list = tlvs ++ drop (c .count) list
 filled (refuses n vs) tlvs list = list

@@ -4,7 +4,7 @@ use denote.Ref.{now}
 use borrow.Author.Needs.{needs}
 use Rattle.records.specs.declared.MacAddr.{MacAddr}
 use Rattle.stations.specs.Addresses.{numberOf}
-use Rattle.stations.specs.Rows.{placeOf, shown}
+use Rattle.stations.specs.Rows.{whereOf, whereShown}
 use Rattle.ashlar.specs.Stations.{whereNumbers}
 use Rattle.ashlar.proofs.ashlar_station_at.Statement.{statement}
 use Rattle.ashlar.proofs.ashlar_station_at.Tie as tie
@@ -16,7 +16,7 @@ returns c =
     let a = v .before in
     let x = a .before .args in
     rw (c .address-for .ensures)
-    (ap whereNumbers (sym (k .place .given .1) ∙ v .where-is .ensures ∙ ap (λ (m : MacAddr). shown (placeOf (now (x .t)) (numberOf m))) (a .address-in .ensures)))
+    (ap whereNumbers (sym (k .place .given .1) ∙ v .where-is .ensures ∙ ap (λ (m : MacAddr). whereShown (whereOf (now (x .t)) (numberOf m))) (a .address-in .ensures)))
 
 returns-2 : tie.Need-returns-2
 returns-2 c =
@@ -25,7 +25,7 @@ returns-2 c =
     let a = v .before in
     let x = a .before .args in
     rw (c .no-address .ensures)
-    (ap whereNumbers (sym (k .enum-told .given .1) ∙ v .where-is .ensures ∙ ap (λ (m : MacAddr). shown (placeOf (now (x .t)) (numberOf m))) (a .address-in .ensures)))
+    (ap whereNumbers (sym (k .enum-told .given .1) ∙ v .where-is .ensures ∙ ap (λ (m : MacAddr). whereShown (whereOf (now (x .t)) (numberOf m))) (a .address-in .ensures)))
 
 pub ashlar-station-at-spec : {M : Type 1} → statement M
 ashlar-station-at-spec =

@@ -42,7 +42,7 @@ use denote.Triple.Walked.{says, needs, Stays, stay-ref, stay-none, stay-none-sli
 use denote.Exit.{yes}
 use Rattle.table.specs.declared.Table.{Table}
 use Rattle.pushing.specs.declared.Arrival.{Arrival}
-use Rattle.pushing.specs.declared.Stepped.{Stepped}
+use Rattle.pushing.specs.declared.AfterPush.{AfterPush}
 use Rattle.pushing.specs.Push.{way, Goes}
 use Rattle.pushing.specs.Made.{Made}
 use Rattle.pushing.proofs.Pushed as E
@@ -51,8 +51,8 @@ use Rattle.table.proofs.Table as T
 use Rattle.table.proofs.Table.Laws as T′
 use Rattle.pushing.proofs.Arrival as P
 use Rattle.pushing.proofs.Arrival.Laws as P′
-use Rattle.pushing.proofs.Stepped as S
-use Rattle.pushing.proofs.Stepped.Laws as S′
+use Rattle.pushing.proofs.AfterPush as S
+use Rattle.pushing.proofs.AfterPush.Laws as S′
 use Rattle.pushing.proofs.push_step as callee
 use Rattle.pushing.proofs.push_step.Symbol as callee-def
 use Rattle.pushing.proofs.push_step.Symbol.{name as #callee}
@@ -70,13 +70,13 @@ abbrev Callee : {M : Type 1} (𝓤 : URA M) (H : Heap 𝓤) (A : Atoms 𝓤) (at
 Callee 𝓤 H A at-mem run = tripleOf 𝓤 H A callee.signature (callee.spec 𝓤 H A at-mem run)
 
 -- what is known of the result's two fields
-new-is : (r : Stepped) (w : Val) → Is S.the-row r (w ∷ []) → Is T.the-row (r .table) (LL.vals T.the-type T′.the-laws (r .table))
+new-is : (r : AfterPush) (w : Val) → Is S.the-row r (w ∷ []) → Is T.the-row (r .table) (LL.vals T.the-type T′.the-laws (r .table))
 new-is r w is = LL.owed S.the-type S′.the-laws r _ is .0
 
-abbrev av : Stepped → Val
+abbrev av : AfterPush → Val
 av r = EL.val E.the-type E′.the-laws (r .answer)
 
-answer-is : (r : Stepped) (w : Val) → Is S.the-row r (w ∷ []) → Is E.the-row (r .answer) (av r ∷ [])
+answer-is : (r : AfterPush) (w : Val) → Is S.the-row r (w ∷ []) → Is E.the-row (r .answer) (av r ∷ [])
 answer-is r w is = LL.owed S.the-type S′.the-laws r _ is .1 .0
 
 module _ {M : Type 1} (𝓤 : URA M) (H : Heap 𝓤) (A : Atoms 𝓤) (W : Given 𝓤 H A) (at-mem : Memory → SProp 𝓤) (run : Routine → Fun 𝓤) (κ₀ κ₁ κ₂ κ₃ : Lft) (q₀ q₁ q₂ q₃ : Share) (b o : ℕ) (γ : GName) (h : Table) (x y : RefT (List ℕ)) (d : Arrival) (s : RefT (List ℕ))
@@ -108,7 +108,7 @@ module _ {M : Type 1} (𝓤 : URA M) (H : Heap 𝓤) (A : Atoms 𝓤) (W : Given
   abbrev Post : Val → SProp 𝓤
   Post = walkOf 𝓤 H A f.ended stayed (f.clauses 𝓤 H A at-mem run) .post (((κ₀, (κ₁, (κ₂, (κ₃, tt)))), (q₀, (q₁, (q₂, (q₃, tt)))), tt, a, at), tt)
 
-  abbrev Says : Stepped → List ℕ → List ℕ → Type 0
+  abbrev Says : AfterPush → List ℕ → List ℕ → Type 0
   Says r zs ys = Goes (way h (now x) d (now s) (length (now y))) h (now x) (now y) d (now s) (r .answer) (r .table) zs ys
 
   abbrev Own : Fml
@@ -131,7 +131,7 @@ module _ {M : Type 1} (𝓤 : URA M) (H : Heap 𝓤) (A : Atoms 𝓤) (W : Given
       nothing ! $ move ! (2 ∷ 0 ∷ []) $ fjoin ! $ owned ! P.the-row (Is P.the-row) (LL.makes P.the-type P′.the-plain 𝓤 H A) d _ d-is $ fjoin ! $ move ! (1 ∷ 0 ∷ []) $ fjoin ! $ move ! (2 ∷ 0 ∷ []) $ fjoin ! $
       owned ! T.the-row (Is T.the-row) (LL.makes T.the-type T′.the-plain 𝓤 H A) h _ h-is $ fjoin ! $ move ! (1 ∷ 0 ∷ []) $ frame ! $ done !
 
-  exits : (r : Stepped) (zs ys : List ℕ) → Is E.the-row (r .answer) (av r ∷ []) → Says r zs ys → length zs ≡ length (now x) → length ys ≡ length (now y)
+  exits : (r : AfterPush) (zs ys : List ℕ) → Is E.the-row (r .answer) (av r ∷ []) → Says r zs ys → length zs ≡ length (now x) → length ys ≡ length (now y)
       → ent 𝓤 (⋆ 𝓤 H A (‵ (fobs γ (T.the-row .coded .code (r .table))) ∷ ‵ (fbor κ₀ (Body (mem T.the-row) b o γ)) ∷ ‵ (flft κ₀ q₀) ∷ (‵ (flft κ₁ q₁) ⊛ ‵ (flft κ₂ q₂) ⊛ ‵ (flft κ₃ q₃) ⊛ ‵ ftrue) ∷ ‵ (finally u8 (x .name) zs) ∷ ‵ (finally u8 (y .name) ys) ∷ ‵ Own ∷ [])) (Post (av r))
   exits r zs ys fits e l m =
       qed W (‵ (fobs γ (T.the-row .coded .code (r .table))) ∷ ‵ (fbor κ₀ (Body (mem T.the-row) b o γ)) ∷ ‵ (flft κ₀ q₀) ∷ (‵ (flft κ₁ q₁) ⊛ ‵ (flft κ₂ q₂) ⊛ ‵ (flft κ₃ q₃) ⊛ ‵ ftrue) ∷ ‵ (finally u8 (x .name) zs) ∷ ‵ (finally u8 (y .name) ys) ∷ ‵ Own ∷ []) ∵
@@ -166,7 +166,7 @@ module _ {M : Type 1} (𝓤 : URA M) (H : Heap 𝓤) (A : Atoms 𝓤) (W : Given
         move ! (32 ∷ 29 ∷ []) $ fjoin ! $ move ! (33 ∷ 32 ∷ 0 ∷ []) $ use3 W (raw (Callee 𝓤 H A at-mem run .pre to)) (handed h-is) $
         -- [what the callee asks; the cell; what it owns; the open borrow; obs; auth; _11 (6); …; _0 (28); …; what payload owns (30); true]
         calls-at ! fm (Callee 𝓤 H A at-mem run) known to (and-then ! (load ! (from ! (stop !)) (look ! 14 refl)) (and-then ! (load ! (from ! (stop !)) (look ! 10 refl)) (and-then ! (load ! (from ! (stop !)) (look ! 6 refl)) (and-then ! (load ! (from ! (stop !)) (look ! 20 refl)) (and-then ! (load ! (from ! (stop !)) (look ! 18 refl)) (no-more !)))))) (λ w.
-        use1 W (later (some (λ (r : Stepped). ((‵ (flft κ₁ q₁) ⊛ ‵ (flft κ₂ q₂) ⊛ ‵ (flft κ₃ q₃) ⊛ ‵ ftrue) ⊛ ‵ (S.the-row .own r (w ∷ []))) ⊛ raw (ensured 𝓤 H A callee.ended (callee.clauses 𝓤 H A at-mem run) (κ₁, (κ₂, (κ₃, tt))) (h, (x, (y, (d, (s, tt))))) tt r)))) (id⊢ 𝓤 _) $ await ! tt $ pick ! (λ r.
+        use1 W (later (some (λ (r : AfterPush). ((‵ (flft κ₁ q₁) ⊛ ‵ (flft κ₂ q₂) ⊛ ‵ (flft κ₃ q₃) ⊛ ‵ ftrue) ⊛ ‵ (S.the-row .own r (w ∷ []))) ⊛ raw (ensured 𝓤 H A callee.ended (callee.clauses 𝓤 H A at-mem run) (κ₁, (κ₂, (κ₃, tt))) (h, (x, (y, (d, (s, tt))))) tt r)))) (id⊢ 𝓤 _) $ await ! tt $ pick ! (λ r.
         split ! $ move ! (1 ∷ []) $ use1 W (some (λ (zs : Unit {0} × (List ℕ × (List ℕ × (Unit {0} × (Unit {0} × Unit {0}))))). ‵ (lasts callee.ended (κ₁, (κ₂, (κ₃, tt))) (h, (x, (y, (d, (s, tt))))) zs) ⊛ raw (fact 𝓤 (Says r (zs .1 .0) (zs .1 .1 .0))))) (id⊢ 𝓤 _) $ pick ! (λ zs.
         split ! $ move ! (1 ∷ []) $ heard ! (Says r (zs .1 .0) (zs .1 .1 .0)) (λ e. fsplit ! $ drop ! $ fsplit ! $ fsplit ! $ move ! (1 ∷ []) $ feqL ! (λ l.
         -- [the store's last list; the others; the tokens and the result; the cell (3); …]

@@ -7,7 +7,7 @@ use lib.Seq.{paste}
 use native.Mathlib.Omega.{arith}
 use denote.Ref.{now}
 use Rattle.pushing.specs.Push.{over}
-use Rattle.pushing.specs.PrivateSteps.{pieceAt, pieceBytes, piecesTo}
+use Rattle.pushing.specs.PrivateSteps.{fragmentAt, pieceBytes, piecesTo}
 use Rattle.pushing.proofs.Pieces.{pieces-none, pieces-next, next-fits, grown}
 use borrow.Author.Needs.{needs}
 use Rattle.pushing.proofs.join.join_into.Statement.{statement}
@@ -50,7 +50,7 @@ loop-again c =
     let b = c .before .before .before .before .before .before in
     let k = b .loop .k in
     let upto = piecesTo (now (a .sizes)) (now (a .owners)) (now (a .numbers)) (now (a .store)) (a .row) (a .number) (now (a .payload)) in
-    let bytes = pieceBytes (now (a .sizes)) (now (a .store)) (now (a .payload)) (pieceAt (now (a .owners)) (now (a .numbers)) (a .row) (a .number) k) in
+    let bytes = pieceBytes (now (a .sizes)) (now (a .store)) (now (a .payload)) (fragmentAt (now (a .owners)) (now (a .numbers)) (a .row) (a .number) k) in
     let same = ap (pieceBytes (now (a .sizes)) (now (a .store)) (now (a .payload))) (c .before .before .before .before .piece-at .ensures) in
     let next = pieces-next (now (a .sizes)) (now (a .owners)) (now (a .numbers)) (now (a .store)) (a .row) (a .number) (now (a .payload)) k in (
       search needs,

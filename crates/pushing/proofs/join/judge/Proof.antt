@@ -6,7 +6,7 @@ use denote.Ref.{now}
 use Rattle.pushing.specs.declared.join.Reach.{Reach}
 use Rattle.pushing.specs.declared.join.Verdict.the-variants.{Message}
 use Rattle.table.specs.Rows.{ownerOf}
-use Rattle.pushing.specs.PrivateSteps.{placesIn, beyondIn, countFor, pieceAt, markedAt, sizeTo}
+use Rattle.pushing.specs.PrivateSteps.{placesIn, beyondIn, countFor, fragmentAt, markedAt, sizeTo}
 use Rattle.pushing.proofs.Pieces.{count-some, verdict-unlike, verdict-new, verdict-beyond, verdict-message, verdict-unmarked}
 use borrow.Author.Needs.{needs}
 use Rattle.pushing.proofs.join.judge.Statement.{statement}
@@ -44,8 +44,8 @@ returns-4 c =
     let a = c .before .before .before .before .before .before .before .before .before .before .args in
     let count-is : c .before .before .before .before .before .before .before .reach-of .result .count ≡ countFor (now (a .owners)) (now (a .numbers)) (a .row) (a .f .number) = ap (λ (z : Reach). z .count) (c .before .before .before .before .before .before .before .reach-of .ensures .0) in
     let beyond-is : c .before .before .before .before .find-beyond .result ≡ beyondIn (now (a .owners)) (now (a .numbers)) (ownerOf (a .row)) (countFor (now (a .owners)) (now (a .numbers)) (a .row) (a .f .number)) = c .before .before .before .before .find-beyond .ensures .0 ∙ ap (beyondIn (now (a .owners)) (now (a .numbers)) (ownerOf (a .row))) count-is in
-    let marked-is : c .before .marked-at .result ≡ markedAt (a .f .last) (pieceAt (now (a .owners)) (now (a .numbers)) (a .row) (a .f .number) (countFor (now (a .owners)) (now (a .numbers)) (a .row) (a .f .number) - 1)) =
-    c .before .marked-at .ensures ∙ ap (markedAt (a .f .last)) (c .before .before .piece-at .ensures ∙ ap (λ (n : ℕ). pieceAt (now (a .owners)) (now (a .numbers)) (a .row) (a .f .number) (n - 1)) count-is) in
+    let marked-is : c .before .marked-at .result ≡ markedAt (a .f .last) (fragmentAt (now (a .owners)) (now (a .numbers)) (a .row) (a .f .number) (countFor (now (a .owners)) (now (a .numbers)) (a .row) (a .f .number) - 1)) =
+    c .before .marked-at .ensures ∙ ap (markedAt (a .f .last)) (c .before .before .piece-at .ensures ∙ ap (λ (n : ℕ). fragmentAt (now (a .owners)) (now (a .numbers)) (a .row) (a .f .number) (n - 1)) count-is) in
     let total-is : c .before .before .before .before .before .before .before .reach-of .result .total ≡ sizeTo (now (a .sizes)) (now (a .owners)) (now (a .numbers)) (a .row) (a .f .number) (a .size) (countFor (now (a .owners)) (now (a .numbers)) (a .row) (a .f .number)) = ap (λ (z : Reach). z .total) (c .before .before .before .before .before .before .before .reach-of .ensures .0) in
     (λ j. Message (count-is j) (total-is j)) ∙ sym (verdict-message (placesIn (now (a .types)) (now (a .sizes)) (now (a .owners)) (now (a .numbers)) (now (a .versions))) (a .row) (a .f) (a .size) (omega (arith, c .before .before .before .before .before .before .before .before .before .find-unlike .ensures .0, c .before .before .before .before .before .before .before .before .if1 .left)) (omega (arith, c .before .before .before .before .before .if2 .left)) (omega (arith, c .before .before .before .if3 .left)) (sym marked-is ∙ c .if4 .taken))
 
@@ -54,8 +54,8 @@ returns-5 c =
     let a = c .before .before .before .before .before .before .before .before .before .before .args in
     let count-is : c .before .before .before .before .before .before .before .reach-of .result .count ≡ countFor (now (a .owners)) (now (a .numbers)) (a .row) (a .f .number) = ap (λ (z : Reach). z .count) (c .before .before .before .before .before .before .before .reach-of .ensures .0) in
     let beyond-is : c .before .before .before .before .find-beyond .result ≡ beyondIn (now (a .owners)) (now (a .numbers)) (ownerOf (a .row)) (countFor (now (a .owners)) (now (a .numbers)) (a .row) (a .f .number)) = c .before .before .before .before .find-beyond .ensures .0 ∙ ap (beyondIn (now (a .owners)) (now (a .numbers)) (ownerOf (a .row))) count-is in
-    let marked-is : c .before .marked-at .result ≡ markedAt (a .f .last) (pieceAt (now (a .owners)) (now (a .numbers)) (a .row) (a .f .number) (countFor (now (a .owners)) (now (a .numbers)) (a .row) (a .f .number) - 1)) =
-    c .before .marked-at .ensures ∙ ap (markedAt (a .f .last)) (c .before .before .piece-at .ensures ∙ ap (λ (n : ℕ). pieceAt (now (a .owners)) (now (a .numbers)) (a .row) (a .f .number) (n - 1)) count-is) in
+    let marked-is : c .before .marked-at .result ≡ markedAt (a .f .last) (fragmentAt (now (a .owners)) (now (a .numbers)) (a .row) (a .f .number) (countFor (now (a .owners)) (now (a .numbers)) (a .row) (a .f .number) - 1)) =
+    c .before .marked-at .ensures ∙ ap (markedAt (a .f .last)) (c .before .before .piece-at .ensures ∙ ap (λ (n : ℕ). fragmentAt (now (a .owners)) (now (a .numbers)) (a .row) (a .f .number) (n - 1)) count-is) in
     sym (verdict-unmarked (placesIn (now (a .types)) (now (a .sizes)) (now (a .owners)) (now (a .numbers)) (now (a .versions))) (a .row) (a .f) (a .size) (omega (arith, c .before .before .before .before .before .before .before .before .before .find-unlike .ensures .0, c .before .before .before .before .before .before .before .before .if1 .left)) (omega (arith, c .before .before .before .before .before .if2 .left)) (omega (arith, c .before .before .before .if3 .left)) (sym marked-is ∙ c .if4 .left))
 
 pub judge-spec : {M : Type 1} → statement M

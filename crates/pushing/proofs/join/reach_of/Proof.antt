@@ -5,7 +5,7 @@ use native.Mathlib.Omega.{arith}
 use denote.Ref.{now}
 use borrow.Author.Tests.{eq-eqb, ne-eqb}
 use Rattle.searching.specs.Search.{lowest}
-use Rattle.pushing.specs.PrivateSteps.{pieceAt, sizeAt, sizeTo, isGap}
+use Rattle.pushing.specs.PrivateSteps.{fragmentAt, sizeAt, sizeTo, isGap}
 use Rattle.searching.proofs.Search.{before-all, found, passed}
 use Rattle.pushing.proofs.Pieces.{at-most, size-none, size-next}
 use borrow.Author.Needs.{needs}
@@ -56,7 +56,7 @@ loop-again c =
     let b = c .before .before .before .before in
     let a = c .before .before .before .before .before .args in
     let k = b .loop .k in
-    let piece = pieceAt (now (a .owners)) (now (a .numbers)) (a .row) (a .number) k in
+    let piece = fragmentAt (now (a .owners)) (now (a .numbers)) (a .row) (a .number) k in
     let size-is : c .size-at .result ≡ sizeAt (now (a .sizes)) (a .size) piece = c .size-at .ensures ∙ ap (sizeAt (now (a .sizes)) (a .size)) (c .before .before .piece-at .ensures) in
     let full = ne-eqb _ _ (λ (e : piece ≡ 32). c .before .if1 .left (c .before .before .piece-at .ensures ∙ e)) in (
       search needs,

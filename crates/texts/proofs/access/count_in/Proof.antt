@@ -7,7 +7,7 @@ use Rattle.numbers.proofs.Answers.{follows}
 use Rattle.texts.specs.Reading.{wholeOf}
 use Rattle.numbers.specs.Numbers.{gives}
 use Rattle.layouts.specs.Access.{numbersOf}
-use Rattle.texts.specs.Access.{countIn}
+use Rattle.texts.specs.Access.{radioCount}
 use Rattle.texts.specs.PrivatePieces.{rowKind}
 use Rattle.texts.proofs.Whole.{Outlined, outlined-of, not-read}
 use Rattle.texts.proofs.Asked.{count-all, count-under, count-none}
@@ -46,7 +46,7 @@ returns-3 c =
 returns-4 : tie.Need-returns-4
 returns-4 c =
     let a = c .before .before .before .before .before .args in
-    not-read (rowKind (a .row)) (a .s .now) (λ v. countIn (a .row .radios) (numbersOf (a .path)) v) _ _ (sym (rw (c .before .r .given .1) at (c .before .before .before .read-row .ensures)))
+    not-read (rowKind (a .row)) (a .s .now) (λ v. radioCount (a .row .radios) (numbersOf (a .path)) v) _ _ (sym (rw (c .before .r .given .1) at (c .before .before .before .read-row .ensures)))
 
 pub count-in-spec : {M : Type 1} → statement M
 count-in-spec =

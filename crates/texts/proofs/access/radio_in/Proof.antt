@@ -7,8 +7,8 @@ use Rattle.numbers.specs.Numbers.{mapped}
 use Rattle.numbers.proofs.Answers.{follows}
 use Rattle.texts.specs.Reading.{wholeOf}
 use Rattle.layouts.specs.Access.{numbersOf}
-use Rattle.texts.specs.Access.{numbered, wholeSpan, radioIn}
-use Rattle.texts.specs.PrivatePieces.{rowKind, heldTold}
+use Rattle.texts.specs.Access.{nthOf, wholeSpan, radioIn}
+use Rattle.texts.specs.PrivatePieces.{rowKind, pieceTold}
 use Rattle.texts.proofs.Whole.{Outlined, outlined-of, not-read, first-within, radio-found}
 use Rattle.texts.proofs.Asked.{no-radio, one-number}
 
@@ -30,7 +30,7 @@ returns c =
     let k = c .before .before .before .before .before .before in
     let a = k .before .before .before .before .args in
     let w = whole k in
-    let found : heldTold (c .before .nth .result) ≡ numbered (w .value .radios .each) (a .path .i0) = c .before .nth .ensures ∙ rw (c .before .before .radio .ensures) (radio-found (rowKind (a .row)) (a .s .now) _ w (a .path .i0)) in
+    let found : pieceTold (c .before .nth .result) ≡ nthOf (w .value .radios .each) (a .path .i0) = c .before .nth .ensures ∙ rw (c .before .before .radio .ensures) (radio-found (rowKind (a .row)) (a .s .now) _ w (a .path .i0)) in
     c .whole-span .ensures ∙ ap (mapped wholeSpan) found ∙ sym (follows _ _ _ (w .is) ∙ one-number (a .path .depth) (a .path .i0) (a .path .i1) (a .path .i2) (w .value) (c .before .before .before .if1 .taken))
 
 returns-2 : tie.Need-returns-2

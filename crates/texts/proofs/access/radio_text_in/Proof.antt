@@ -6,8 +6,8 @@ use mathlib.Core.Path.{_≡_, sym, ap, _∙_}
 use Rattle.numbers.specs.Numbers.{mapped}
 use Rattle.numbers.proofs.Answers.{follows}
 use Rattle.texts.specs.Reading.{wholeOf}
-use Rattle.texts.specs.Access.{numbered, textSpan}
-use Rattle.texts.specs.PrivatePieces.{rowKind, heldTold}
+use Rattle.texts.specs.Access.{nthOf, textSpan}
+use Rattle.texts.specs.PrivatePieces.{rowKind, pieceTold}
 use Rattle.texts.proofs.Whole.{Outlined, outlined-of, not-read, first-within, radio-found}
 
 -- the value that was read
@@ -28,13 +28,13 @@ returns c =
     let k = c .before .before .before .before in
     let a = k .before .before .before .before .args in
     let w = whole k in
-    let found : heldTold (c .before .nth .result) ≡ numbered (w .value .radios .each) (a .number) = c .before .nth .ensures ∙ rw (c .before .before .radio .ensures) (radio-found (rowKind (a .row)) (a .s .now) _ w (a .number)) in
+    let found : pieceTold (c .before .nth .result) ≡ nthOf (w .value .radios .each) (a .number) = c .before .nth .ensures ∙ rw (c .before .before .radio .ensures) (radio-found (rowKind (a .row)) (a .s .now) _ w (a .number)) in
     c .text-span .ensures ∙ ap (mapped textSpan) found ∙ sym (follows _ _ _ (w .is))
 
 returns-2 : tie.Need-returns-2
 returns-2 c =
     let a = c .before .before .before .before .before .args in
-    not-read (rowKind (a .row)) (a .s .now) (λ v. mapped textSpan (numbered (v .radios .each) (a .number))) _ _ (sym (rw (c .before .r .given .1) at (c .before .before .before .read-row .ensures)))
+    not-read (rowKind (a .row)) (a .s .now) (λ v. mapped textSpan (nthOf (v .radios .each) (a .number))) _ _ (sym (rw (c .before .r .given .1) at (c .before .before .before .read-row .ensures)))
 
 pub radio-text-in-spec : {M : Type 1} → statement M
 radio-text-in-spec =

@@ -5,7 +5,7 @@ use Rattle.texts.proofs.access.text_in.Tie as tie
 use mathlib.Core.Path.{sym, ap, _∙_}
 use Rattle.numbers.specs.Numbers.{mapped}
 use Rattle.numbers.proofs.Answers.{follows}
-use Rattle.texts.specs.Access.{numbered, textSpan}
+use Rattle.texts.specs.Access.{nthOf, textSpan}
 use Rattle.texts.specs.PrivatePieces.{rowKind}
 use Rattle.texts.proofs.Whole.{outlined-of, not-read, text-found}
 
@@ -20,7 +20,7 @@ returns c =
 returns-2 : tie.Need-returns-2
 returns-2 c =
     let a = c .before .before .before .before .before .args in
-    not-read (rowKind (a .row)) (a .s .now) (λ v. mapped textSpan (numbered (v .texts .each) (a .number))) _ _ (sym (rw (c .before .r .given .1) at (c .before .before .before .read-row .ensures)))
+    not-read (rowKind (a .row)) (a .s .now) (λ v. mapped textSpan (nthOf (v .texts .each) (a .number))) _ _ (sym (rw (c .before .r .given .1) at (c .before .before .before .read-row .ensures)))
 
 pub text-in-spec : {M : Type 1} → statement M
 text-in-spec =

@@ -5,13 +5,13 @@ use Rattle.texts.proofs.access.whole_span.Tie as tie
 use mathlib.Core.Path.{sym, ap}
 use Rattle.numbers.specs.Numbers.{mapped}
 use Rattle.texts.specs.Access.{wholeSpan}
-use Rattle.texts.specs.PrivatePieces.{heldTold}
+use Rattle.texts.specs.PrivatePieces.{pieceTold}
 
 returns : tie.Need-returns
-returns c = sym (ap (λ h. mapped wholeSpan (heldTold h)) (c .before .held .given .1))
+returns c = sym (ap (λ h. mapped wholeSpan (pieceTold h)) (c .before .piece .given .1))
 
 returns-2 : tie.Need-returns-2
-returns-2 c = sym (ap (λ h. mapped wholeSpan (heldTold h)) (c .before .held2 .given .1))
+returns-2 c = sym (ap (λ h. mapped wholeSpan (pieceTold h)) (c .before .piece2 .given .1))
 
 pub whole-span-spec : {M : Type 1} → statement M
 whole-span-spec = tie.close (tie.spec (λ c. search needs) (λ c. search needs) returns returns-2)

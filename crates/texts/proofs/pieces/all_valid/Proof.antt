@@ -6,7 +6,7 @@ use borrow.Author.Tests.{not-true, not-false}
 use mathlib.Core.Path.{_≡_, sym, _∙_}
 use Prim.Native.Nat.{_+_, _-_}
 use Rattle.numbers.specs.Numbers.{gives}
-use Rattle.texts.specs.Reading.{Held, held, pieceAt, piecesAt}
+use Rattle.texts.specs.Reading.{ReadPiece, readPiece, pieceAt, piecesAt}
 use Rattle.texts.specs.PrivatePieces.{pieceOf, validIn}
 use Rattle.texts.proofs.Laws.{Lies, piece-lies, Left, left-all, left-none, left-cut, left-then, left-more, valid-before, bad-before}
 
@@ -26,8 +26,8 @@ enum-known-start : tie.Need-enum-known-start Inv-loop μ-loop
 enum-known-start c = search needs
 
 -- the piece that was read, which lies in the value
-abbrev piece : tie.After-start Inv-loop μ-loop → Held
-piece c = let g = c .start .given .0 in held (g .0) (g .1 .0) (g .1 .1 .0) (g .1 .1 .1 .0)
+abbrev piece : tie.After-start Inv-loop μ-loop → ReadPiece
+piece c = let g = c .start .given .0 in readPiece (g .0) (g .1 .0) (g .1 .1 .0) (g .1 .1 .1 .0)
 
 has : (c : tie.After-start Inv-loop μ-loop) →
     let l = c .before .before .before .before in

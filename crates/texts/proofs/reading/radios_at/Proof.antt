@@ -5,7 +5,7 @@ use Rattle.texts.proofs.reading.radios_at.Tie as tie
 use native.Mathlib.Omega.{arith}
 use lib.ListN.{getD}
 use Prim.Native.Nat.{_+_}
-use Rattle.layouts.specs.Reading.{Listed}
+use Rattle.layouts.specs.Reading.{ListAt}
 use Rattle.layouts.proofs.Within.{reaches, cut}
 use Rattle.texts.specs.Reading.{radioList}
 
@@ -13,13 +13,13 @@ returns : tie.Need-returns
 unfolding radioList
 returns c =
     let a = c .before .before .before .args in
-    simp (c .before .if1 .taken, cut {A = Listed} (a .at + 1) (a .s .now) (record { many = getD (a .s .now) (a .at) 0; first = a .at + 1 }) (omega arith))
+    simp (c .before .if1 .taken, cut {A = ListAt} (a .at + 1) (a .s .now) (record { many = getD (a .s .now) (a .at) 0; first = a .at + 1 }) (omega arith))
 
 returns-2 : tie.Need-returns-2
 unfolding radioList
 returns-2 c =
     let a = c .before .before .before .before .before .args in
-    simp (c .before .before .before .if1 .taken, c .wide .ensures .0, reaches {A = Listed} (a .at + 1) (a .s .now) (record { many = getD (a .s .now) (a .at) 0; first = a .at + 1 }) (omega arith))
+    simp (c .before .before .before .if1 .taken, c .wide .ensures .0, reaches {A = ListAt} (a .at + 1) (a .s .now) (record { many = getD (a .s .now) (a .at) 0; first = a .at + 1 }) (omega arith))
 
 returns-3 : tie.Need-returns-3
 unfolding radioList
