@@ -173,7 +173,7 @@ pub(crate) fn sum_of(sum: u64, s: &[u8]) -> u64 {
 }
 
 // Parts that were met one after the other: how many, and the checksum over them.
-pub struct Tally {
+pub(crate) struct Tally {
     pub count: usize,
     pub sum: u64,
 }

@@ -19,7 +19,7 @@ ghost use Rattle.layouts.specs.Access.{numbersOf, childAt, findEntry, sp
 ghost use Rattle.layouts.specs.PrivateRows.{rowLayout, rowKind, endTold, levelTold};
 
 // An entry that was found: its row, and where it starts.
-pub enum Level {
+pub(crate) enum Level {
     Of { row: Row, at: usize },
     Refused(Refusal),
 }

@@ -12,13 +12,13 @@ ghost use Rattle.layouts.specs.Reading.{countAt, listOf, entriesEnd, end
 ghost use Rattle.layouts.specs.PrivateRows.{counting, rowLayout, rowKind, endTold, listTold, restWith, Few};
 
 // Where a part ends.
-pub enum End {
+pub(crate) enum End {
     At(usize),
     Refused(Refusal),
 }
 
 // How many entries a list has, and where the first one starts.
-pub enum Listing {
+pub(crate) enum Listing {
     Of { n: usize, first: usize },
     Refused(Refusal),
 }

@@ -7,7 +7,7 @@ ghost use Rattle.layouts.specs.PrivateRows.{counting, rowBelow, kindWith
 
 // A row of the table: an entry of h0 bytes and then, where it has levels of lists, a list whose count has w0 bytes: 1 or 2, or 0 for a list that goes to the
 // end. An entry of that list is h1 bytes and then, where levels are left, a list whose count has w1 bytes, and so on. The value itself is an entry.
-pub struct Row {
+pub(crate) struct Row {
     pub levels: u8,
     pub h0: u8,
     pub w0: u8,
@@ -20,7 +20,7 @@ pub struct Row {
     pub strict: bool,
 }
 
-pub enum KindRow {
+pub(crate) enum KindRow {
     List(Row),
     Refused(Refusal),
 }

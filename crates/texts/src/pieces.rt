@@ -11,7 +11,7 @@ ghost use Rattle.texts.specs.Reading.{untilZero, pieceAt, piecesAt};
 ghost use Rattle.texts.specs.PrivatePieces.{pieceOf, pieceTold, endTold, endIn, validIn, nthAt};
 
 // A piece that was read: where it starts, where its text starts and ends, and where it ends.
-pub enum ReadPiece {
+pub(crate) enum ReadPiece {
     Of {
         at: usize,
         start: usize,
@@ -22,7 +22,7 @@ pub enum ReadPiece {
 }
 
 // Where a piece, or the last of several, ends.
-pub enum End {
+pub(crate) enum End {
     At(usize),
     Refused(Refusal),
 }

@@ -14,13 +14,13 @@ ghost use Rattle.texts.specs.Reading.{radioList, laidOf, wholeOf};
 ghost use Rattle.texts.specs.PrivatePieces.{rowKind, listTold, laidTold, outlineOf};
 
 // How many radios there are, and where the first one starts.
-pub enum Listing {
+pub(crate) enum Listing {
     Of { n: usize, first: usize },
     Refused(Refusal),
 }
 
 // A value that is there whole: its radios, and where it ends.
-pub enum Laid {
+pub(crate) enum Laid {
     Of { n: usize, first: usize, end: usize },
     Refused(Refusal),
 }

@@ -6,20 +6,20 @@ ghost use Rattle.texts.specs.Texts.{textKind};
 ghost use Rattle.texts.specs.PrivatePieces.{rowTold};
 
 // What a text stands in: a field of so many bytes, so many bytes and then a string with a one-byte length, or all bytes to the end.
-pub enum Piece {
+pub(crate) enum Piece {
     Field(usize),
     Counted(usize),
     ToEnd,
 }
 
 // A row of the table: so many pieces, and then the radios, where there are any.
-pub struct Row {
+pub(crate) struct Row {
     pub many: usize,
     pub piece: Piece,
     pub radios: bool,
 }
 
-pub enum KindRow {
+pub(crate) enum KindRow {
     Text(Row),
     Refused(Refusal),
 }

@@ -18,26 +18,11 @@ Inv-loop time n₀ dropped₀ row₀ n dropped row = (row ≤ 16) × (sweptAs n 
 abbrev μ-loop : tie.MeasureT-loop
 μ-loop time n₀ dropped₀ row₀ n dropped row = 16 - row
 
-next-expired-requires : tie.Need-next-expired-requires Inv-loop μ-loop
-next-expired-requires c κs = search needs
-
 loop-holds : tie.Need-loop-holds Inv-loop μ-loop
 loop-holds c =
     let next = c .next-expired .ensures in
     let a = c .before .before .before .before .args in
     (next .within, rows-skip (a .t) (a .time) (sweptAs (a .t) 0) 0 (c .next-expired .result) (omega arith) (rows-none (a .t) (a .time)) (next .young), omega arith, next .old)
-
-without-key-requires : tie.Need-without-key-requires Inv-loop μ-loop
-without-key-requires c κs = search needs
-
-add-dropped : tie.Need-add-dropped Inv-loop μ-loop
-add-dropped c = search needs
-
-add-next-expired : tie.Need-add-next-expired Inv-loop μ-loop
-add-next-expired c = search needs
-
-next-expired-requires-2 : tie.Need-next-expired-requires-2 Inv-loop μ-loop
-next-expired-requires-2 c κs = search needs
 
 loop-less : tie.Need-loop-less Inv-loop μ-loop
 loop-less c = omega (arith, c .next-expired2 .ensures .behind)
@@ -69,12 +54,12 @@ sweep-step-spec =
     (tie.spec
     Inv-loop
     μ-loop
-    next-expired-requires
+    (λ c κs. search needs)
     loop-holds
-    without-key-requires
-    add-dropped
-    add-next-expired
-    next-expired-requires-2
+    (λ c κs. search needs)
+    (λ c. search needs)
+    (λ c. search needs)
+    (λ c κs. search needs)
     loop-less
     loop-again
     returns)

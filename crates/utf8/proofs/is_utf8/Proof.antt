@@ -16,23 +16,8 @@ Inv-loop s awaited₀ i₀ awaited i = (i ≤ length s) × (isUtf8 s ≡ passes 
 abbrev μ-loop : tie.MeasureT-loop
 μ-loop s awaited₀ i₀ awaited i = length s - i
 
-past-ascii-requires : tie.Need-past-ascii-requires Inv-loop μ-loop
-past-ascii-requires c κs = search needs
-
 loop-holds : tie.Need-loop-holds Inv-loop μ-loop
 loop-holds c = c .past-ascii .ensures
-
-shared-slice-read-step : tie.Need-shared-slice-read-step Inv-loop μ-loop
-shared-slice-read-step c = search needs
-
-step-requires : tie.Need-step-requires Inv-loop μ-loop
-step-requires c κs = search needs
-
-enum-known-next : tie.Need-enum-known-next Inv-loop μ-loop
-enum-known-next c = search needs
-
-enum-told : tie.Need-enum-told Inv-loop μ-loop
-enum-told c = search needs
 
 returns : tie.Need-returns Inv-loop μ-loop
 returns c =
@@ -40,12 +25,6 @@ returns c =
     let s = l .before .before .before .args .s .now in
     let e = sym (rw (c .enum-told .given .1) at (c .before .before .step .ensures)) in
     sym (l .loop .inv .1 ∙ goes-off (awaits (l .loop .awaited)) s (l .loop .i) (omega arith) e)
-
-add-i : tie.Need-add-i Inv-loop μ-loop
-add-i c = search needs
-
-loop-less : tie.Need-loop-less Inv-loop μ-loop
-loop-less c = search needs
 
 loop-again : tie.Need-loop-again Inv-loop μ-loop
 loop-again c =
@@ -67,14 +46,14 @@ is-utf8-spec =
     (tie.spec
     Inv-loop
     μ-loop
-    past-ascii-requires
+    (λ c κs. search needs)
     loop-holds
-    shared-slice-read-step
-    step-requires
-    enum-known-next
-    enum-told
+    (λ c. search needs)
+    (λ c κs. search needs)
+    (λ c. search needs)
+    (λ c. search needs)
     returns
-    add-i
-    loop-less
+    (λ c. search needs)
+    (λ c. search needs)
     loop-again
     returns-2)

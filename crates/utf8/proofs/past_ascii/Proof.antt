@@ -18,62 +18,8 @@ abbrev μ-loop : tie.MeasureT-loop
 loop-holds : tie.Need-loop-holds Inv-loop μ-loop
 loop-holds c = (search needs, refl)
 
-sub-loop : tie.Need-sub-loop Inv-loop μ-loop
-sub-loop c = search needs
-
-shared-slice-read-four : tie.Need-shared-slice-read-four Inv-loop μ-loop
-shared-slice-read-four c = search needs
-
-add-four : tie.Need-add-four Inv-loop μ-loop
-add-four c = search needs
-
-shared-slice-read-four-2 : tie.Need-shared-slice-read-four-2 Inv-loop μ-loop
-shared-slice-read-four-2 c = search needs
-
-add-four-2 : tie.Need-add-four-2 Inv-loop μ-loop
-add-four-2 c = search needs
-
-shared-slice-read-four-3 : tie.Need-shared-slice-read-four-3 Inv-loop μ-loop
-shared-slice-read-four-3 c = search needs
-
-add-four-3 : tie.Need-add-four-3 Inv-loop μ-loop
-add-four-3 c = search needs
-
-shared-slice-read-four-4 : tie.Need-shared-slice-read-four-4 Inv-loop μ-loop
-shared-slice-read-four-4 c = search needs
-
-add-next : tie.Need-add-next Inv-loop μ-loop
-add-next c = search needs
-
-shared-slice-read-next : tie.Need-shared-slice-read-next Inv-loop μ-loop
-shared-slice-read-next c = search needs
-
-add-next-2 : tie.Need-add-next-2 Inv-loop μ-loop
-add-next-2 c = search needs
-
-shared-slice-read-next-2 : tie.Need-shared-slice-read-next-2 Inv-loop μ-loop
-shared-slice-read-next-2 c = search needs
-
-add-next-3 : tie.Need-add-next-3 Inv-loop μ-loop
-add-next-3 c = search needs
-
-shared-slice-read-next-3 : tie.Need-shared-slice-read-next-3 Inv-loop μ-loop
-shared-slice-read-next-3 c = search needs
-
-add-next-4 : tie.Need-add-next-4 Inv-loop μ-loop
-add-next-4 c = search needs
-
-shared-slice-read-next-4 : tie.Need-shared-slice-read-next-4 Inv-loop μ-loop
-shared-slice-read-next-4 c = search needs
-
 returns : tie.Need-returns Inv-loop μ-loop
 returns c = c .before .before .before .before .before .before .before .before .before .before .loop .inv
-
-add-i : tie.Need-add-i Inv-loop μ-loop
-add-i c = search needs
-
-loop-less : tie.Need-loop-less Inv-loop μ-loop
-loop-less c = search needs
 
 loop-again : tie.Need-loop-again Inv-loop μ-loop
 loop-again c =
@@ -90,24 +36,24 @@ past-ascii-spec =
     Inv-loop
     μ-loop
     loop-holds
-    sub-loop
-    shared-slice-read-four
-    add-four
-    shared-slice-read-four-2
-    add-four-2
-    shared-slice-read-four-3
-    add-four-3
-    shared-slice-read-four-4
-    add-next
-    shared-slice-read-next
-    add-next-2
-    shared-slice-read-next-2
-    add-next-3
-    shared-slice-read-next-3
-    add-next-4
-    shared-slice-read-next-4
+    (λ c. search needs)
+    (λ c. search needs)
+    (λ c. search needs)
+    (λ c. search needs)
+    (λ c. search needs)
+    (λ c. search needs)
+    (λ c. search needs)
+    (λ c. search needs)
+    (λ c. search needs)
+    (λ c. search needs)
+    (λ c. search needs)
+    (λ c. search needs)
+    (λ c. search needs)
+    (λ c. search needs)
+    (λ c. search needs)
+    (λ c. search needs)
     returns
-    add-i
-    loop-less
+    (λ c. search needs)
+    (λ c. search needs)
     loop-again
     returns-2)

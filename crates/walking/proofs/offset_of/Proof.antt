@@ -16,20 +16,11 @@ Inv-loop payload k t₀ i₀ t i = (i ≤ k) × (k < length (walkOf payload .tlv
 abbrev μ-loop : tie.MeasureT-loop
 μ-loop payload k t₀ i₀ t i = k - i
 
-tlv-at-requires : tie.Need-tlv-at-requires Inv-loop μ-loop
-tlv-at-requires c κs = search needs
-
 loop-holds : tie.Need-loop-holds Inv-loop μ-loop
 loop-holds c = (omega arith, c .before .before .pre, is-first _ _ (c .tlv-at .ensures))
 
 next-of-requires : tie.Need-next-of-requires Inv-loop μ-loop
 next-of-requires c κs = fits _ _ _ (c .before .loop .inv .2) (omega arith)
-
-add-i : tie.Need-add-i Inv-loop μ-loop
-add-i c = omega arith
-
-loop-less : tie.Need-loop-less Inv-loop μ-loop
-loop-less c = omega arith
 
 loop-again : tie.Need-loop-again Inv-loop μ-loop
 loop-again c = (omega arith, c .before .before .loop .inv .1, is-next _ _ _ (c .before .before .loop .inv .2) (omega arith) _ (c .next-of .ensures))
@@ -46,10 +37,10 @@ offset-of-spec =
     (tie.spec
     Inv-loop
     μ-loop
-    tlv-at-requires
+    (λ c κs. search needs)
     loop-holds
     next-of-requires
-    add-i
-    loop-less
+    (λ c. omega arith)
+    (λ c. omega arith)
     loop-again
     returns)

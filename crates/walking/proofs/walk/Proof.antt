@@ -19,17 +19,8 @@ abbrev μ-loop : tie.MeasureT-loop
 loop-holds : tie.Need-loop-holds Inv-loop μ-loop
 loop-holds c = begins _
 
-step-requires : tie.Need-step-requires Inv-loop μ-loop
-step-requires c κs = search needs
-
-enum-told : tie.Need-enum-told Inv-loop μ-loop
-enum-told c = search needs
-
 returns : tie.Need-returns Inv-loop μ-loop
 returns c = ends _ _ _ (c .before .before .before .loop .inv) (ap steppedOf (sym (c .enum-told .given .1)) ∙ c .before .before .step .ensures)
-
-enum-known-next : tie.Need-enum-known-next Inv-loop μ-loop
-enum-known-next c = search needs
 
 add-count : tie.Need-add-count Inv-loop μ-loop
 add-count c =
@@ -44,9 +35,6 @@ loop-less c =
 loop-again : tie.Need-loop-again Inv-loop μ-loop
 loop-again c = goes-on _ _ _ (c .before .before .before .before .loop .inv) _ _ (ap steppedOf (sym (c .before .next .given .1)) ∙ c .before .before .before .step .ensures)
 
-enum-known-end : tie.Need-enum-known-end Inv-loop μ-loop
-enum-known-end c = search needs
-
 add-t9 : tie.Need-add-t9 Inv-loop μ-loop
 add-t9 c =
     let o = lasts _ _ _ _ (ap steppedOf (sym (c .before .end .given .1)) ∙ c .before .before .before .step .ensures) in
@@ -58,9 +46,6 @@ sub-t11 c = (lasts _ _ _ _ (ap steppedOf (sym (c .before .end .given .1)) ∙ c 
 returns-2 : tie.Need-returns-2 Inv-loop μ-loop
 returns-2 c = ends-at _ _ _ (c .before .before .before .before .loop .inv) _ _ (ap steppedOf (sym (c .before .end .given .1)) ∙ c .before .before .before .step .ensures)
 
-enum-known-refusal : tie.Need-enum-known-refusal Inv-loop μ-loop
-enum-known-refusal c = search needs
-
 returns-3 : tie.Need-returns-3 Inv-loop μ-loop
 returns-3 c = stops _ _ _ (c .before .before .before .before .loop .inv) _ _ (ap steppedOf (sym (c .before .refusal .given .1)) ∙ c .before .before .before .step .ensures)
 
@@ -71,16 +56,16 @@ walk-spec =
     Inv-loop
     μ-loop
     loop-holds
-    step-requires
-    enum-told
+    (λ c κs. search needs)
+    (λ c. search needs)
     returns
-    enum-known-next
+    (λ c. search needs)
     add-count
     loop-less
     loop-again
-    enum-known-end
+    (λ c. search needs)
     add-t9
     sub-t11
     returns-2
-    enum-known-refusal
+    (λ c. search needs)
     returns-3)

@@ -21,21 +21,12 @@ abbrev μ-loop : tie.MeasureT-loop
 loop-holds : tie.Need-loop-holds Inv-loop μ-loop
 loop-holds c = (search needs, refl)
 
-child-requires : tie.Need-child-requires Inv-loop μ-loop
-child-requires c κs = search needs
-
-enum-known-q : tie.Need-enum-known-q Inv-loop μ-loop
-enum-known-q c = search needs
-
 -- the entry that was found one level down
 has : (c : tie.After-q Inv-loop μ-loop) →
     let l = c .before .before .before .before in
     let a = l .before .before .args in
     childAt (rowLayout (l .loop .row)) (l .loop .i0) (a .s .now) (l .loop .at) ≡ gives (c .q .given .0 .0)
 has c = sym (rw (c .q .given .1) at (c .before .before .child .ensures))
-
-enum-known-r : tie.Need-enum-known-r Inv-loop μ-loop
-enum-known-r c = search needs
 
 returns : tie.Need-returns Inv-loop μ-loop
 returns c =
@@ -52,12 +43,6 @@ row-below-requires c κs =
     let l = c .before .before .before .before .before in
     let a = l .before .before .args in
     child-level (l .loop .row) (l .loop .i0) (a .s .now) (l .loop .at) _ (has (c .before))
-
-sub-left : tie.Need-sub-left Inv-loop μ-loop
-sub-left c = search needs
-
-loop-less : tie.Need-loop-less Inv-loop μ-loop
-loop-less c = search needs
 
 loop-again : tie.Need-loop-again Inv-loop μ-loop
 loop-again c =
@@ -85,12 +70,12 @@ find-entry-spec =
     Inv-loop
     μ-loop
     loop-holds
-    child-requires
-    enum-known-q
-    enum-known-r
+    (λ c κs. search needs)
+    (λ c. search needs)
+    (λ c. search needs)
     returns
     row-below-requires
-    sub-left
-    loop-less
+    (λ c. search needs)
+    (λ c. search needs)
     loop-again
     returns-2)

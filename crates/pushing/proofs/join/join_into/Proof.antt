@@ -38,12 +38,6 @@ put-piece-requires c κs =
     let same = ap (λ (i : ℕ). length (pieceBytes (now (a .sizes)) (now (a .store)) (now (a .payload)) i)) (c .before .piece-at .ensures) in
     (c .before .before .before .before .before .before .before .pre .1, c .before .before .before .before .before .before .before .pre .2, omega (arith, same, next-fits (now (a .sizes)) (now (a .owners)) (now (a .numbers)) (now (a .store)) (a .row) (a .number) (now (a .payload)) (b .loop .k) (a .n) (c .before .before .loop-test .taken), c .before .before .before .before .before .before .before .pre .4, b .loop .inv .1, b .loop .inv .3))
 
-add-k : tie.Need-add-k Inv-loop μ-loop
-add-k c = search needs
-
-loop-less : tie.Need-loop-less Inv-loop μ-loop
-loop-less c = search needs
-
 loop-again : tie.Need-loop-again Inv-loop μ-loop
 loop-again c =
     let a = c .before .before .before .before .before .before .before .before .before .before .args in
@@ -59,9 +53,6 @@ loop-again c =
           ∙ ap (λ (l : List ℕ). paste l (length (upto k)) bytes (length bytes)) (b .loop .inv .2) ∙ grown (upto k) bytes (now (a .out)) ∙ ap (λ (l : List ℕ). over l (now (a .out))) next,
       c .before .before .put-piece .kept .1 .1 .1 .1 .0 ∙ b .loop .inv .3,
     )
-
-same-length : tie.Need-same-length Inv-loop μ-loop
-same-length c = search needs
 
 returns : tie.Need-returns Inv-loop μ-loop
 returns c =
@@ -80,8 +71,8 @@ join-into-spec =
     cast-piece-at
     piece-at-requires
     put-piece-requires
-    add-k
-    loop-less
+    (λ c. search needs)
+    (λ c. search needs)
     loop-again
-    same-length
+    (λ c. search needs)
     returns)

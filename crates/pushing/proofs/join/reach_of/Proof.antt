@@ -23,9 +23,6 @@ loop-holds c =
     let a = c .args in
     (omega arith, before-all (isGap (now (a .owners)) (now (a .numbers)) (a .row) (a .number)), size-none (now (a .sizes)) (now (a .owners)) (now (a .numbers)) (a .row) (a .number) (a .size), omega arith)
 
-cast-piece-at : tie.Need-cast-piece-at Inv-loop μ-loop
-cast-piece-at c = search needs
-
 piece-at-requires : tie.Need-piece-at-requires Inv-loop μ-loop
 piece-at-requires c κs = c .before .before .pre .0
 
@@ -37,19 +34,10 @@ returns c =
     let e = found (isGap (now (a .owners)) (now (a .numbers)) (a .row) (a .number)) 256 (b .loop .k) (b .loop .inv .1) (search needs) gap in
     (λ j. record { count = e j; total = (b .loop .inv .2 ∙ ap (sizeTo (now (a .sizes)) (now (a .owners)) (now (a .numbers)) (a .row) (a .number) (a .size)) e) j }, search needs)
 
-size-at-requires : tie.Need-size-at-requires Inv-loop μ-loop
-size-at-requires c κs = search needs
-
 add-total : tie.Need-add-total Inv-loop μ-loop
 add-total c =
     let a = c .before .before .before .before .before .args in
     omega (arith, c .size-at .ensures, at-most (now (a .sizes)) (a .size) (c .before .before .before .before .before .pre .2) (c .before .before .before .before .before .pre .1) (c .before .before .piece-at .result))
-
-add-k : tie.Need-add-k Inv-loop μ-loop
-add-k c = search needs
-
-loop-less : tie.Need-loop-less Inv-loop μ-loop
-loop-less c = search needs
 
 loop-again : tie.Need-loop-again Inv-loop μ-loop
 loop-again c =
@@ -80,12 +68,12 @@ reach-of-spec =
     Inv-loop
     μ-loop
     loop-holds
-    cast-piece-at
+    (λ c. search needs)
     piece-at-requires
     returns
-    size-at-requires
+    (λ c κs. search needs)
     add-total
-    add-k
-    loop-less
+    (λ c. search needs)
+    (λ c. search needs)
     loop-again
     returns-2)

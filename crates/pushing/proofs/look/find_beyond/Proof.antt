@@ -25,25 +25,10 @@ abbrev μ-loop : tie.MeasureT-loop
 loop-holds : tie.Need-loop-holds Inv-loop μ-loop
 loop-holds c = (omega arith, before-all (test (now (c .args .owners)) (now (c .args .numbers)) (c .args .owner) (c .args .number)))
 
-element-copy-out-is-beyond : tie.Need-element-copy-out-is-beyond Inv-loop μ-loop
-element-copy-out-is-beyond c = search needs
-
-element-copy-out-is-beyond-2 : tie.Need-element-copy-out-is-beyond-2 Inv-loop μ-loop
-element-copy-out-is-beyond-2 c = search needs
-
-is-beyond-requires : tie.Need-is-beyond-requires Inv-loop μ-loop
-is-beyond-requires c κs = search needs
-
 returns : tie.Need-returns Inv-loop μ-loop
 returns c =
     let b = c .before .before .before .before .before in
     (found (test (now (b .before .args .owners)) (now (b .before .args .numbers)) (b .before .args .owner) (b .before .args .number)) 32 (b .loop .i) (b .loop .inv .1) (search needs) (sym (c .before .is-beyond .ensures) ∙ c .if1 .taken), search needs)
-
-add-i : tie.Need-add-i Inv-loop μ-loop
-add-i c = search needs
-
-loop-less : tie.Need-loop-less Inv-loop μ-loop
-loop-less c = search needs
 
 loop-again : tie.Need-loop-again Inv-loop μ-loop
 loop-again c =
@@ -57,4 +42,4 @@ returns-2 c =
     (b .loop .inv .1 ∙ ap (lowest (test (now (b .before .args .owners)) (now (b .before .args .numbers)) (b .before .args .owner) (b .before .args .number))) end, search needs)
 
 pub find-beyond-spec : {M : Type 1} → statement M
-find-beyond-spec = tie.close (tie.spec Inv-loop μ-loop loop-holds element-copy-out-is-beyond element-copy-out-is-beyond-2 is-beyond-requires returns add-i loop-less loop-again returns-2)
+find-beyond-spec = tie.close (tie.spec Inv-loop μ-loop loop-holds (λ c. search needs) (λ c. search needs) (λ c κs. search needs) returns (λ c. search needs) (λ c. search needs) loop-again returns-2)

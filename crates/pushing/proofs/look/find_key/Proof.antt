@@ -25,28 +25,10 @@ abbrev μ-loop : tie.MeasureT-loop
 loop-holds : tie.Need-loop-holds Inv-loop μ-loop
 loop-holds c = (omega arith, before-all (test (now (c .args .used)) (now (c .args .codes)) (c .args .key)))
 
-element-copy-out-is-key : tie.Need-element-copy-out-is-key Inv-loop μ-loop
-element-copy-out-is-key c = search needs
-
-mul-is-key : tie.Need-mul-is-key Inv-loop μ-loop
-mul-is-key c = search needs
-
-element-copy-out-is-key-2 : tie.Need-element-copy-out-is-key-2 Inv-loop μ-loop
-element-copy-out-is-key-2 c = search needs
-
-is-key-requires : tie.Need-is-key-requires Inv-loop μ-loop
-is-key-requires c κs = search needs
-
 returns : tie.Need-returns Inv-loop μ-loop
 returns c =
     let b = c .before .before .before .before .before in
     (found (test (now (b .before .args .used)) (now (b .before .args .codes)) (b .before .args .key)) 16 (b .loop .i) (b .loop .inv .1) (search needs) (sym (c .before .is-key .ensures) ∙ c .if1 .taken), search needs)
-
-add-i : tie.Need-add-i Inv-loop μ-loop
-add-i c = search needs
-
-loop-less : tie.Need-loop-less Inv-loop μ-loop
-loop-less c = search needs
 
 loop-again : tie.Need-loop-again Inv-loop μ-loop
 loop-again c =
@@ -60,4 +42,4 @@ returns-2 c =
     (b .loop .inv .1 ∙ ap (lowest (test (now (b .before .args .used)) (now (b .before .args .codes)) (b .before .args .key))) end, search needs)
 
 pub find-key-spec : {M : Type 1} → statement M
-find-key-spec = tie.close (tie.spec Inv-loop μ-loop loop-holds element-copy-out-is-key mul-is-key element-copy-out-is-key-2 is-key-requires returns add-i loop-less loop-again returns-2)
+find-key-spec = tie.close (tie.spec Inv-loop μ-loop loop-holds (λ c. search needs) (λ c. search needs) (λ c. search needs) (λ c κs. search needs) returns (λ c. search needs) (λ c. search needs) loop-again returns-2)

@@ -24,19 +24,10 @@ abbrev μ-loop : tie.MeasureT-loop
 loop-holds : tie.Need-loop-holds Inv-loop μ-loop
 loop-holds c = (omega arith, before-all (test (now (c .args .used))))
 
-element-copy-out-if1 : tie.Need-element-copy-out-if1 Inv-loop μ-loop
-element-copy-out-if1 c = search needs
-
 returns : tie.Need-returns Inv-loop μ-loop
 returns c =
     let b = c .before .before .before in
     (found (test (now (b .before .args .used))) 16 (b .loop .i) (b .loop .inv .1) (search needs) (c .if1 .taken), search needs)
-
-add-i : tie.Need-add-i Inv-loop μ-loop
-add-i c = search needs
-
-loop-less : tie.Need-loop-less Inv-loop μ-loop
-loop-less c = search needs
 
 loop-again : tie.Need-loop-again Inv-loop μ-loop
 loop-again c =
@@ -50,4 +41,4 @@ returns-2 c =
     (b .loop .inv .1 ∙ ap (lowest (test (now (b .before .args .used)))) end, search needs)
 
 pub find-spare-spec : {M : Type 1} → statement M
-find-spare-spec = tie.close (tie.spec Inv-loop μ-loop loop-holds element-copy-out-if1 returns add-i loop-less loop-again returns-2)
+find-spare-spec = tie.close (tie.spec Inv-loop μ-loop loop-holds (λ c. search needs) returns (λ c. search needs) (λ c. search needs) loop-again returns-2)

@@ -25,31 +25,10 @@ abbrev μ-loop : tie.MeasureT-loop
 loop-holds : tie.Need-loop-holds Inv-loop μ-loop
 loop-holds c = (omega arith, before-all (test (now (c .args .owners)) (now (c .args .versions)) (now (c .args .types)) (c .args .owner) (c .args .version) (c .args .message-type)))
 
-element-copy-out-is-unlike : tie.Need-element-copy-out-is-unlike Inv-loop μ-loop
-element-copy-out-is-unlike c = search needs
-
-element-copy-out-is-unlike-2 : tie.Need-element-copy-out-is-unlike-2 Inv-loop μ-loop
-element-copy-out-is-unlike-2 c = search needs
-
-mul-is-unlike : tie.Need-mul-is-unlike Inv-loop μ-loop
-mul-is-unlike c = search needs
-
-element-copy-out-is-unlike-3 : tie.Need-element-copy-out-is-unlike-3 Inv-loop μ-loop
-element-copy-out-is-unlike-3 c = search needs
-
-is-unlike-requires : tie.Need-is-unlike-requires Inv-loop μ-loop
-is-unlike-requires c κs = search needs
-
 returns : tie.Need-returns Inv-loop μ-loop
 returns c =
     let b = c .before .before .before .before .before .before in
     (found (test (now (b .before .args .owners)) (now (b .before .args .versions)) (now (b .before .args .types)) (b .before .args .owner) (b .before .args .version) (b .before .args .message-type)) 32 (b .loop .i) (b .loop .inv .1) (search needs) (sym (c .before .is-unlike .ensures) ∙ c .if1 .taken), search needs)
-
-add-i : tie.Need-add-i Inv-loop μ-loop
-add-i c = search needs
-
-loop-less : tie.Need-loop-less Inv-loop μ-loop
-loop-less c = search needs
 
 loop-again : tie.Need-loop-again Inv-loop μ-loop
 loop-again c =
@@ -63,4 +42,4 @@ returns-2 c =
     (b .loop .inv .1 ∙ ap (lowest (test (now (b .before .args .owners)) (now (b .before .args .versions)) (now (b .before .args .types)) (b .before .args .owner) (b .before .args .version) (b .before .args .message-type))) end, search needs)
 
 pub find-unlike-spec : {M : Type 1} → statement M
-find-unlike-spec = tie.close (tie.spec Inv-loop μ-loop loop-holds element-copy-out-is-unlike element-copy-out-is-unlike-2 mul-is-unlike element-copy-out-is-unlike-3 is-unlike-requires returns add-i loop-less loop-again returns-2)
+find-unlike-spec = tie.close (tie.spec Inv-loop μ-loop loop-holds (λ c. search needs) (λ c. search needs) (λ c. search needs) (λ c. search needs) (λ c κs. search needs) returns (λ c. search needs) (λ c. search needs) loop-again returns-2)

@@ -20,24 +20,6 @@ abbrev μ-loop : tie.MeasureT-loop
 loop-holds : tie.Need-loop-holds Inv-loop μ-loop
 loop-holds c = (paste-zero (now (c .args .dst)) (c .args .at) (drop (c .args .from) (now (c .args .src))), omega arith, omega arith)
 
-add-dst : tie.Need-add-dst Inv-loop μ-loop
-add-dst c = omega arith
-
-shared-slice-read-dst : tie.Need-shared-slice-read-dst Inv-loop μ-loop
-shared-slice-read-dst c = omega arith
-
-add-dst-2 : tie.Need-add-dst-2 Inv-loop μ-loop
-add-dst-2 c = omega arith
-
-slice-write-dst : tie.Need-slice-write-dst Inv-loop μ-loop
-slice-write-dst c = omega arith
-
-add-j : tie.Need-add-j Inv-loop μ-loop
-add-j c = omega arith
-
-loop-less : tie.Need-loop-less Inv-loop μ-loop
-loop-less c = omega arith
-
 loop-again : tie.Need-loop-again Inv-loop μ-loop
 loop-again c =
     let b = c .before .before in
@@ -50,9 +32,6 @@ loop-again c =
     let more : j < length (drop from src) = omega (arith, length-drop from src) in
     (ap (λ (l : List ℕ). set l (at + j) (getD src (from + j) 0)) (b .loop .inv .0) ∙ ap (set (paste d₀ at (drop from src) j) (at + j)) (sym (getD-drop from src j 0)) ∙ paste-suc d₀ at (drop from src) j 0 room more ∙ ap (λ (k : ℕ). paste d₀ at (drop from src) k) (sym (add-one j)), omega arith, length-set (b .loop .dst) (at + j) (getD src (from + j) 0) ∙ b .loop .inv .2)
 
-same-length : tie.Need-same-length Inv-loop μ-loop
-same-length c = search needs
-
 returns : tie.Need-returns Inv-loop μ-loop
 returns c =
     let b = c .before in
@@ -60,4 +39,4 @@ returns c =
     b .loop .inv .0 ∙ ap (λ (k : ℕ). paste (now (b .before .args .dst)) (b .before .args .at) (drop (b .before .args .from) (now (b .before .args .src))) k) past
 
 pub copy-spec : {M : Type 1} → statement M
-copy-spec = tie.close (tie.spec Inv-loop μ-loop loop-holds add-dst shared-slice-read-dst add-dst-2 slice-write-dst add-j loop-less loop-again same-length returns)
+copy-spec = tie.close (tie.spec Inv-loop μ-loop loop-holds (λ c. omega arith) (λ c. omega arith) (λ c. omega arith) (λ c. omega arith) (λ c. omega arith) (λ c. omega arith) loop-again (λ c. search needs) returns)

@@ -31,28 +31,10 @@ abbrev μ-loop : tie.MeasureT-loop
 loop-holds : tie.Need-loop-holds Inv-loop μ-loop
 loop-holds c = (omega arith, c .pre, λ k h l. absurd (omega arith))
 
-element-copy-out-is-expired : tie.Need-element-copy-out-is-expired Inv-loop μ-loop
-element-copy-out-is-expired c = search needs
-
-mul-is-expired : tie.Need-mul-is-expired Inv-loop μ-loop
-mul-is-expired c = search needs
-
-element-copy-out-is-expired-2 : tie.Need-element-copy-out-is-expired-2 Inv-loop μ-loop
-element-copy-out-is-expired-2 c = search needs
-
-is-expired-requires : tie.Need-is-expired-requires Inv-loop μ-loop
-is-expired-requires c κs = search needs
-
 returns : tie.Need-returns Inv-loop μ-loop
 returns c =
     let b = c .before .before .before .before .before in
     record { behind = b .loop .inv .0; within = b .loop .inv .1; young = b .loop .inv .2; old = λ h. sym (c .before .is-expired .ensures) ∙ c .if1 .taken }
-
-add-row : tie.Need-add-row Inv-loop μ-loop
-add-row c = search needs
-
-loop-less : tie.Need-loop-less Inv-loop μ-loop
-loop-less c = search needs
 
 loop-again : tie.Need-loop-again Inv-loop μ-loop
 loop-again c =
@@ -72,12 +54,12 @@ next-expired-spec =
     Inv-loop
     μ-loop
     loop-holds
-    element-copy-out-is-expired
-    mul-is-expired
-    element-copy-out-is-expired-2
-    is-expired-requires
+    (λ c. search needs)
+    (λ c. search needs)
+    (λ c. search needs)
+    (λ c κs. search needs)
     returns
-    add-row
-    loop-less
+    (λ c. search needs)
+    (λ c. search needs)
     loop-again
     returns-2)

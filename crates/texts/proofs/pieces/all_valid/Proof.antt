@@ -19,12 +19,6 @@ abbrev μ-loop : tie.MeasureT-loop
 loop-holds : tie.Need-loop-holds Inv-loop μ-loop
 loop-holds c = let a = c .before .args in left-all (validIn (a .s .now)) (pieceOf (a .piece)) (a .s .now) (a .n) (a .at) (search needs)
 
-piece-at-requires : tie.Need-piece-at-requires Inv-loop μ-loop
-piece-at-requires c κs = search needs
-
-enum-known-start : tie.Need-enum-known-start Inv-loop μ-loop
-enum-known-start c = search needs
-
 -- the piece that was read, which lies in the value
 abbrev piece : tie.After-start Inv-loop μ-loop → ReadPiece
 piece c = let g = c .start .given .0 in readPiece (g .0) (g .1 .0) (g .1 .1 .0) (g .1 .1 .1 .0)
@@ -52,9 +46,6 @@ part-is-utf8-start c = let w = lies (c .before) in search needs
 part-is-utf8-end : tie.Need-part-is-utf8-end Inv-loop μ-loop
 part-is-utf8-end c = let w = lies (c .before) in search needs
 
-is-utf8-requires : tie.Need-is-utf8-requires Inv-loop μ-loop
-is-utf8-requires c κs = search needs
-
 returns : tie.Need-returns Inv-loop μ-loop
 returns c =
     let k = c .before .before .before .before in
@@ -64,9 +55,6 @@ returns c =
     sym (bad-before (a .s .now) (piece k) (sym (c .before .is-utf8 .ensures) ∙ not-true _ (c .if1 .taken)) (piecesAt (a .n - (v .i + 1)) (pieceOf (a .piece)) (a .s .now) (piece k .end))) ∙
     left-then (validIn (a .s .now)) (pieceOf (a .piece)) (a .s .now) (a .n) (a .at) (v .i) (v .p) (v .inv) (piece k) (k .before .before .before .loop-test .taken) (has k)
 
-enum-told : tie.Need-enum-told Inv-loop μ-loop
-enum-told c = search needs
-
 returns-2 : tie.Need-returns-2 Inv-loop μ-loop
 returns-2 c =
     let l = c .before .before .before .before in
@@ -74,12 +62,6 @@ returns-2 c =
     let v = l .loop in
     let e = sym (rw (c .enum-told .given .1) at (c .before .before .piece-at .ensures)) in
     left-cut (validIn (a .s .now)) (pieceOf (a .piece)) (a .s .now) (a .n) (a .at) (v .i) (v .p) (v .inv) _ _ (c .before .before .before .loop-test .taken) e
-
-add-i : tie.Need-add-i Inv-loop μ-loop
-add-i c = search needs
-
-loop-less : tie.Need-loop-less Inv-loop μ-loop
-loop-less c = search needs
 
 loop-again : tie.Need-loop-again Inv-loop μ-loop
 loop-again c =
@@ -104,16 +86,16 @@ all-valid-spec =
     Inv-loop
     μ-loop
     loop-holds
-    piece-at-requires
-    enum-known-start
+    (λ c κs. search needs)
+    (λ c. search needs)
     sub-is-utf8
     part-is-utf8-start
     part-is-utf8-end
-    is-utf8-requires
+    (λ c κs. search needs)
     returns
-    enum-told
+    (λ c. search needs)
     returns-2
-    add-i
-    loop-less
+    (λ c. search needs)
+    (λ c. search needs)
     loop-again
     returns-3)
