@@ -55,10 +55,10 @@ by-rule f g same t =
       used = t .used;
     }
 
-module _ (owner : ℕ) (real : 1 ≤ owner) (t : Table) where
-  pub freed-none : t ≡ freedTo owner t 0
-  freed-none = by-rule (λ xs. xs) (λ xs. wipedTo owner 0 (t .owners) xs 0) (wiped-none owner 0 (t .owners)) t
+pub freed-none : (owner : ℕ) (t : Table) → t ≡ freedTo owner t 0
+freed-none owner t = by-rule (λ xs. xs) (λ xs. wipedTo owner 0 (t .owners) xs 0) (wiped-none owner 0 (t .owners)) t
 
+module _ (owner : ℕ) (real : 1 ≤ owner) (t : Table) where
   module _ (n : Table) (i : ℕ) (so-far : n ≡ freedTo owner t i) where
     -- the owner that the loop reads is the one that stood there
     read-is : getD (n .owners) i 0 ≡ getD (t .owners) i 0

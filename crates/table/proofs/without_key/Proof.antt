@@ -18,7 +18,7 @@ abbrev μ-loop : tie.MeasureT-loop
 μ-loop row n₀ owner i₀ n i = 32 - i
 
 loop-holds : tie.Need-loop-holds Inv-loop μ-loop
-loop-holds c = let a = c .before .args in (omega arith, freed-none (ownerOf (a .row)) (omega arith) (cleared (a .t) (a .row)))
+loop-holds c = let a = c .before .args in (omega arith, freed-none (ownerOf (a .row)) (cleared (a .t) (a .row)))
 
 loop-again : tie.Need-loop-again Inv-loop μ-loop
 loop-again c =
