@@ -12,6 +12,7 @@ use libc::STDIN_FILENO;
 use pushes::Served;
 use show::Text;
 use stations::Stations;
+use table::STORE_SIZE;
 use table::Table;
 ghost use Rattle.pushing.specs.Made.{Made};
 
@@ -30,7 +31,7 @@ type Input = [u8; 65536];
 
 type Bytes = [u8; 66048];
 
-type Store = [u8; 47744];
+type Store = [u8; STORE_SIZE];
 
 // How many bytes of input there are, and whether no more came.
 struct Filled {
@@ -224,7 +225,7 @@ fn main() {
     let mut input = [0u8; 65536];
     let mut data = [0u8; 66048];
     let mut out = [0u8; 66048];
-    let mut store = [0u8; 47744];
+    let mut store = [0u8; STORE_SIZE];
     let mut held = stations::fresh();
     let mut text = [0u8; 65536];
     serve(

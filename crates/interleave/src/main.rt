@@ -5,6 +5,7 @@ use pushing::AfterPush;
 use pushing::Arrival;
 use pushing::Fragment;
 use pushing::Pushed;
+use table::STORE_SIZE;
 use table::Table;
 ghost use Prim.Native.Nat.{_<_};
 ghost use Rattle.pushing.specs.Made.{Made};
@@ -202,7 +203,7 @@ fn play_all(expected: Sums, store: &mut [u8], out: &mut [u8]) -> Score {
 const ONE_BY_ONE: u64 = 19305;
 
 fn main() {
-    let mut store = [0u8; 47744];
+    let mut store = [0u8; STORE_SIZE];
     let mut out = [0u8; 64];
     let expected = play(ONE_BY_ONE, &mut store, &mut out);
     let score = play_all(expected, &mut store, &mut out);
