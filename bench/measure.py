@@ -63,7 +63,7 @@ def run(command, stdin=b""):
 
 
 def counted(words, programs=PROGRAMS):
-    """The instructions of a turn in each program; None where ours has no such call yet."""
+    """The instructions of a turn in each program, whose answers have to be the same."""
     name, *size = words.split()
     counts, answers = {}, {}
     for who, program in programs.items():
@@ -72,9 +72,6 @@ def counted(words, programs=PROGRAMS):
         if again != answers[who]:
             sys.exit(f"bench: row {words}: {who} answers {answers[who]} and then {again}")
         counts[who] = (twice - once) / TURNS
-    if answers.get("ours") == b"not there\n":
-        counts["ours"] = None
-        del answers["ours"]
     if len(set(answers.values())) != 1:
         sys.exit(f"bench: row {words}: the answers differ: {answers}")
     return counts
@@ -95,11 +92,11 @@ def listed():
 
 
 def shown(n):
-    return "not there yet" if n is None else f"{n:,.0f}"
+    return f"{n:,.0f}"
 
 
 def ratio(counts, to):
-    return "" if counts["ours"] is None or to not in counts else f"{counts['ours'] / counts[to]:.2f}"
+    return "" if to not in counts else f"{counts['ours'] / counts[to]:.2f}"
 
 
 def judged(counts, plain, original, beyond, copy):
@@ -107,20 +104,17 @@ def judged(counts, plain, original, beyond, copy):
     bars, missed = [], []
     if plain:
         bars.append(f"≤ {plain} × C")
-        if counts["ours"] is not None and counts["ours"] > plain * counts["plain"]:
+        if counts["ours"] > plain * counts["plain"]:
             missed.append(f"{ratio(counts, 'plain')} times plain C, the bar is {plain}")
     if original:
         bars.append("< original" if original == 1 else f"≤ {original} × original")
-    if original and counts["ours"] is not None:
         share = counts["ours"] / counts["original"]
         if share > original or (original == 1 and share == 1):
             missed.append(f"{share:.2f} times the original, the bar is {original}")
     if beyond:
         bars.append(f"≤ {beyond:,}" + (" beyond the copy" if copy else ""))
-        if counts["ours"] is not None and counts["ours"] - copy > beyond:
+        if counts["ours"] - copy > beyond:
             missed.append(f"{counts['ours'] - copy:,.0f}{' beyond the copy of its payload' if copy else ''}, the bar is {beyond:,}")
-    if counts["ours"] is None:
-        missed.append("not there yet")
     return bars, missed
 
 

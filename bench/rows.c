@@ -98,7 +98,6 @@ static void read_kind(int turns, uint8_t code) {
     printf("%zu %zu %zu %d\n", k.entries, k.consumed, k.rest, k.refusal);
 }
 
-#ifndef WITHOUT_FIND
 static void find(int turns, uint8_t code) {
     tlvs(166, 2, 6, 4);
     AshlarWalk w = CALL(walk_into)(list, TLVS, payload, size);
@@ -113,12 +112,6 @@ static void find(int turns, uint8_t code) {
     if (f.refusal) printf("none\n");
     else printf("%lu\n", sum(value, 6));
 }
-#else
-static void find(int turns, uint8_t code) {
-    (void)turns, (void)code;
-    printf("not there\n");
-}
-#endif
 
 /* what a payload's copy costs by itself */
 static void copy(int turns, size_t n) {
