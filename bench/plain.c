@@ -217,10 +217,10 @@ static AshlarPart string_of(size_t i, size_t head, bool whole, const uint8_t *v,
 }
 
 AshlarPart plain_text(uint8_t code, size_t number, const uint8_t *v, size_t n) {
-    if (code != 21 && code != 22 && code != 0xD4) return no_part(16);
     AshlarKind k = kind_in(code, v, n);
     if (k.refusal) return no_part(k.refusal);
-    if (number >= (code == 22 ? 1 : 3)) return no_part(6);
+    size_t texts = code == 21 || code == 0xD4 ? 3 : code == 22;
+    if (number >= texts) return no_part(6);
     return code == 21 ? field(number, v) : code == 22 ? (AshlarPart){0, n, 0} : string_of(number, 0, false, v, n, 0);
 }
 

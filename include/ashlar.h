@@ -282,8 +282,8 @@ AshlarKind ashlar_read_kind(uint8_t code, const uint8_t *value, size_t value_len
    plus 1 the next one. Refusals: 15, 16. */
 AshlarFound ashlar_find(const AshlarTlv *list, size_t list_length, const uint8_t *payload, size_t payload_length, uint8_t code, size_t from);
 
-/* The text with this number, from 0, in a value of kind 21 or 0xD4, which have three, or 22, which has one. The value is read whole first. Refusals: 16, where the kind holds no
-   text, 3, 18, and then 6, where there is no such text. */
+/* The text with this number, from 0, in a value of the kind with this code: 21 and 0xD4 have three, 22 has one, any other kind none. The value is read whole first. Refusals: those of
+   ashlar_read_kind, and then 6, where there is no such text. */
 AshlarPart ashlar_text(uint8_t code, size_t number, const uint8_t *value, size_t value_length);
 
 /* The radio with this number, from 0, in a value of kind 0xD4: its id of 6 bytes, the length of its text in one, and its text. Refusals: 3, 18, 6. */

@@ -363,9 +363,8 @@ def every_entry(kind, data):
 
 def text_at(kind, data, number):
     """A text of the value itself, which has three or one."""
-    if kind not in TEXTS:
-        raise Refused(16)
-    own = checked_texts(kind, data)[0][:3]
+    consumed(kind, data)
+    own = checked_texts(kind, data)[0][:3] if kind in TEXTS else []
     if number >= len(own):
         raise Refused(6)
     return own[number]

@@ -211,7 +211,9 @@ static void texts(void) {
     check("ashlar_radio: 6", no_part(ashlar_radio(2, device, size), ASHLAR_NO_ENTRY) && no_part(ashlar_radio_text(2, device, size), ASHLAR_NO_ENTRY));
     check("ashlar_text: 3 before 6", no_part(ashlar_text(ASHLAR_DEVICE_INVENTORY, 3, device, 30), ASHLAR_CUT_SHORT));
     check("ashlar_radio: 3", no_part(ashlar_radio(0, device, 30), ASHLAR_CUT_SHORT) && no_part(ashlar_radio_text(0, device, 30), ASHLAR_CUT_SHORT));
-    check("ashlar_text: 16 where a kind holds no text", no_part(ashlar_text(ASHLAR_MAC_ADDRESS, 0, device, 6), ASHLAR_UNKNOWN_KIND) && no_part(ashlar_text(3, 0, device, 0), ASHLAR_UNKNOWN_KIND));
+    check("ashlar_text: 6 where a kind holds no text", no_part(ashlar_text(ASHLAR_MAC_ADDRESS, 0, device, 6), ASHLAR_NO_ENTRY) && no_part(ashlar_text(ASHLAR_SUPPORTED_SERVICE, 0, device + 8, 1), ASHLAR_NO_ENTRY));
+    check("ashlar_text: its value's own refusal before 6", no_part(ashlar_text(ASHLAR_MAC_ADDRESS, 0, device, 5), ASHLAR_CUT_SHORT) && no_part(ashlar_text(ASHLAR_END_OF_MESSAGE, 0, device, 1), ASHLAR_LEFT_OVER));
+    check("ashlar_text: 16, a code that no kind has", no_part(ashlar_text(3, 0, device, 0), ASHLAR_UNKNOWN_KIND));
 
     uint8_t fields[192] = "name";
     memset(fields + 64, 'x', 64);

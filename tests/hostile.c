@@ -17,7 +17,7 @@ static const unsigned numbers[KINDS] = {
     1u << 0 | 1u << 1 | 1u << 2 | 1u << 14,
     1u << 0 | 1u << 3 | 1u << 4 | 1u << 5 | 1u << 16 | 1u << 18,
     1u << 0 | 1u << 15 | 1u << 16,
-    1u << 0 | 1u << 3 | 1u << 6 | 1u << 16 | 1u << 18,
+    1u << 0 | 1u << 3 | 1u << 4 | 1u << 5 | 1u << 6 | 1u << 16 | 1u << 18,
     1u << 0 | 1u << 3 | 1u << 6 | 1u << 18,
     1u << 0 | 1u << 3 | 1u << 6 | 1u << 18,
     1u << 0 | 1u << 10 | 1u << 11 | 1u << 12 | 1u << 13,
@@ -206,7 +206,7 @@ static bool same_part(AshlarPart a, AshlarPart b, size_t n) {
 static void text(void) {
     static const uint8_t codes[3] = {21, 22, 0xD4};
     size_t n, number = below(8) ? below(5) : (size_t)any() << below(48);
-    uint8_t k = below(8) ? codes[below(3)] : code(), *p = value(k, &n);
+    uint8_t k = below(3) ? codes[below(3)] : code(), *p = value(k, &n);
     AshlarPart a = ashlar_text(k, number, p, n);
     told(TEXT, a.refusal, same_part(a, plain_text(k, number, p, n), n));
     p = value(0xD4, &n);

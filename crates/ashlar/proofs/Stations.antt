@@ -15,12 +15,10 @@ use Rattle.stations.specs.declared.Heard.{Heard}
 use Rattle.stations.specs.Whereabouts.{isJoined, eventOf}
 use Rattle.stations.specs.Rows.{Stations, answerTo}
 use Rattle.stations.specs.Events.{Taken, associationCode, eventIn, answerFrom}
-use Rattle.ashlar.specs.declared.AshlarAddress.{AshlarAddress}
-use Rattle.ashlar.specs.Stations.{addressIn, eventWith}
+use Rattle.ashlar.specs.Stations.{eventWith}
 
-pub event-told : (station point : AshlarAddress) (joined : Bool) (s p : MacAddr) (a : AssociationState) → s ≡ addressIn station → p ≡ addressIn point → isJoined a ≡ joined
-    → eventOf (record { «sta_mac» = s; «ap_mac» = p; «association_state» = a }) ≡ eventWith station point joined
-event-told station point joined s p a es ep ea = rw (es, ep, ea)
+pub event-told : (station point : MacAddr) (joined : Bool) (a : AssociationState) → isJoined a ≡ joined → eventOf (record { «sta_mac» = station; «ap_mac» = point; «association_state» = a }) ≡ eventWith station point joined
+event-told station point joined a e = rw e
 
 module _ (t : Stations) (s : List ℕ) where
   abbrev taken : ℕ → Heard → Taken

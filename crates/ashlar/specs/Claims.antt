@@ -9,10 +9,10 @@ use Rattle.numbers.specs.Firmness.{Firm}
 use Rattle.framing.specs.Cmdu.{readHeader}
 use Rattle.walking.specs.declared.Tlv.{Tlv}
 use Rattle.walking.specs.Walk.{walkOf, counted, listed, filled}
-use Rattle.kinds.specs.Kinds.{readKind}
+use Rattle.kinds.specs.Kinds.{readKind, locateTextIn}
 use Rattle.finding.specs.Finding.{findFrom}
 use Rattle.layouts.specs.Access.{Span, partOf}
-use Rattle.texts.specs.Access.{locateRadio, locateText, locateRadioText}
+use Rattle.texts.specs.Access.{locateRadio, locateRadioText}
 use Rattle.table.specs.declared.Table.{Table}
 use Rattle.table.specs.Rows.{freshTable}
 use Rattle.sweeping.specs.Sweep.{swept, sweptAs}
@@ -24,13 +24,13 @@ use Rattle.ashlar.specs.declared.AshlarPart.{AshlarPart}
 use Rattle.ashlar.specs.declared.AshlarPushed.{AshlarPushed}
 use Rattle.ashlar.specs.declared.AshlarShown.{AshlarShown}
 use Rattle.ashlar.specs.Numbers.{headerNumbers, walkNumbers, kindNumbers, foundNumbers, partNumbers, pushNumbers, Numbered, shownIn}
+use Rattle.records.specs.declared.MacAddr.{MacAddr}
 use Rattle.stations.specs.Addresses.{numberOf}
 use Rattle.stations.specs.Rows.{Stations, freshStations, whereOf, answerTo, tableAfter, rowAt, countOf, whereShown, rowShown}
 use Rattle.stations.specs.Events.{answerFrom, tableFrom}
-use Rattle.ashlar.specs.declared.AshlarAddress.{AshlarAddress}
 use Rattle.ashlar.specs.declared.AshlarHeard.{AshlarHeard}
 use Rattle.ashlar.specs.declared.AshlarApplied.{AshlarApplied}
-use Rattle.ashlar.specs.Stations.{addressIn, eventWith, eventNumbers, appliedNumbers, whereNumbers, rowNumbers}
+use Rattle.ashlar.specs.Stations.{eventWith, eventNumbers, appliedNumbers, whereNumbers, rowNumbers}
 
 -- each call by its name: any two answers that its contract allows, with what the call leaves in the list, the tables, the store and the output, are one
 pub record Firmness : Type 0 where
@@ -40,7 +40,7 @@ pub record Firmness : Type 0 where
       → Firm {A = AshlarWalk × List Tlv} (λ o. (o .0 ≡ walkNumbers (listed (length list) (walkOf payload))) × (o .1 ≡ filled (listed (length list) (walkOf payload)) (walkOf payload .tlvs) list))
   pub ashlar-read-kind : (code : ℕ) (value : List ℕ) → Firm (λ r. r ≡ kindNumbers (readKind code value))
   pub ashlar-find : (list : List Tlv) (payload : List ℕ) (code from : ℕ) → Firm (λ r. r ≡ foundNumbers (mapped (λ h. h .place) (findFrom code list payload from)))
-  pub ashlar-text : (code number : ℕ) (value : List ℕ) → Firm (λ r. r ≡ partNumbers (locateText code number value))
+  pub ashlar-text : (code number : ℕ) (value : List ℕ) → Firm (λ r. r ≡ partNumbers (locateTextIn code number value))
   pub ashlar-radio : (number : ℕ) (value : List ℕ) → Firm (λ r. r ≡ partNumbers (locateRadio 0xD4 (number ∷ []) value))
   pub ashlar-radio-text : (number : ℕ) (value : List ℕ) → Firm (λ r. r ≡ partNumbers (locateRadioText number value))
   pub ashlar-fresh : Firm (λ r. r ≡ freshTable)
@@ -49,11 +49,11 @@ pub record Firmness : Type 0 where
   pub ashlar-show : (pushed : AshlarPushed) (payload out : List ℕ) → Firm (λ r. r ≡ shownIn pushed (length payload) (length out))
   pub ashlar-sweep : (t : Table) (time : ℕ) → Firm {A = ℕ × Table} (λ o. sweptAs (o .1) (o .0) ≡ swept t time)
   pub ashlar-stations-fresh : Firm {A = Stations} (λ t′. t′ ≡ freshStations)
-  pub ashlar-station-event : (t : Stations) (station point : AshlarAddress) (joined : Bool)
+  pub ashlar-station-event : (t : Stations) (station point : MacAddr) (joined : Bool)
       → Firm {A = AshlarHeard × Stations} (λ o. (o .0 ≡ eventNumbers (answerTo t (eventWith station point joined))) × (o .1 ≡ tableAfter t (eventWith station point joined)))
   pub ashlar-station-event-from : (t : Stations) (value : List ℕ)
       → Firm {A = AshlarApplied × Stations} (λ o. (o .0 ≡ appliedNumbers (length value) (answerFrom t value)) × (o .1 ≡ tableFrom t value))
-  pub ashlar-station-at : (t : Stations) (station : AshlarAddress) → Firm (λ r. r ≡ whereNumbers (whereShown (whereOf t (numberOf (addressIn station)))))
+  pub ashlar-station-at : (t : Stations) (station : MacAddr) → Firm (λ r. r ≡ whereNumbers (whereShown (whereOf t (numberOf station))))
   pub ashlar-station-count : (t : Stations) → Firm (λ r. r ≡ countOf t)
   pub ashlar-station-row : (t : Stations) (n : ℕ) → Firm (λ r. r ≡ rowNumbers (rowShown (rowAt t n)))
 

@@ -1,4 +1,4 @@
--- Request 2026-02's answers as the numbers that cross to C. An address is six bytes in their order, there as here.
+-- Request 2026-02's answers as the numbers that cross to C. An address crosses as it is, six bytes in their order.
 use mathlib.Core.Bool.{Bool, true, false}
 use Prim.Native.Nat.{ℕ, _-_}
 use Rattle.numbers.specs.Numbers.{Answer, gives, refuses}
@@ -9,25 +9,18 @@ use Rattle.stations.specs.declared.Listed.{Listed}
 use Rattle.stations.specs.Addresses.{numberOf}
 use Rattle.stations.specs.Whereabouts.{Event}
 use Rattle.stations.specs.Events.{Taken}
-use Rattle.ashlar.specs.declared.AshlarAddress.{AshlarAddress}
 use Rattle.ashlar.specs.declared.AshlarHeard.{AshlarHeard}
 use Rattle.ashlar.specs.declared.AshlarApplied.{AshlarApplied}
 use Rattle.ashlar.specs.declared.AshlarAt.{AshlarAt}
 use Rattle.ashlar.specs.declared.AshlarRow.{AshlarRow}
 
-abbrev pub addressIn : AshlarAddress → MacAddr
-addressIn a = record { b0 = a .b0; b1 = a .b1; b2 = a .b2; b3 = a .b3; b4 = a .b4; b5 = a .b5 }
-
-abbrev pub addressFor : MacAddr → AshlarAddress
-addressFor m = record { b0 = m .b0; b1 = m .b1; b2 = m .b2; b3 = m .b3; b4 = m .b4; b5 = m .b5 }
-
 -- what stands where there is no address to tell
-abbrev pub noAddress : AshlarAddress
+abbrev pub noAddress : MacAddr
 noAddress = record { b0 = 0; b1 = 0; b2 = 0; b3 = 0; b4 = 0; b5 = 0 }
 
 -- the event that a C caller tells: this station joined that access point, or left it
-abbrev pub eventWith : (station point : AshlarAddress) → (joined : Bool) → Event
-eventWith station point joined = record { station = numberOf (addressIn station); point = numberOf (addressIn point); joined = joined }
+abbrev pub eventWith : (station point : MacAddr) → (joined : Bool) → Event
+eventWith station point joined = record { station = numberOf station; point = numberOf point; joined = joined }
 
 -- an event's answers from 1 on, 0 for a refusal; with "moved" goes the access point that the station was at
 abbrev pub heardAs : ℕ → AshlarHeard
@@ -35,7 +28,7 @@ heardAs answer = record { from = noAddress; answer = answer; refusal = 0 }
 
 abbrev pub heardNumbers : Heard → AshlarHeard
 heardNumbers Heard.Placed = heardAs 1
-heardNumbers (Heard.Moved from) = record { from = addressFor from; answer = 2; refusal = 0 }
+heardNumbers (Heard.Moved from) = record { from = from; answer = 2; refusal = 0 }
 heardNumbers Heard.Same = heardAs 3
 heardNumbers Heard.Removed = heardAs 4
 heardNumbers Heard.Stale = heardAs 5
@@ -54,8 +47,8 @@ appliedNumbers size (refuses n vs) = record { consumed = 0; rest = 0; heard = re
 
 abbrev pub whereNumbers : Where → AshlarAt
 whereNumbers Where.Nowhere = record { point = noAddress; held = false }
-whereNumbers (Where.At point) = record { point = addressFor point; held = true }
+whereNumbers (Where.At point) = record { point = point; held = true }
 
 abbrev pub rowNumbers : Listed → AshlarRow
 rowNumbers Listed.Free = record { station = noAddress; point = noAddress; held = false }
-rowNumbers (Listed.Held station point) = record { station = addressFor station; point = addressFor point; held = true }
+rowNumbers (Listed.Held station point) = record { station = station; point = point; held = true }

@@ -21,12 +21,12 @@ use walking::Walked;
 ghost use mathlib.Core.Path.{_≡_};
 ghost use Rattle.walking.specs.Walk.{walkedOf, walkOf, counted, listed, filled};
 ghost use Rattle.framing.specs.Cmdu.{readHeader};
-ghost use Rattle.kinds.specs.Kinds.{readKind};
+ghost use Rattle.kinds.specs.Kinds.{readKind, locateTextIn};
 ghost use Rattle.numbers.specs.Numbers.{mapped};
 ghost use Rattle.finding.specs.Finding.{placedOf, findFrom};
 ghost use mathlib.Core.List.{[], _∷_};
 ghost use Rattle.layouts.specs.Access.{locatedOf};
-ghost use Rattle.texts.specs.Access.{locateRadio, locateText, locateRadioText};
+ghost use Rattle.texts.specs.Access.{locateRadio, locateRadioText};
 ghost use Rattle.table.specs.Rows.{freshTable};
 ghost use lib.ListN.{length};
 ghost use Rattle.pushing.specs.Push.{pushedOf, way};
@@ -38,7 +38,7 @@ ghost use Rattle.stations.specs.Addresses.{numberOf};
 ghost use Rattle.stations.specs.Whereabouts.{isJoined};
 ghost use Rattle.stations.specs.Rows.{freshStations, whereOf, answerTo, tableAfter, rowAt, countOf, whereShown, rowShown};
 ghost use Rattle.stations.specs.Events.{answeredOf, answerFrom, tableFrom};
-ghost use Rattle.ashlar.specs.Stations.{addressIn, addressFor, noAddress, eventWith, heardAs, heardNumbers, refusedAs, eventNumbers, appliedNumbers, whereNumbers, rowNumbers};
+ghost use Rattle.ashlar.specs.Stations.{noAddress, eventWith, heardAs, heardNumbers, refusedAs, eventNumbers, appliedNumbers, whereNumbers, rowNumbers};
 
 // The header of a CMDU, its fields in their order, but for the shortfall: how many bytes are missing, where it is refused. `last` is bit 7 of `flags`.
 #[repr(C)]
@@ -248,12 +248,12 @@ fn part_numbers(located: Located) -> AshlarPart
     }
 }
 
-// Where the text with this number lies in a value of the kind with this code: kinds 21 and 0xD4 have three, 22 has one. The whole value has to read.
+// Where the text with this number lies in a value of the kind with this code: kinds 21 and 0xD4 have three, 22 has one, any other kind none. The whole value has to read.
 #[no_mangle]
 pub extern "C" fn ashlar_text(code: u8, number: usize, value: &[u8]) -> AshlarPart
-    ensures { λ r. ⌜ r ≡ partNumbers (locateText code number (now (value .entry))) ⌝ }
+    ensures { λ r. ⌜ r ≡ partNumbers (locateTextIn code number (now (value .entry))) ⌝ }
 {
-    let located = texts::locate_text(code, number, value);
+    let located = kinds::locate_text(code, number, value);
     part_numbers(located)
 }
 
@@ -373,21 +373,12 @@ pub extern "C" fn ashlar_sweep(t: &mut Table, time: u64) -> usize
     reassembler::sweep(t, time)
 }
 
-// An address, its six bytes in their order: in C, an array of them.
-#[repr(C)]
-pub struct AshlarAddress {
-    pub b0: u8,
-    pub b1: u8,
-    pub b2: u8,
-    pub b3: u8,
-    pub b4: u8,
-    pub b5: u8,
-}
+// An address is the records' own, which in C is an array of its six bytes.
 
 // What an event did: 1 placed, 2 moved, 3 the same, 4 removed, 5 stale; 0 where it is refused. With 2 goes the access point at which the station was.
 #[repr(C)]
 pub struct AshlarHeard {
-    pub from: AshlarAddress,
+    pub from: MacAddr,
     pub answer: u8,
     pub refusal: u8,
 }
@@ -403,48 +394,23 @@ pub struct AshlarApplied {
 // The access point at which a station is, if it is held.
 #[repr(C)]
 pub struct AshlarAt {
-    pub point: AshlarAddress,
+    pub point: MacAddr,
     pub held: bool,
 }
 
 // A row of the table, if it holds a station.
 #[repr(C)]
 pub struct AshlarRow {
-    pub station: AshlarAddress,
-    pub point: AshlarAddress,
+    pub station: MacAddr,
+    pub point: MacAddr,
     pub held: bool,
 }
 
-fn address_in(a: AshlarAddress) -> MacAddr
-    ensures { λ r. ⌜ r ≡ addressIn a ⌝ }
-{
-    MacAddr {
-        b0: a.b0,
-        b1: a.b1,
-        b2: a.b2,
-        b3: a.b3,
-        b4: a.b4,
-        b5: a.b5,
-    }
-}
-
-fn address_for(m: MacAddr) -> AshlarAddress
-    ensures { λ r. ⌜ r ≡ addressFor m ⌝ }
-{
-    AshlarAddress {
-        b0: m.b0,
-        b1: m.b1,
-        b2: m.b2,
-        b3: m.b3,
-        b4: m.b4,
-        b5: m.b5,
-    }
-}
-
-fn no_address() -> AshlarAddress
+// What stands where there is no address to tell.
+fn no_address() -> MacAddr
     ensures { λ r. ⌜ r ≡ noAddress ⌝ }
 {
-    AshlarAddress {
+    MacAddr {
         b0: 0,
         b1: 0,
         b2: 0,
@@ -471,7 +437,7 @@ fn heard_numbers(heard: Heard) -> AshlarHeard
     match heard {
         Heard::Placed => heard_as(1),
         Heard::Moved { from } => AshlarHeard {
-            from: address_for(from),
+            from,
             answer: 2,
             refusal: 0,
         },
@@ -521,16 +487,16 @@ pub extern "C" fn ashlar_stations_fresh(t: &mut Stations)
 #[no_mangle]
 pub extern "C" fn ashlar_station_event(
     t: &mut Stations,
-    station: AshlarAddress,
-    point: AshlarAddress,
+    station: MacAddr,
+    point: MacAddr,
     joined: bool,
 ) -> AshlarHeard
     ensures { λ r. ⌜ (r ≡ eventNumbers (answerTo (now (t .entry)) (eventWith station point joined)))
         × (now (t .exit) ≡ tableAfter (now (t .entry)) (eventWith station point joined)) ⌝ }
 {
     let e = ClientAssociation {
-        sta_mac: address_in(station),
-        ap_mac: address_in(point),
+        sta_mac: station,
+        ap_mac: point,
         association_state: state_of(joined),
     };
     let answered = stations::event(t, e);
@@ -559,12 +525,12 @@ pub extern "C" fn ashlar_station_event_from(t: &mut Stations, value: &[u8]) -> A
 
 // Where a station is.
 #[no_mangle]
-pub extern "C" fn ashlar_station_at(t: &Stations, station: AshlarAddress) -> AshlarAt
-    ensures { λ r. ⌜ r ≡ whereNumbers (whereShown (whereOf (now (t .entry)) (numberOf (addressIn station)))) ⌝ }
+pub extern "C" fn ashlar_station_at(t: &Stations, station: MacAddr) -> AshlarAt
+    ensures { λ r. ⌜ r ≡ whereNumbers (whereShown (whereOf (now (t .entry)) (numberOf station))) ⌝ }
 {
-    match stations::where_is(t, address_in(station)) {
+    match stations::where_is(t, station) {
         Where::At(place) => AshlarAt {
-            point: address_for(place),
+            point: place,
             held: true,
         },
         Where::Nowhere => AshlarAt {
@@ -589,8 +555,8 @@ pub extern "C" fn ashlar_station_row(t: &Stations, n: usize) -> AshlarRow
 {
     match stations::row(t, n) {
         Listed::Held { station, point } => AshlarRow {
-            station: address_for(station),
-            point: address_for(point),
+            station,
+            point,
             held: true,
         },
         Listed::Free => AshlarRow {

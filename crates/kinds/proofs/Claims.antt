@@ -21,6 +21,7 @@ firmness = record {
   locate = λ code path s. by-telling locatedOf located-told _;
   entry = λ code path s. both _ _ (by-equation _) (by-equation _);
   count = λ code path s. by-telling countedOf counted-told _;
+  locate-text = λ code number s. by-telling locatedOf located-told _;
   write-kind = λ code s out. both _ _ (by-telling writtenOf written-one _) (by-equation _);
 }
 

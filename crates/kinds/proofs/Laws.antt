@@ -15,7 +15,11 @@ use Rattle.records.specs.Reading.{RecordRead, isRecord, readRecord}
 use Rattle.records.proofs.Given.{isKnown, known, consumed-within as record-within}
 use Rattle.layouts.specs.Reading.{Consumed}
 use Rattle.layouts.specs.Access.{Span, partOf, startIn}
-use Rattle.kinds.specs.Kinds.{Typed, one, isListed, readListed, locateListed, countListed, isKind, oneRecord, oneList, readKind, withoutRecord, noEntryIn, locateKind, countKind}
+use Rattle.layouts.proofs.Within.{Within as LiesIn}
+use Rattle.texts.specs.Texts.{isText}
+use Rattle.texts.specs.Access.{locateText}
+use Rattle.texts.proofs.Asked.{text-within}
+use Rattle.kinds.specs.Kinds.{Typed, one, isListed, readListed, locateListed, countListed, isKind, oneRecord, oneList, readKind, withoutRecord, noEntryIn, locateKind, countKind, locateTextIn}
 use Rattle.kinds.specs.Writing.{writeKind, kindBytes}
 use Rattle.kinds.proofs.Families.{listed-within}
 
@@ -38,10 +42,15 @@ unmeasured code s n vs = by-reading (readRecord code s)
     by-reading (gives r) e = never _ _ _ (sym e)
     by-reading (refuses m us) e = let i : n ≡ m = cc in let j : vs ≡ us = cc in rw (i, j)
 
--- the refusal of an entry of a record kind is the same, whatever was asked for
+-- what is refused where there is no entry is the same, whatever was asked for
 asked : {A B C : Type 0} (x : Answer A) (n : ℕ) (vs : List ℕ) → _≡_ {A = Answer B} (refuses n vs) (andThen x (λ a. refuses 6 [])) → _≡_ {A = Answer C} (refuses n vs) (andThen x (λ a. refuses 6 []))
 asked (gives a) n vs e = let i : n ≡ 6 = cc in let j : vs ≡ [] = cc in rw (i, j)
 asked (refuses m us) n vs e = let i : n ≡ m = cc in let j : vs ≡ us = cc in rw (i, j)
+
+-- and then the empty start is shown
+no-part : {A : Type 0} (y : Answer A) (s : List ℕ) → ([] ≡ partOf (andThen y (λ a. refuses 6 [])) s) × (0 ≡ startIn (andThen y (λ a. refuses 6 [])))
+no-part (gives a) s = (refl, refl)
+no-part (refuses n vs) s = (refl, refl)
 
 module _ (code : ℕ) (s : List ℕ) where
   -- of a kind with entries
@@ -79,18 +88,28 @@ module _ (code : ℕ) (s : List ℕ) where
     no-count is = rw e
 
     pub unlocated : (is : List ℕ) (n : ℕ) (vs : List ℕ) → _≡_ {A = Answer ℕ} (refuses n vs) (noEntryIn code s) → refuses n vs ≡ locateKind code is s
-    unlocated is n vs f = asked (readRecord code s) n vs f ∙ no-entry is
+    unlocated is n vs f = asked (readKind code s) n vs f ∙ no-entry is
 
     pub uncounted : (is : List ℕ) (n : ℕ) (vs : List ℕ) → _≡_ {A = Answer ℕ} (refuses n vs) (noEntryIn code s) → refuses n vs ≡ countKind code is s
     uncounted is n vs f = f ∙ no-count is
 
-    -- the empty start is shown
-    no-part : {A : Type 0} (y : Answer A) → ([] ≡ partOf (andThen y (λ a. refuses 6 [])) s) × (0 ≡ startIn (andThen y (λ a. refuses 6 [])))
-    no-part (gives a) = (refl, refl)
-    no-part (refuses n vs) = (refl, refl)
-
     pub nothing : (is : List ℕ) → ([] ≡ partOf (locateKind code is s) s) × (0 ≡ startIn (locateKind code is s))
-    nothing is = let n = no-part (readRecord code s) in (n .0 ∙ ap (λ (x : Answer Span). partOf x s) (no-entry is), n .1 ∙ ap startIn (no-entry is))
+    nothing is = let n = no-part (readKind code s) s in (n .0 ∙ ap (λ (x : Answer Span). partOf x s) (no-entry is), n .1 ∙ ap startIn (no-entry is))
+
+  -- a text of a kind that holds texts, and of any other
+  pub text-located : (number : ℕ) → isText code ≡ true → locateText code number s ≡ locateTextIn code number s
+  unfolding locateTextIn
+  text-located number e = rw e
+
+  no-text-is : (number : ℕ) → isText code ≡ false → noEntryIn code s ≡ locateTextIn code number s
+  unfolding locateTextIn
+  no-text-is number e = rw e
+
+  pub no-text : (number : ℕ) → isText code ≡ false → (n : ℕ) (vs : List ℕ) → _≡_ {A = Answer ℕ} (refuses n vs) (noEntryIn code s) → refuses n vs ≡ locateTextIn code number s
+  no-text number e n vs f = asked (readKind code s) n vs f ∙ no-text-is number e
+
+  no-text-part : (number : ℕ) → isText code ≡ false → [] ≡ partOf (locateTextIn code number s) s
+  no-text-part number e = no-part (readKind code s) s .0 ∙ ap (λ (x : Answer Span). partOf x s) (no-text-is number e)
 
   -- what reads as a record has a record's code
   pub is-record : (r : RecordRead) → gives r ≡ readRecord code s → true ≡ isRecord code
@@ -152,3 +171,26 @@ module _ (code : ℕ) (s : List ℕ) where
   pub unwritten : (n : ℕ) (vs : List ℕ) (room : ℕ) → refuses n vs ≡ readKind code s → refuses n vs ≡ writeKind code s room
   unfolding writeKind
   unwritten n vs room e = rw (← e)
+
+-- two values whose texts are the same by the texts' own definition have the same texts
+pub text-parts : (code : ℕ) (u s : List ℕ) → ((i : ℕ) → partOf (locateText code i u) u ≡ partOf (locateText code i s) s) → (i : ℕ) → partOf (locateTextIn code i u) u ≡ partOf (locateTextIn code i s) s
+text-parts code u s same i = by-text (isText code) refl
+  where
+    part : (v : List ℕ) → isText code ≡ true → partOf (locateText code i v) v ≡ partOf (locateTextIn code i v) v
+    part v e = ap (λ (x : Answer Span). partOf x v) (text-located code v i e)
+
+    by-text : (b : Bool) → isText code ≡ b → partOf (locateTextIn code i u) u ≡ partOf (locateTextIn code i s) s
+    by-text true e = sym (part u e) ∙ same i ∙ part s e
+    by-text false e = sym (no-text-part code u i e) ∙ no-text-part code s i e
+
+-- a text lies in its value
+pub text-inside : (code number : ℕ) (s : List ℕ) (r : Span) → locateTextIn code number s ≡ gives r → LiesIn (r .start) (r .end) s
+text-inside code number s r e = by-text (isText code) refl
+  where
+    never-there : (y : Answer (Typed Record)) → _≡_ {A = Answer Span} (andThen y (λ t. refuses 6 [])) (gives r) → LiesIn (r .start) (r .end) s
+    never-there (gives t) f = never _ _ _ (sym f)
+    never-there (refuses n vs) f = never _ _ _ (sym f)
+
+    by-text : (b : Bool) → isText code ≡ b → LiesIn (r .start) (r .end) s
+    by-text true f = text-within code number s r (text-located code s number f ∙ e)
+    by-text false f = never-there (readKind code s) (no-text-is code s number f ∙ e)

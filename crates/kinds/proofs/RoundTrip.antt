@@ -20,12 +20,12 @@ use Rattle.records.proofs.Given.{consumed-within}
 use Rattle.record_writing.proofs.Claims.{round-trips}
 use Rattle.layouts.specs.Reading.{Consumed}
 use Rattle.layouts.specs.Access.{Span, partOf}
-use Rattle.kinds.specs.Kinds.{Typed, one, isListed, readListed, oneRecord, oneList, readKind, locateKind, countKind}
+use Rattle.kinds.specs.Kinds.{Typed, one, isListed, readListed, oneRecord, oneList, readKind, noEntryIn, locateKind, countKind}
 use Rattle.kinds.specs.Writing.{kindBytes}
 use Rattle.kinds.specs.Claims.{valueAt, Same, ReadsBack, RecordReadsBack}
 use Rattle.kinds.proofs.Apart.{not-listed}
 use Rattle.kinds.proofs.Families.{listed-alone, no-texts}
-use Rattle.kinds.proofs.Laws.{list-reads, list-located, list-part, list-counted, record-reads, is-record, no-entry, no-count, size, written-bytes}
+use Rattle.kinds.proofs.Laws.{list-reads, list-located, list-part, list-counted, record-reads, is-record, no-entry, no-count, text-parts, size, written-bytes}
 
 module _ (code : ℕ) (s : List ℕ) (bytes : Bytes s) (t : Typed Record) where
   -- of a kind with entries
@@ -40,7 +40,7 @@ module _ (code : ℕ) (s : List ℕ) (bytes : Bytes s) (t : Typed Record) where
         places = λ is. sym (list-located code u f is) ∙ a .located is ∙ list-located code s f is;
         counts = λ is. sym (list-counted code u f is) ∙ a .counts is ∙ list-counted code s f is;
         entries = λ is. sym (list-part code u f is) ∙ a .parts is ∙ list-part code s f is;
-        texts = a .texts;
+        texts = text-parts code u s (a .texts);
         radio-texts = a .radio-texts;
       })
   as-list f (refuses n vs) e g = never _ _ _ g
@@ -57,17 +57,20 @@ module _ (code : ℕ) (s : List ℕ) (bytes : Bytes s) (t : Typed Record) where
       (record {
         reads = sym (record-reads code u f) ∙ ap (mapped (oneRecord (length u))) a ∙ ap (λ (n : ℕ). gives (record { held = one (r .value); consumed = r .consumed; rest = n })) z;
         places = λ is. sym (six u a is) ∙ six s (sym e) is;
-        counts = λ is. sym (none u a is) ∙ none s (sym e) is;
+        counts = λ is. sym (uncounted u a is) ∙ uncounted s (sym e) is;
         entries = λ is. ap (λ (x : Answer Span). partOf x u) (sym (six u a is)) ∙ ap (λ (x : Answer Span). partOf x s) (six s (sym e) is);
-        texts = no-texts code f s u .0;
+        texts = text-parts code u s (no-texts code f s u .0);
         radio-texts = no-texts code f s u .1;
       })
     where
-      six : (v : List ℕ) → readRecord code v ≡ gives r → (is : List ℕ) → refuses 6 [] ≡ locateKind code is v
-      six v h is = ap (λ (x : Answer RecordRead). andThen x (λ y. refuses 6 [])) (sym h) ∙ no-entry code v f is
+      none : {A : Type 0} (v : List ℕ) → readRecord code v ≡ gives r → _≡_ {A = Answer A} (refuses 6 []) (noEntryIn code v)
+      none v h = ap (λ (x : Answer (Typed Record)). andThen x (λ y. refuses 6 [])) (ap (mapped (oneRecord (length v))) (sym h) ∙ record-reads code v f)
 
-      none : (v : List ℕ) → readRecord code v ≡ gives r → (is : List ℕ) → refuses 6 [] ≡ countKind code is v
-      none v h is = ap (λ (x : Answer RecordRead). andThen x (λ y. refuses 6 [])) (sym h) ∙ no-count code v f is
+      six : (v : List ℕ) → readRecord code v ≡ gives r → (is : List ℕ) → refuses 6 [] ≡ locateKind code is v
+      six v h is = none v h ∙ no-entry code v f is
+
+      uncounted : (v : List ℕ) → readRecord code v ≡ gives r → (is : List ℕ) → refuses 6 [] ≡ countKind code is v
+      uncounted v h is = none v h ∙ no-count code v f is
   as-record f (refuses n vs) e g = never _ _ _ g
 
   -- the consumed bytes alone are such a value

@@ -20,8 +20,8 @@ use Rattle.layouts.specs.Layouts.{isList}
 use Rattle.layouts.specs.declared.Path.{Path}
 use Rattle.layouts.specs.Access.{numbersOf, locatedOf, countedOf, partOf, startIn}
 use Rattle.texts.specs.Texts.{isText}
-use Rattle.texts.specs.Access.{locateText, locateRadioText}
-use Rattle.kinds.specs.Kinds.{Typed, one, isKind, kindReadOf, readKind, kindSizeOf, withoutRecord, locateKind, countKind}
+use Rattle.texts.specs.Access.{locateRadioText}
+use Rattle.kinds.specs.Kinds.{Typed, one, isKind, kindReadOf, readKind, kindSizeOf, withoutRecord, locateKind, countKind, locateTextIn}
 use Rattle.kinds.specs.Writing.{writeKind, kindBytes}
 
 -- each public call by its name: any two answers that its contract allows are one, with what the lent buffer holds afterwards. A part is its bytes and its place.
@@ -33,6 +33,7 @@ pub record Firmness : Type 0 where
   pub entry : (code : ℕ) (path : Path) (s : RefT (List ℕ)) → Firm {A = List ℕ × (ℕ × ℕ)} (λ r.
       (r .0 ≡ partOf (locateKind code (numbersOf path) (now s)) (now s)) × (r .1 ≡ behind (startIn (locateKind code (numbersOf path) (now s))) s))
   pub count : (code : ℕ) (path : Path) (s : List ℕ) → Firm (λ r. countedOf r ≡ countKind code (numbersOf path) s)
+  pub locate-text : (code number : ℕ) (s : List ℕ) → Firm (λ r. locatedOf r ≡ locateTextIn code number s)
   pub write-kind : (code : ℕ) (s out : List ℕ)
       → Firm {A = Written × List ℕ} (λ o. (writtenOf (o .0) ≡ writeKind code s (length out)) × (o .1 ≡ leaves (writeKind code s (length out)) (kindBytes code s) out))
 
@@ -54,7 +55,7 @@ pub record Same (code : ℕ) (t : Typed Record) (s v : List ℕ) : Type 0 where
   pub places : (numbers : List ℕ) → locateKind code numbers v ≡ locateKind code numbers s
   pub counts : (numbers : List ℕ) → countKind code numbers v ≡ countKind code numbers s
   pub entries : (numbers : List ℕ) → partOf (locateKind code numbers v) v ≡ partOf (locateKind code numbers s) s
-  pub texts : (i : ℕ) → partOf (locateText code i v) v ≡ partOf (locateText code i s) s
+  pub texts : (i : ℕ) → partOf (locateTextIn code i v) v ≡ partOf (locateTextIn code i s) s
   pub radio-texts : code ≡ 0xD4 → (i : ℕ) → partOf (locateRadioText i v) v ≡ partOf (locateRadioText i s) s
 
 -- what is written from a value reads back, whatever stands behind it

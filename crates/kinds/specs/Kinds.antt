@@ -12,7 +12,7 @@ use Rattle.layouts.specs.Reading as layouts
 use Rattle.layouts.specs.Access as access
 use Rattle.texts.specs.Texts.{isText}
 use Rattle.texts.specs.Reading as texts
-use Rattle.texts.specs.Access.{locateRadio, countRadios}
+use Rattle.texts.specs.Access.{locateRadio, countRadios, locateText}
 use Rattle.kinds.specs.declared.KindRead.{KindRead}
 use Rattle.kinds.specs.declared.KindRead.the-variants as KindRead
 use Rattle.kinds.specs.declared.KindSize.{KindSize}
@@ -75,12 +75,16 @@ heldWithout (list n) = list n
 abbrev pub withoutRecord : Typed Record → Typed Unit
 withoutRecord t = record { held = heldWithout (t .held); consumed = t .consumed; rest = t .rest }
 
--- an entry of a record kind: there is none, which is 6 "after the value has read"
+-- an entry of a record kind, or a text of a kind that holds none: 6, "no entry with these numbers", after the value has read
 abbrev pub noEntryIn : {A : Type 0} → ℕ → List ℕ → Answer A
-noEntryIn code s = andThen (records.readRecord code s) (λ r. refuses 6 [])
+noEntryIn code s = andThen (readKind code s) (λ r. refuses 6 [])
 
 unfoldable pub locateKind : ℕ → List ℕ → List ℕ → Answer access.Span
 locateKind code numbers s = cond (isListed code) (locateListed code numbers s) (noEntryIn code s)
 
 unfoldable pub countKind : ℕ → List ℕ → List ℕ → Answer ℕ
 countKind code numbers s = cond (isListed code) (countListed code numbers s) (noEntryIn code s)
+
+-- the value's own text with this number
+unfoldable pub locateTextIn : ℕ → ℕ → List ℕ → Answer access.Span
+locateTextIn code number s = cond (isText code) (locateText code number s) (noEntryIn code s)

@@ -18,7 +18,7 @@ ghost use Rattle.framing.specs.Tlv.{writtenOf, leaves};
 ghost use Rattle.numbers.specs.Parts.{behind};
 ghost use Rattle.layouts.specs.Access.{numbersOf, locatedOf, countedOf, partOf, startIn};
 ghost use Rattle.records.specs.Reading.{readRecord};
-ghost use Rattle.kinds.specs.Kinds.{isKind, kindReadOf, oneRecord, readKind, kindSizeOf, withoutRecord, noEntryIn, locateKind, countKind};
+ghost use Rattle.kinds.specs.Kinds.{isKind, kindReadOf, oneRecord, readKind, kindSizeOf, withoutRecord, noEntryIn, locateKind, countKind, locateTextIn};
 ghost use Rattle.kinds.specs.Writing.{writeKind, kindBytes};
 
 // What reading a typed value finds: a record, or how many entries a list kind's own list or a value that holds text has; with the bytes that were consumed, and how many are left
@@ -133,16 +133,21 @@ pub fn measure(code: u8, s: &[u8]) -> KindSize
     }
 }
 
-// What is refused where an entry of a record kind is asked for: the value's own refusal, and then that a record has no entries.
+// What is refused where an entry of a record kind is asked for, or a text of a kind that holds none: the value's own refusal, and then that there is none.
 fn no_entry_in(code: u8, s: &[u8]) -> Refusal
     ensures { λ r. ⌜ told {A = ℕ} r ≡ noEntryIn code (now (s .entry)) ⌝ }
 {
-    match records::read_record(code, s) {
-        Read::Got {
-            record: _,
+    match measure(code, s) {
+        KindSize::Record {
             consumed: _,
+            rest: _,
         } => Refusal::NoEntry,
-        Read::Refused(refusal) => refusal,
+        KindSize::List {
+            entries: _,
+            consumed: _,
+            rest: _,
+        } => Refusal::NoEntry,
+        KindSize::Refused(refusal) => refusal,
     }
 }
 
@@ -175,6 +180,16 @@ pub fn count(code: u8, path: Path, s: &[u8]) -> Counted
         return listed::count_listed(code, path, s);
     }
     Counted::Refused(no_entry_in(code, s))
+}
+
+// Where the text with this number lies in the value s, which has to read whole: three kinds hold texts of their own, the others have none with any number.
+pub fn locate_text(code: u8, number: usize, s: &[u8]) -> Located
+    ensures { λ r. ⌜ locatedOf r ≡ locateTextIn code number (now (s .entry)) ⌝ }
+{
+    if texts::is_text(code) {
+        return texts::locate_text(code, number, s);
+    }
+    Located::Refused(no_entry_in(code, s))
 }
 
 // The TLV of the kind with this code, from value bytes that read; the bytes behind those consumed are not written.

@@ -45,6 +45,10 @@ pub regrouped : {A B C : Type 0} (x : Answer A) (f : A → Answer B) (g : B → 
 regrouped (gives a) f g = refl
 regrouped (refuses n vs) f g = refl
 
+pub mapped-then : {A B C : Type 0} (f : A → B) (x : Answer A) (g : B → Answer C) → andThen (mapped f x) g ≡ andThen x (λ a. g (f a))
+mapped-then f (gives a) g = refl
+mapped-then f (refuses n vs) g = refl
+
 pub mapped-twice : {A B C : Type 0} (f : A → B) (g : B → C) (x : Answer A) → mapped g (mapped f x) ≡ mapped (λ a. g (f a)) x
 mapped-twice f g (gives a) = refl
 mapped-twice f g (refuses n vs) = refl

@@ -12,6 +12,8 @@ ghost use Rattle.records.specs.Kinds.{kinds, codeOf, kindOf};
 ghost use Rattle.records.specs.Reading.{gotOf, readRecord, measuredOf, withCode, isRecord};
 ghost use Rattle.records.specs.PrivateKinds.{knownOf};
 
+// An address, its six bytes in their order. It crosses to C as it is.
+#[repr(C)]
 pub struct MacAddr {
     pub b0: u8,
     pub b1: u8,

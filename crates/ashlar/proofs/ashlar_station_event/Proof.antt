@@ -12,11 +12,9 @@ returns : tie.Need-returns
 returns c =
     let v = c .before in
     let s = v .before .before in
-    let p = s .before in
-    let a = p .before in
-    let x = a .before .args in
-    let one = event-told (x .station) (x .point) (x .joined) _ _ (s .state-of .result) (a .address-in .ensures) (p .address-in2 .ensures) (s .state-of .ensures) in
+    let x = s .before .args in
+    let one = event-told (x .station) (x .point) (x .joined) (s .state-of .result) (s .state-of .ensures) in
     (c .event-numbers .ensures ∙ ap eventNumbers (v .event .ensures .0 ∙ ap (answerTo (now (x .t))) one), v .event .ensures .1 ∙ ap (tableAfter (now (x .t))) one)
 
 pub ashlar-station-event-spec : {M : Type 1} → statement M
-ashlar-station-event-spec = tie.close (tie.spec (λ c κs. search needs) (λ c κs. search needs) (λ c κs. search needs) (λ c κs. search needs) (λ c κs. search needs) returns)
+ashlar-station-event-spec = tie.close (tie.spec (λ c κs. search needs) (λ c κs. search needs) (λ c κs. search needs) returns)

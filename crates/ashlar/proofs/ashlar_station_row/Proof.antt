@@ -7,8 +7,8 @@ use Rattle.ashlar.proofs.ashlar_station_row.Tie as tie
 
 returns : tie.Need-returns
 returns c =
-    let k = c .before .before .before in
-    rw (c .address-for2 .ensures, c .before .address-for .ensures) (ap rowNumbers (sym (k .station .given .1) ∙ k .before .before .row .ensures))
+    let k = c .before in
+    ap rowNumbers (sym (k .station .given .1) ∙ k .before .before .row .ensures)
 
 returns-2 : tie.Need-returns-2
 returns-2 c =
@@ -21,8 +21,6 @@ ashlar-station-row-spec =
     (tie.spec
     (λ c κs. search needs)
     (λ c. search needs)
-    (λ c κs. search needs)
-    (λ c κs. search needs)
     (λ c. search needs)
     (λ c κs. search needs)
     (λ c κs. search needs)

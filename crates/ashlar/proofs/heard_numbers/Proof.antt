@@ -7,7 +7,7 @@ returns : tie.Need-returns
 returns c = rw (c .heard-as .ensures, c .before .enum-told .given .1)
 
 returns-2 : tie.Need-returns-2
-returns-2 c = rw (c .address-for .ensures, c .before .before .heard .given .1)
+returns-2 c = rw (c .before .heard .given .1)
 
 returns-3 : tie.Need-returns-3
 returns-3 c = rw (c .heard-as2 .ensures, c .before .enum-told2 .given .1)
@@ -25,7 +25,6 @@ heard-numbers-spec =
     (λ c. search needs)
     (λ c κs. search needs)
     (λ c. search needs)
-    (λ c κs. search needs)
     (λ c. search needs)
     (λ c κs. search needs)
     (λ c. search needs)

@@ -109,7 +109,7 @@ pub(crate) fn entry(code: u8, numbers: &[u8], data: &[u8], text: &mut Text, used
 
 // u: the text of a value with this number.
 pub(crate) fn text_of(code: u8, number: usize, data: &[u8], text: &mut Text, used: usize) -> usize {
-    let located = texts::locate_text(code, number, data);
+    let located = kinds::locate_text(code, number, data);
     put_part(located, texts::text(code, number, data), text, used)
 }
 
