@@ -57,7 +57,7 @@ module _ (code : ℕ) (s : List ℕ) (bytes : Bytes s) (t : Typed Record) where
       (record {
         reads = sym (record-reads code u f) ∙ ap (mapped (oneRecord (length u))) a ∙ ap (λ (n : ℕ). gives (record { held = one (r .value); consumed = r .consumed; rest = n })) z;
         places = λ is. sym (six u a is) ∙ six s (sym e) is;
-        counts = λ is. sym (uncounted u a is) ∙ uncounted s (sym e) is;
+        counts = λ is. sym (six-counted u a is) ∙ six-counted s (sym e) is;
         entries = λ is. ap (λ (x : Answer Span). partOf x u) (sym (six u a is)) ∙ ap (λ (x : Answer Span). partOf x s) (six s (sym e) is);
         texts = text-parts code u s (no-texts code f s u .0);
         radio-texts = no-texts code f s u .1;
@@ -69,8 +69,8 @@ module _ (code : ℕ) (s : List ℕ) (bytes : Bytes s) (t : Typed Record) where
       six : (v : List ℕ) → readRecord code v ≡ gives r → (is : List ℕ) → refuses 6 [] ≡ locateKind code is v
       six v h is = none v h ∙ no-entry code v f is
 
-      uncounted : (v : List ℕ) → readRecord code v ≡ gives r → (is : List ℕ) → refuses 6 [] ≡ countKind code is v
-      uncounted v h is = none v h ∙ no-count code v f is
+      six-counted : (v : List ℕ) → readRecord code v ≡ gives r → (is : List ℕ) → refuses 6 [] ≡ countKind code is v
+      six-counted v h is = none v h ∙ no-count code v f is
   as-record f (refuses n vs) e g = never _ _ _ g
 
   -- the consumed bytes alone are such a value

@@ -1,4 +1,4 @@
-// The 24 kinds by their codes: a value is read as a list, as text or as a record, its entries are asked for, and value bytes that read are written as a TLV.
+// The 24 kinds by their codes: a value is read as a list, as text or as a record, its entries and texts are asked for, and value bytes that read are written as a TLV.
 mod listed;
 
 use framing::Written;
