@@ -1,1 +1,1 @@
-pub mod Examples
+pub mod Claims

@@ -1,0 +1,229 @@
+-- Every row of the table holds: both sides compute to the same. Four rows on the table of fragments are theorems about runs.
+use mathlib.Core.Path.{refl}
+use Rattle.searching.specs.Search.{lowest}
+use Rattle.machines.specs.Machine.{those}
+use Rattle.framing.specs.Tlv.{readTlv, writeSize}
+use Rattle.framing.specs.Cmdu.{readHeader}
+use Rattle.walking.specs.Walk.{stepAt, walkFrom, walkOf}
+use Rattle.records.specs.Reading.{empty, fixed, readRecord}
+use Rattle.record_writing.specs.Writing.{recordSize}
+use Rattle.layouts.specs.Layouts.{layoutOf, isList}
+use Rattle.layouts.specs.Reading.{countAt, listOf, entriesEnd, endOf, consumedTo, readAs, readValue}
+use Rattle.layouts.specs.Access.{childAt, findEntry, spanOf, lengthAt, ofValue, locateEntry, countEntries}
+use Rattle.utf8.specs.Utf8.{passes}
+use Rattle.texts.specs.Texts.{textKind, isText}
+use Rattle.texts.specs.Reading.{untilZero, pieceAt, piecesAt, radioList, laidOf, validOf, wholeOf, readText}
+use Rattle.texts.specs.Access.{ofText, locateRadio, countRadios, locateText, locateRadioText}
+use Rattle.kinds.specs.Kinds.{readListed, locateListed, countListed, readKind, locateKind, countKind, locateTextIn}
+use Rattle.kinds.specs.Writing.{writeKind, kindBytes}
+use Rattle.finding.specs.Finding.{readsAs, firstOf, findFrom, findInPayload}
+use Rattle.pushing.specs.Push.{wayBy, keepWay, messageWay}
+use Rattle.stations.specs.Addresses.{addressOf}
+use Rattle.stations.specs.Rows.{whereOf, allHeld, afterJoin, afterLeave, countBelow}
+use Rattle.orders.proofs.Examples.{stays-at-2999, goes-at-3000, zero-then-last-one, last-one-alone}
+use Rattle.examples.specs.Claims.{Claims, OfFraming, OfWalks, OfKinds, OfTexts, OfFinding, OfTheTable, OfStations}
+
+of-framing : OfFraming
+unfolding readTlv readHeader writeSize
+of-framing = record {
+  empty = refl;
+  two-bytes = refl;
+  end-marker = refl;
+  runs-past = refl;
+  read = refl;
+  value = refl;
+  runs-far-past = refl;
+  header-of = refl;
+  not-the-last = refl;
+  no-header = refl;
+  seven-bytes = refl;
+  longest = refl;
+  a-byte-too-long = refl;
+  a-byte-of-room-too-few = refl;
+  header-bytes = refl;
+  past-it = refl;
+  as-lent = refl;
+}
+
+of-walks : OfWalks
+unfolding readTlv stepAt walkFrom walkOf
+of-walks = record {
+  no-tlvs = refl;
+  padded-to = refl;
+  padded-walk = refl;
+  unpadded-walk = refl;
+  end-7 = refl;
+  type-0-with-a-length = refl;
+  step-over = refl;
+  step-at-the-marker = refl;
+  step-at-the-end = refl;
+  cut-header = refl;
+  cut-value = refl;
+  list-too-short = refl;
+  no-list = refl;
+  fault-before-14 = refl;
+  just-enough = refl;
+  list-filled = refl;
+}
+
+of-kinds : OfKinds
+unfolding empty fixed readRecord layoutOf isList countAt listOf entriesEnd endOf consumedTo readAs readValue childAt findEntry spanOf lengthAt ofValue locateEntry countEntries textKind isText untilZero pieceAt piecesAt radioList laidOf validOf wholeOf readText passes readListed locateListed countListed readKind locateKind countKind writeSize writeKind kindBytes recordSize
+of-kinds = record {
+  the-24 = refl;
+  joined = refl;
+  left = refl;
+  neither = refl;
+  no-profile = refl;
+  reserved-profile = refl;
+  capability = refl;
+  cut-entry = refl;
+  al-mac-address = refl;
+  end-of-message = refl;
+  no-end-of-message = refl;
+  mac-address = refl;
+  searched-role = refl;
+  supported-role = refl;
+  band = refl;
+  version = refl;
+  result-code = refl;
+  query-of-all = refl;
+  query-of-one = refl;
+  association-left-over = refl;
+  profile = refl;
+  capability-left-over = refl;
+  supported-service = refl;
+  agent = refl;
+  non-1905-neighbours = refl;
+  last-plain-neighbour = refl;
+  ieee1905-neighbours = refl;
+  cut-neighbour = refl;
+  last-neighbour = refl;
+  ipv4-interfaces = refl;
+  last-ipv4 = refl;
+  ipv6-interfaces = refl;
+  last-ipv6 = refl;
+  bridging = refl;
+  last-bridged = refl;
+  operational-radios = refl;
+  last-letter = refl;
+  configured-radios = refl;
+  last-letter-configured = refl;
+  l2-neighbours = refl;
+  l2-left-over = refl;
+  last-beyond = refl;
+  unknown-kind = refl;
+  cut-record = refl;
+  cut-list = refl;
+  cut-front = refl;
+  no-such-entry = refl;
+  no-numbers = refl;
+  one-number-too-many = refl;
+  entry-of-a-record = refl;
+  entry-of-a-cut-record = refl;
+  entry-of-no-kind = refl;
+  entries-counted = refl;
+  letters-counted = refl;
+  none-counted-in-a-record = refl;
+  written-without-its-rest = refl;
+  size-written = refl;
+  no-room-for-it = refl;
+  unknown-kind-written = refl;
+  cut-value-written = refl;
+  left-over-written = refl;
+  bad-value-written = refl;
+  no-text-written = refl;
+  record-written = refl;
+  no-room-for-a-record = refl;
+  never-read = refl;
+  role-never-read = refl;
+  stray-address = refl;
+}
+
+of-texts : OfTexts
+unfolding empty fixed readRecord layoutOf isList countAt listOf entriesEnd endOf consumedTo readAs readValue childAt findEntry spanOf lengthAt ofValue locateEntry countEntries textKind isText untilZero pieceAt piecesAt radioList laidOf validOf wholeOf readText ofText locateRadio countRadios locateText locateRadioText passes readListed locateListed countListed readKind locateKind countKind locateTextIn those
+of-texts = record {
+  device-identification = refl;
+  model-name = refl;
+  no-name = refl;
+  all-64 = refl;
+  control-url = refl;
+  zero-in-a-url = refl;
+  device-inventory = refl;
+  second-string = refl;
+  last-radio = refl;
+  no-byte-of-it = refl;
+  last-chip = refl;
+  accepted = refl;
+  refused = refl;
+  no-text = refl;
+  cut-wins = refl;
+  no-fourth-text = refl;
+  text-of-a-record = refl;
+  no-third-radio = refl;
+  radios-counted = refl;
+  no-list-in-a-radio = refl;
+  no-list-in-a-url = refl;
+}
+
+of-finding : OfFinding
+unfolding readTlv stepAt walkFrom walkOf fixed readRecord layoutOf isList textKind isText readListed readKind readsAs firstOf findFrom findInPayload
+of-finding = record {
+  found-at = refl;
+  none-found = refl;
+  no-kind-to-find = refl;
+  none-in-a-payload = refl;
+  unwalked = refl;
+  no-kind-in-a-payload = refl;
+}
+
+of-the-table : OfTheTable
+unfolding wayBy keepWay messageWay
+of-the-table = record {
+  store-too-small = λ keeps joins. refl;
+  payload-too-long = λ keeps joins. refl;
+  held-already = λ keeps joins. refl;
+  kept-if-not-last = λ keeps joins. refl;
+  joined-if-last = λ keeps joins. refl;
+  no-place-free = refl;
+  no-row-free = refl;
+  row-of-its-own = refl;
+  new-row = refl;
+  output-too-small = refl;
+  output-just-enough = refl;
+  single-needs-none = refl;
+  stays = λ store p i more. stays-at-2999 store (i .long) p (i .lent) (i .small) more;
+  goes = λ store p i more. goes-at-3000 store (i .long) p (i .lent) (i .small) more;
+  completes = λ store p q i j z.
+      zero-then-last-one store (i .long) p q (i .lent) (j .lent) (i .small) (j .small) (z .key) (z .version) (z .message-type) (z .numbers .0) (z .numbers .1) (z .marks .0) (z .marks .1) (z .room);
+  alone = λ store p i number last. last-one-alone store (i .long) p (i .lent) (i .small) number last;
+}
+
+of-stations : OfStations
+unfolding lowest whereOf allHeld afterJoin afterLeave addressOf countBelow empty fixed readRecord
+of-stations = record {
+  placed = (refl, refl);
+  moved = (refl, refl);
+  same = (refl, refl);
+  second = (refl, refl);
+  removed = (refl, refl);
+  late = (refl, refl);
+  not-held = (refl, refl);
+  held-128 = refl;
+  unknown-refused = (refl, refl);
+  known-moves = (refl, refl);
+  leave-frees = (refl, refl);
+  event-read = refl;
+  event-cut = (refl, refl);
+  event-unreadable = (refl, refl);
+}
+
+pub claims : Claims
+claims = record {
+  framing = of-framing;
+  walks = of-walks;
+  kinds = of-kinds;
+  texts = of-texts;
+  finding = of-finding;
+  table = of-the-table;
+  stations = of-stations;
+}

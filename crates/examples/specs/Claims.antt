@@ -1,0 +1,266 @@
+-- The worked examples of documents 01 and 02, proved together as one table, and a row for each choice that code and definition could get wrong alike: where both are wrong
+-- in the same way no contract notices, and these do. A row is an equation between what a definition gives and what the document says.
+use mathlib.Core.Path.{_≡_}
+use mathlib.Core.Bool.{true, false}
+use mathlib.Core.List.{List, [], _∷_, _++_}
+use Prim.Native.Nat.{ℕ, _+_}
+use lib.ListN.{length, drop, replicate}
+use Rattle.numbers.specs.Numbers.{gives, refuses}
+use Rattle.machines.specs.Machine.{those}
+use Rattle.framing.specs.Tlv.{readTlv, valueIn, header, writeSize, leaves}
+use Rattle.framing.specs.Cmdu.{readHeader}
+use Rattle.walking.specs.Walk.{passed, last, ended, stepAt, walkOf, counted, listed, filled}
+use Rattle.records.specs.declared.Record.{Record}
+use Rattle.records.specs.declared.SupportedFreqBand.{SupportedFreqBand}
+use Rattle.records.specs.declared.Ieee1905ProfileVersion.{Ieee1905ProfileVersion}
+use Rattle.records.specs.declared.LinkMetricResultCode.{LinkMetricResultCode}
+use Rattle.records.specs.declared.NeighborMac.{NeighborMac}
+use Rattle.records.specs.declared.AssociationState.{AssociationState}
+use Rattle.records.specs.declared.MultiApProfile.{MultiApProfile}
+use Rattle.record_writing.specs.Writing.{recordSize}
+use Rattle.layouts.specs.Access.{partOf}
+use Rattle.utf8.specs.Utf8.{isUtf8}
+use Rattle.texts.specs.Access.{locateRadioText}
+use Rattle.kinds.specs.Kinds.{one, readKind, locateKind, countKind, locateTextIn}
+use Rattle.kinds.specs.Writing.{writeKind, kindBytes}
+use Rattle.finding.specs.Finding.{findFrom, findInPayload}
+use Rattle.pushing.specs.Push.{Way, refuse, duplicate, keepAt, openAt, end, waiting, duplicated, inconsistent, missing, missingLast, single, joined as joinedAs, wayBy, keepWay, messageWay}
+use Rattle.orders.specs.Runs.{Push, push, sweep, pushed, dropped, after, tells, start, holding, holdsNothing, repliesTo}
+use Rattle.stations.specs.declared.Heard.{Heard}
+use Rattle.stations.specs.Rows.{freshStations, answerTo, tableAfter, holds, countOf}
+use Rattle.stations.specs.Events.{answerFrom, tableFrom}
+use Rattle.examples.specs.Given.{association, associated, padded, able, codesBelow, one-record, a-list, and-more, entry-of, mac, kept-mac, home, guest, services, plain-neighbours, neighbours, by-dhcp, static, ipv4, by-itself, ipv6, bridges, operational, configured, beyond, e-acute, identification, inventory, text-of, on-the-edge, past-the-edge, with-a-byte, with-none, two-tlvs, join-of, leave-of, with-7, with-128, rows-below, LetIn, ZeroThenLastOne}
+
+pub record OfFraming : Type 0 where
+  -- "empty gives 1; `01 00` gives 1"
+  pub empty : readTlv [] ≡ refuses 1 (3 ∷ [])
+  pub two-bytes : readTlv (0x01 ∷ 0x00 ∷ []) ≡ refuses 1 (1 ∷ [])
+  -- "`00 00 00` is type 0, consumed 3"
+  pub end-marker : readTlv (0x00 ∷ 0x00 ∷ 0x00 ∷ []) ≡ gives (record { tlv-type = 0; value-length = 0; consumed = 3 })
+  -- "`01 00 02 AA` gives 2"
+  pub runs-past : readTlv (0x01 ∷ 0x00 ∷ 0x02 ∷ 0xAA ∷ []) ≡ refuses 2 (1 ∷ [])
+  -- "`01 00 02 AA BB CC` has value `AA BB`, rest 1": five of the six bytes are consumed
+  pub read : readTlv (0x01 ∷ 0x00 ∷ 0x02 ∷ 0xAA ∷ 0xBB ∷ 0xCC ∷ []) ≡ gives (record { tlv-type = 1; value-length = 2; consumed = 5 })
+  pub value : valueIn (readTlv (0x01 ∷ 0x00 ∷ 0x02 ∷ 0xAA ∷ 0xBB ∷ 0xCC ∷ [])) (0x01 ∷ 0x00 ∷ 0x02 ∷ 0xAA ∷ 0xBB ∷ 0xCC ∷ []) ≡ 0xAA ∷ 0xBB ∷ []
+  -- 2 goes before any look at the value, and 1 before the declared length: a length that can't be read is not looked at
+  pub runs-far-past : readTlv (0x01 ∷ 0xFF ∷ 0xFF ∷ []) ≡ refuses 2 (65535 ∷ [])
+  -- the CMDU header: "version, reserved byte, type in 2 bytes, message id in 2, fragment number, flags; bit 7 of flags marks the last fragment"
+  pub header-of : readHeader (0x01 ∷ 0x02 ∷ 0x80 ∷ 0x03 ∷ 0x12 ∷ 0x34 ∷ 0x05 ∷ 0x80 ∷ [])
+      ≡ gives (record { «message_version» = 1; reserved = 2; «message_type» = 0x8003; «message_id» = 0x1234; fragment = 5; flags = 0x80; «last_fragment» = true })
+  pub not-the-last : readHeader (replicate 7 0x00 ++ (0x7F ∷ []))
+      ≡ gives (record { «message_version» = 0; reserved = 0; «message_type» = 0; «message_id» = 0; fragment = 0; flags = 0x7F; «last_fragment» = false })
+  pub no-header : readHeader [] ≡ refuses 1 (8 ∷ [])
+  pub seven-bytes : readHeader (replicate 7 0x80) ≡ refuses 1 (1 ∷ [])
+  -- "65,535 bytes written, 65,536 refused"; 8 before 7, and the room that is just enough
+  pub longest : writeSize 65535 65538 ≡ gives 65538
+  pub a-byte-too-long : writeSize 65536 0 ≡ refuses 8 []
+  pub a-byte-of-room-too-few : writeSize 65535 65537 ≡ refuses 7 []
+  pub header-bytes : header 0x92 0x1234 ≡ 0x92 ∷ 0x12 ∷ 0x34 ∷ []
+  -- "Bytes past the TLV stay as lent"
+  pub past-it : leaves (writeSize 0 5) (header 2 0) (1 ∷ 2 ∷ 3 ∷ 4 ∷ 5 ∷ []) ≡ 2 ∷ 0 ∷ 0 ∷ 4 ∷ 5 ∷ []
+  pub as-lent : leaves (writeSize 0 2) (header 2 0) (1 ∷ 2 ∷ []) ≡ 1 ∷ 2 ∷ []
+
+pub record OfWalks : Type 0 where
+  -- "An empty payload has none."
+  pub no-tlvs : counted (walkOf []) ≡ gives (record { count = 0; padding = 0 })
+  -- document 02, 2026-03: "8 header bytes and a 3-byte end marker [..] padded by an Ethernet bridge to 46, and 35 zero bytes": one TLV, and its padding
+  pub padded-to : length (padded 35) ≡ 46
+  pub padded-walk : counted (walkOf (drop 8 (padded 35))) ≡ gives (record { count = 1; padding = 35 })
+  pub unpadded-walk : counted (walkOf (drop 8 (padded 0))) ≡ gives (record { count = 1; padding = 0 })
+  -- "the `end 7` example stands": the marker is the last of seven bytes; and a TLV of type 0 with a length is none
+  pub end-7 : counted (walkOf (0x01 ∷ 0x00 ∷ 0x01 ∷ 0x7F ∷ 0x00 ∷ 0x00 ∷ 0x00 ∷ [])) ≡ gives (record { count = 2; padding = 0 })
+  pub type-0-with-a-length : counted (walkOf (0x00 ∷ 0x00 ∷ 0x01 ∷ 0x7F ∷ 0x01 ∷ 0x00 ∷ 0x00 ∷ [])) ≡ gives (record { count = 2; padding = 0 })
+  -- a step, over a TLV, over the marker, and at the end
+  pub step-over : stepAt two-tlvs 0 ≡ gives (passed with-a-byte 4)
+  pub step-at-the-marker : stepAt (0x00 ∷ 0x00 ∷ 0x00 ∷ 0x01 ∷ []) 0 ≡ gives (last (record { «tlv_type» = 0; length = 0; offset = 0 }) 3)
+  pub step-at-the-end : stepAt two-tlvs 7 ≡ gives ended
+  -- "Walk refusals give the offset of the failing TLV", and since 2026-01 the shortfall after it
+  pub cut-header : counted (walkOf (two-tlvs ++ (0x03 ∷ 0x00 ∷ []))) ≡ refuses 1 (7 ∷ 1 ∷ [])
+  pub cut-value : counted (walkOf (two-tlvs ++ (0x03 ∷ 0x00 ∷ 0x05 ∷ 0x09 ∷ []))) ≡ refuses 2 (7 ∷ 4 ∷ [])
+  -- "for 14 the first without a place"; "1 or 2 wherever it occurs before 14"; a list that is just long enough
+  pub list-too-short : listed 1 (walkOf two-tlvs) ≡ refuses 14 (4 ∷ [])
+  pub no-list : listed 0 (walkOf two-tlvs) ≡ refuses 14 (0 ∷ [])
+  pub fault-before-14 : listed 0 (walkOf (two-tlvs ++ (0x03 ∷ 0x00 ∷ []))) ≡ refuses 1 (7 ∷ 1 ∷ [])
+  pub just-enough : listed 2 (walkOf two-tlvs) ≡ gives (record { count = 2; padding = 0 })
+  pub list-filled : filled (listed 3 (walkOf two-tlvs)) (walkOf two-tlvs .tlvs) (with-none ∷ with-none ∷ with-a-byte ∷ []) ≡ with-a-byte ∷ with-none ∷ with-a-byte ∷ []
+
+pub record OfKinds : Type 0 where
+  -- "The 21 kinds", and three that hold text: there are so many, and these they are
+  pub the-24 : codesBelow 256 ≡ 0xD4 ∷ 0xB7 ∷ 0xB4 ∷ 0xB3 ∷ 0x92 ∷ 0x83 ∷ 0x80 ∷ 30 ∷ 26 ∷ 24 ∷ 23 ∷ 22 ∷ 21 ∷ 16 ∷ 15 ∷ 13 ∷ 12 ∷ 8 ∷ 7 ∷ 6 ∷ 4 ∷ 2 ∷ 1 ∷ 0 ∷ []
+  -- "association byte 80, 00, and 81 (refused)"
+  pub joined : readKind 0x92 (association 0x80) ≡ one-record (associated AssociationState.JoinedBss) 13 0
+  pub left : readKind 0x92 (association 0x00) ≡ one-record (associated AssociationState.LeftBss) 13 0
+  pub neither : readKind 0x92 (association 0x81) ≡ refuses 5 []
+  -- "profile 00 (5) and 04"
+  pub no-profile : readKind 0xB3 (0x00 ∷ []) ≡ refuses 5 []
+  pub reserved-profile : readKind 0xB3 (0x04 ∷ []) ≡ one-record (Record.MultiApProfile (MultiApProfile.Reserved 4)) 1 0
+  -- "capability `00 00 A8 02` is MiB, prioritization, no onboarding, separation, 2 VIDs"
+  pub capability : readKind 0xB4 (0x00 ∷ 0x00 ∷ 0xA8 ∷ 0x02 ∷ []) ≡ one-record able 4 0
+  -- "kind 6 with 11 bytes gives 4"
+  pub cut-entry : readKind 6 (replicate 11 0x02) ≡ refuses 4 []
+  -- "kind 1 with 7 bytes leaves 1"
+  pub al-mac-address : readKind 1 (and-more (mac 1)) ≡ one-record (Record.AlMacAddress (kept-mac 1)) 6 1
+  -- The other kinds, each by a value and a byte more, which is left or refused, and of a list the last entry of the deepest level
+  pub end-of-message : readKind 0 [] ≡ one-record Record.EndOfMessage 0 0
+  pub no-end-of-message : readKind 0 (0x78 ∷ []) ≡ refuses 4 []
+  pub mac-address : readKind 2 (and-more (mac 2)) ≡ one-record (Record.MacAddress (kept-mac 2)) 6 1
+  pub searched-role : readKind 13 (and-more (0x00 ∷ [])) ≡ one-record (Record.SearchedRole 0) 1 1
+  pub supported-role : readKind 15 (and-more (0x00 ∷ [])) ≡ one-record (Record.SupportedRole 0) 1 1
+  pub band : readKind 16 (and-more (0x01 ∷ [])) ≡ one-record (Record.SupportedFreqBand SupportedFreqBand.«Band_802_11_5») 1 1
+  pub version : readKind 26 (and-more (0x01 ∷ [])) ≡ one-record (Record.Ieee1905ProfileVersion Ieee1905ProfileVersion.«Ieee1905_1a») 1 1
+  pub result-code : readKind 12 (and-more (0x00 ∷ [])) ≡ one-record (Record.LinkMetricResultCode LinkMetricResultCode.InvalidNeighbor) 1 1
+  pub query-of-all : readKind 8 (and-more (0x00 ∷ 0x02 ∷ [])) ≡ one-record (Record.LinkMetricQuery (record { «neighbor_type» = 0; «neighbor_mac» = NeighborMac.None; «requested_metrics» = 2 })) 2 1
+  pub query-of-one : readKind 8 (and-more (0x01 ∷ (mac 2 ++ (0x02 ∷ []))))
+      ≡ one-record (Record.LinkMetricQuery (record { «neighbor_type» = 1; «neighbor_mac» = NeighborMac.Address (kept-mac 2); «requested_metrics» = 2 })) 8 1
+  pub association-left-over : readKind 0x92 (and-more (association 0x80)) ≡ one-record (associated AssociationState.JoinedBss) 13 1
+  pub profile : readKind 0xB3 (and-more (0x02 ∷ [])) ≡ one-record (Record.MultiApProfile MultiApProfile.Profile2) 1 1
+  pub capability-left-over : readKind 0xB4 (and-more (0x00 ∷ 0x00 ∷ 0xA8 ∷ 0x02 ∷ [])) ≡ one-record able 4 1
+  pub supported-service : readKind 0x80 (and-more services) ≡ a-list 2 3 1
+  pub agent : entry-of 0x80 (1 ∷ []) services ≡ 0x01 ∷ []
+  pub non-1905-neighbours : readKind 6 plain-neighbours ≡ a-list 2 18 0
+  pub last-plain-neighbour : entry-of 6 (1 ∷ []) plain-neighbours ≡ mac 3
+  pub ieee1905-neighbours : readKind 7 neighbours ≡ a-list 2 20 0
+  pub cut-neighbour : readKind 7 (and-more neighbours) ≡ refuses 4 []
+  pub last-neighbour : entry-of 7 (1 ∷ []) neighbours ≡ mac 3 ++ (0x80 ∷ [])
+  pub ipv4-interfaces : readKind 23 (and-more ipv4) ≡ a-list 1 26 1
+  pub last-ipv4 : entry-of 23 (0 ∷ 1 ∷ []) ipv4 ≡ static
+  pub ipv6-interfaces : readKind 24 (and-more ipv6) ≡ a-list 1 57 1
+  pub last-ipv6 : entry-of 24 (0 ∷ 0 ∷ []) ipv6 ≡ by-itself
+  pub bridging : readKind 4 (and-more bridges) ≡ a-list 2 21 1
+  pub last-bridged : entry-of 4 (1 ∷ 0 ∷ []) bridges ≡ mac 3
+  pub operational-radios : readKind 0x83 (and-more operational) ≡ a-list 1 31 1
+  pub last-letter : entry-of 0x83 (0 ∷ 1 ∷ 4 ∷ []) operational ≡ 0x74 ∷ []
+  pub configured-radios : readKind 0xB7 (and-more configured) ≡ a-list 1 35 1
+  pub last-letter-configured : entry-of 0xB7 (0 ∷ 1 ∷ 4 ∷ []) configured ≡ 0x74 ∷ []
+  pub l2-neighbours : readKind 30 beyond ≡ a-list 1 29 0
+  pub l2-left-over : readKind 30 (and-more beyond) ≡ refuses 4 []
+  pub last-beyond : entry-of 30 (0 ∷ 0 ∷ 1 ∷ []) beyond ≡ mac 4
+  -- "16, then .. 3, 4, 5, 6": an unknown code, a value cut short, and entries that no list has
+  pub unknown-kind : readKind 3 [] ≡ refuses 16 []
+  pub cut-record : readKind 1 (0x02 ∷ []) ≡ refuses 3 []
+  pub cut-list : readKind 23 (0x01 ∷ mac 1) ≡ refuses 3 []
+  pub cut-front : readKind 6 (0x02 ∷ []) ≡ refuses 3 []
+  pub no-such-entry : locateKind 0x80 (2 ∷ []) services ≡ refuses 6 []
+  pub no-numbers : locateKind 0x80 [] services ≡ refuses 6 []
+  pub one-number-too-many : locateKind 0x80 (1 ∷ 0 ∷ []) services ≡ refuses 6 []
+  pub entry-of-a-record : locateKind 1 (0 ∷ []) (mac 1) ≡ refuses 6 []
+  pub entry-of-a-cut-record : locateKind 1 (0 ∷ []) (0x02 ∷ []) ≡ refuses 3 []
+  pub entry-of-no-kind : locateKind 3 (0 ∷ []) [] ≡ refuses 16 []
+  pub entries-counted : countKind 0x83 (0 ∷ []) operational ≡ gives 2
+  pub letters-counted : countKind 0x83 (0 ∷ 1 ∷ []) operational ≡ gives 5
+  pub none-counted-in-a-record : countKind 1 [] (mac 1) ≡ refuses 6 []
+  -- "on writing 16, 9, 3, 4, 5, 8, 7", 18 after 3; the rest is not written
+  pub written-without-its-rest : kindBytes 0x80 (and-more services) ≡ 0x80 ∷ 0x00 ∷ 0x03 ∷ services
+  pub size-written : writeKind 0x80 (and-more services) 6 ≡ gives 6
+  pub no-room-for-it : writeKind 0x80 services 5 ≡ refuses 7 []
+  pub unknown-kind-written : writeKind 3 [] 0 ≡ refuses 16 []
+  pub cut-value-written : writeKind 0x80 (0x02 ∷ []) 0 ≡ refuses 3 []
+  pub left-over-written : writeKind 0 (0x78 ∷ []) 0 ≡ refuses 4 []
+  pub bad-value-written : writeKind 0xB3 (0x00 ∷ []) 0 ≡ refuses 5 []
+  pub no-text-written : writeKind 22 (0xFF ∷ []) 0 ≡ refuses 18 []
+  pub record-written : recordSize (Record.MacAddress (kept-mac 1)) 9 ≡ gives 9
+  pub no-room-for-a-record : recordSize (Record.MacAddress (kept-mac 1)) 8 ≡ refuses 7 []
+  pub never-read : recordSize (Record.SupportedFreqBand (SupportedFreqBand.Reserved 2)) 0 ≡ refuses 9 []
+  pub role-never-read : recordSize (Record.SearchedRole 1) 0 ≡ refuses 9 []
+  pub stray-address : recordSize (Record.LinkMetricQuery (record { «neighbor_type» = 0; «neighbor_mac» = NeighborMac.Address (kept-mac 2); «requested_metrics» = 2 })) 0 ≡ refuses 9 []
+
+pub record OfTexts : Type 0 where
+  -- The kinds that hold text (document 02, 2026-04)
+  pub device-identification : readKind 21 (and-more identification) ≡ a-list 0 192 1
+  pub model-name : text-of 21 0 identification ≡ e-acute
+  pub no-name : text-of 21 1 identification ≡ []
+  pub all-64 : text-of 21 2 identification ≡ replicate 64 0x61
+  pub control-url : readKind 22 (and-more e-acute) ≡ a-list 0 3 0
+  pub zero-in-a-url : text-of 22 0 (0x00 ∷ e-acute) ≡ 0x00 ∷ e-acute
+  pub device-inventory : readKind 0xD4 (and-more inventory) ≡ a-list 2 36 1
+  pub second-string : text-of 0xD4 1 inventory ≡ 0x67 ∷ 0x75 ∷ 0x65 ∷ 0x73 ∷ 0x74 ∷ []
+  pub last-radio : entry-of 0xD4 (1 ∷ []) inventory ≡ mac 2 ++ home
+  pub no-byte-of-it : locateKind 0xD4 (1 ∷ 0 ∷ []) inventory ≡ refuses 6 []
+  pub last-chip : partOf (locateRadioText 1 inventory) inventory ≡ 0x68 ∷ 0x6F ∷ 0x6D ∷ 0x65 ∷ []
+  -- every character on the edge of a line of RFC 3629's grammar is UTF-8, and none of its neighbours outside
+  pub accepted : those isUtf8 on-the-edge ≡ on-the-edge
+  pub refused : those isUtf8 past-the-edge ≡ []
+  pub no-text : readKind 22 (0xC0 ∷ 0x80 ∷ []) ≡ refuses 18 []
+  -- 3 wins over 18: a bad first string, and no second one
+  pub cut-wins : readKind 0xD4 (0x01 ∷ 0xFF ∷ []) ≡ refuses 3 []
+  -- a text that is not there, and a text of a kind that holds none: 6, once the value has read
+  pub no-fourth-text : locateTextIn 21 3 identification ≡ refuses 6 []
+  pub text-of-a-record : locateTextIn 1 0 (mac 1) ≡ refuses 6 []
+  pub no-third-radio : locateRadioText 2 inventory ≡ refuses 6 []
+  pub radios-counted : countKind 0xD4 [] inventory ≡ gives 2
+  pub no-list-in-a-radio : countKind 0xD4 (0 ∷ []) inventory ≡ refuses 6 []
+  pub no-list-in-a-url : countKind 22 (0 ∷ []) e-acute ≡ refuses 6 []
+
+pub record OfFinding : Type 0 where
+  -- "the first record with the kind's code whose value reads": the record at place 0 doesn't read as kind 2, a TLV of kind 1 stands between
+  pub found-at : findFrom 2 (with-none ∷ with-a-byte ∷ record { «tlv_type» = 2; length = 6; offset = 4 } ∷ []) (two-tlvs ++ mac 3) 0
+      ≡ gives (record { place = 2; tlv = record { «tlv_type» = 2; length = 6; offset = 4 }; reading = record { held = one (Record.MacAddress (kept-mac 3)); consumed = 6; rest = 0 } })
+  pub none-found : findFrom 2 (with-none ∷ with-a-byte ∷ []) two-tlvs 0 ≡ refuses 15 []
+  pub no-kind-to-find : findFrom 3 (with-none ∷ []) two-tlvs 0 ≡ refuses 16 []
+  -- over a payload 16 comes first, then the walk's own refusal
+  pub none-in-a-payload : findInPayload 2 two-tlvs 0 ≡ refuses 15 []
+  pub unwalked : findInPayload 2 (0x02 ∷ []) 0 ≡ refuses 1 (0 ∷ 2 ∷ [])
+  pub no-kind-in-a-payload : findInPayload 3 (0x02 ∷ []) 0 ≡ refuses 16 []
+
+pub record OfTheTable : Type 0 where
+  -- the steps of push in their order: 11, then 12, then a number that is held, then the last mark
+  pub store-too-small : (keeps joins : Way) → wayBy 47743 1493 0 false keeps joins ≡ refuse 11 []
+  pub payload-too-long : (keeps joins : Way) → wayBy 47744 1493 0 false keeps joins ≡ refuse 12 []
+  pub held-already : (keeps joins : Way) → wayBy 47744 1492 31 true keeps joins ≡ duplicate
+  pub kept-if-not-last : (keeps joins : Way) → wayBy 47744 1492 32 false keeps joins ≡ keeps
+  pub joined-if-last : (keeps joins : Way) → wayBy 47744 1492 32 true keeps joins ≡ joins
+  -- 10: no place is free, or no row for a new key; a key that has a row needs none
+  pub no-place-free : keepWay 32 0 0 ≡ refuse 10 []
+  pub no-row-free : keepWay 31 16 16 ≡ refuse 10 []
+  pub row-of-its-own : keepWay 31 16 15 ≡ keepAt 31
+  pub new-row : keepWay 0 15 16 ≡ openAt 0 15
+  -- 13, of two fragments or more, gives the message's length; a single one needs no output
+  pub output-too-small : messageWay 2 (1 ∷ 2 ∷ 3 ∷ []) 2 ≡ refuse 13 (3 ∷ [])
+  pub output-just-enough : messageWay 2 (1 ∷ 2 ∷ 3 ∷ []) 3 ≡ end (joinedAs 3) (1 ∷ 2 ∷ 3 ∷ [])
+  pub single-needs-none : messageWay 1 (1 ∷ 2 ∷ 3 ∷ []) 0 ≡ end (single 3) []
+  -- "elapsed 2,999 stays, 3,000 goes": one fragment, not marked last, and a sweep so many milliseconds later
+  pub stays : (store : List ℕ) (p : Push) → LetIn store p → p .arrival .fragment .last ≡ false
+      → (tells (after (start store) (push p)) (sweep (p .arrival .time + 2999)) ≡ dropped 0)
+      × (holding (p .arrival .key) (after (after (start store) (push p)) (sweep (p .arrival .time + 2999))) ≡ holding (p .arrival .key) (after (start store) (push p)))
+  pub goes : (store : List ℕ) (p : Push) → LetIn store p → p .arrival .fragment .last ≡ false
+      → (tells (after (start store) (push p)) (sweep (p .arrival .time + 3000)) ≡ dropped 1)
+      × (holding (p .arrival .key) (after (after (start store) (push p)) (sweep (p .arrival .time + 3000))) ≡ holdsNothing)
+  -- "number 0 then last 1 completes"
+  pub completes : (store : List ℕ) (p q : Push) → LetIn store p → LetIn store q → ZeroThenLastOne p q
+      → repliesTo (q .arrival .key) (start store) (push p ∷ push q ∷ [])
+      ≡ pushed (gives waiting) [] ∷ pushed (gives (joinedAs (length (p .payload ++ q .payload)))) (p .payload ++ q .payload) ∷ []
+  -- "last 1 alone gives `MissingFragments`"
+  pub alone : (store : List ℕ) (p : Push) → LetIn store p → p .arrival .fragment .number ≡ 1 → p .arrival .fragment .last ≡ true
+      → tells (start store) (push p) ≡ pushed (gives missing) []
+
+-- Request 2026-02: each answer of an event, with the stations that the table holds after it
+pub record OfStations : Type 0 where
+  pub placed : (answerTo freshStations (join-of 7 1) ≡ gives Heard.Placed) × (rows-below 128 with-7 ≡ holds 7 1 ∷ [])
+  -- a move says where the station was
+  pub moved : (answerTo with-7 (join-of 7 2) ≡ gives (Heard.Moved (record { b0 = 0; b1 = 0; b2 = 0; b3 = 0; b4 = 0; b5 = 1 })))
+      × (rows-below 128 (tableAfter with-7 (join-of 7 2)) ≡ holds 7 2 ∷ [])
+  pub same : (answerTo with-7 (join-of 7 1) ≡ gives Heard.Same) × (rows-below 128 (tableAfter with-7 (join-of 7 1)) ≡ holds 7 1 ∷ [])
+  pub second : (answerTo with-7 (join-of 0 1) ≡ gives Heard.Placed) × (rows-below 128 (tableAfter with-7 (join-of 0 1)) ≡ holds 0 1 ∷ holds 7 1 ∷ [])
+  pub removed : (answerTo with-7 (leave-of 7 1) ≡ gives Heard.Removed) × (rows-below 128 (tableAfter with-7 (leave-of 7 1)) ≡ [])
+  -- a late leave, and a leave of a station that is not held
+  pub late : (answerTo with-7 (leave-of 7 2) ≡ gives Heard.Stale) × (rows-below 128 (tableAfter with-7 (leave-of 7 2)) ≡ holds 7 1 ∷ [])
+  pub not-held : (answerTo with-7 (leave-of 8 1) ≡ gives Heard.Stale) × (rows-below 128 (tableAfter with-7 (leave-of 8 1)) ≡ holds 7 1 ∷ [])
+  -- 17, "a join of an unknown station with 128 held"; a known one moves, and a leave makes room
+  pub held-128 : countOf with-128 ≡ 128
+  pub unknown-refused : (answerTo with-128 (join-of 128 1) ≡ refuses 17 []) × (rows-below 128 (tableAfter with-128 (join-of 128 1)) ≡ rows-below 128 with-128)
+  pub known-moves : (answerTo with-128 (join-of 5 2) ≡ gives (Heard.Moved (record { b0 = 0; b1 = 0; b2 = 0; b3 = 0; b4 = 0; b5 = 1 }))) × (countOf (tableAfter with-128 (join-of 5 2)) ≡ 128)
+  pub leave-frees : (answerTo with-128 (leave-of 5 1) ≡ gives Heard.Removed) × (answerTo (tableAfter with-128 (leave-of 5 1)) (join-of 128 1) ≡ gives Heard.Placed)
+  -- an event in a value of kind 0x92: its bytes that were taken, or the reader's refusal, which alters nothing
+  pub event-read : answerFrom freshStations (and-more (association 0x80)) ≡ gives (record { heard = Heard.Placed; consumed = 13 })
+  pub event-cut : (answerFrom with-7 (0x02 ∷ []) ≡ refuses 3 []) × (rows-below 128 (tableFrom with-7 (0x02 ∷ [])) ≡ holds 7 1 ∷ [])
+  pub event-unreadable : (answerFrom with-7 (association 0x81) ≡ refuses 5 []) × (rows-below 128 (tableFrom with-7 (association 0x81)) ≡ holds 7 1 ∷ [])
+
+-- everything that is claimed of this crate
+pub record Claims : Type 0 where
+  pub framing : OfFraming
+  pub walks : OfWalks
+  pub kinds : OfKinds
+  pub texts : OfTexts
+  pub finding : OfFinding
+  pub table : OfTheTable
+  pub stations : OfStations
