@@ -3,17 +3,18 @@ use mathlib.Core.Path.{_≡_, sym, ap, _∙_}
 use mathlib.Core.List.{List, [], _∷_, _++_}
 use Prim.Native.Nat.{ℕ, _+_, _/_, _%_, _≤_}
 use native.Mathlib.Omega.{arith}
-use native.Mathlib.Nat.{div-add-mod'}
 use lib.ListN.{length, take, drop, length-append}
 use lib.Seq.{take-append-seam, take-add, length-take-le}
 use Rattle.numbers.specs.Numbers.{gives}
+use Rattle.numbers.specs.Bytes.{inBytes, Bytes}
+use Rattle.numbers.proofs.Bytes.{said-back, bytes-at-back}
 use Rattle.framing.specs.Tlv.{TlvRead, readTlv, declared, valueIn, longestValue, tlvBytes}
-use Rattle.framing.specs.Claims.{asRead, Bytes}
+use Rattle.framing.specs.Claims.{asRead}
 use Rattle.framing.proofs.Reading.{whole, Reads, reads}
 
 pub read-written : (t : ℕ) (v rest : List ℕ) → length v ≤ longestValue → gives (asRead t v) ≡ readTlv (tlvBytes t v ++ rest)
 read-written t v rest h =
-    let n : length v ≡ declared (tlvBytes t v ++ rest) = sym (div-add-mod' (length v) 256) in
+    let n : length v ≡ declared (tlvBytes t v ++ rest) = sym (said-back 2 (length v) (omega arith)) in
     let l : length (v ++ rest) ≡ length v + length rest = length-append v rest in
     whole (tlvBytes t v ++ rest) (length v) n (omega arith) (omega (arith, l))
 
@@ -30,7 +31,6 @@ written-read s b t e = rw (← e) (by-bytes s b t (reads s t e))
     by-bytes (x ∷ y ∷ z ∷ s) b t r =
         let n = t .value-length in
         let l : length (take n s) ≡ n = length-take-le n s (omega (arith, r .all, r .inside)) in
-        let hi : n / 256 ≡ y = omega (arith, r .long, b 1, b 2) in
-        let lo : n % 256 ≡ z = omega (arith, r .long, b 1, b 2) in
+        let two : inBytes 2 n ≡ y ∷ z ∷ [] = rw (r .long) (bytes-at-back 2 1 (x ∷ y ∷ z ∷ s) (omega arith) b) in
         let all : take (t .consumed) (x ∷ y ∷ z ∷ s) ≡ x ∷ y ∷ z ∷ take n s = ap (λ (m : ℕ). take m (x ∷ y ∷ z ∷ s)) (r .all) ∙ take-add 3 n (x ∷ y ∷ z ∷ s) in
-        rw (r .typed, l, hi, lo) (sym all)
+        rw (r .typed, l) (ap (λ (h : List ℕ). x ∷ (h ++ take n s)) two ∙ sym all)

@@ -9,6 +9,7 @@ use lib.ListN.{length, length-append, List·getD-append}
 use borrow.Author.Tests.{ltb-true, ltb-false}
 use Rattle.numbers.specs.Numbers.{Answer, gives, refuses}
 use Rattle.numbers.proofs.Firm.{never}
+use Rattle.numbers.proofs.Bytes.{number-longer}
 use Rattle.framing.specs.Tlv.{TlvRead, readTlv, declared}
 use Rattle.framing.specs.Cmdu.{readHeader}
 use Rattle.framing.specs.Claims.{numberIn, Missing}
@@ -21,7 +22,7 @@ one-number n m k l e = (cc, cc)
 
 -- with three bytes the declared length is there, and stays
 declared-same : (s more : List ℕ) → 3 ≤ length s → declared s ≡ declared (s ++ more)
-declared-same s more h = rw (List·getD-append s more 0 1 (omega arith), List·getD-append s more 0 2 (omega arith))
+declared-same s more h = number-longer 2 1 s h more
 
 -- what reads reads the same with more behind it
 pub longer : (s more : List ℕ) (t : TlvRead) → gives t ≡ readTlv s → gives t ≡ readTlv (s ++ more)

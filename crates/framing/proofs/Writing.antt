@@ -41,11 +41,11 @@ pub kept : (a : Answer ℕ) (n : ℕ) (vs bytes out : List ℕ) → refuses n vs
 kept a n vs bytes out e = rw (← e)
 
 -- three stores at the front are the header
-pub header-put : (t n : ℕ) (out : List ℕ) → 3 ≤ length out → set (set (set out 0 t) 1 (n / 256)) 2 (n % 256) ≡ header t n ++ drop 3 out
-header-put t n [] h = absurd (omega arith)
-header-put t n (_ ∷ []) h = absurd (omega arith)
-header-put t n (_ ∷ _ ∷ []) h = absurd (omega arith)
-header-put t n (_ ∷ _ ∷ _ ∷ out) h = refl
+pub header-put : (t n : ℕ) (out : List ℕ) → n ≤ longestValue → 3 ≤ length out → set (set (set out 0 t) 1 (n / 256)) 2 (n % 256) ≡ header t n ++ drop 3 out
+header-put t n [] f h = absurd (omega arith)
+header-put t n (_ ∷ []) f h = absurd (omega arith)
+header-put t n (_ ∷ _ ∷ []) f h = absurd (omega arith)
+header-put t n (_ ∷ _ ∷ _ ∷ out) f h = let high : n / 256 % 256 ≡ n / 256 = omega arith in rw high
 
 -- what was given room stands at the start
 pub put : (a : Answer ℕ) (m : ℕ) (bytes out : List ℕ) → gives m ≡ a → bytes ++ drop (length bytes) out ≡ leaves a bytes out

@@ -2,9 +2,10 @@
 use mathlib.Core.Path.{_≡_}
 use mathlib.Core.List.{List, [], _∷_, _++_}
 use Prim.Native.Nat.{ℕ, _+_, _<_, _≤_}
-use lib.ListN.{length, take, getD}
+use lib.ListN.{length, take}
 use denote.Ref.{RefT, now}
 use Rattle.numbers.specs.Numbers.{Answer, gives, refuses}
+use Rattle.numbers.specs.Bytes.{Bytes}
 use Rattle.numbers.specs.Parts.{behind}
 use Rattle.numbers.specs.Firmness.{Firm}
 use Rattle.framing.specs.Tlv.{TlvRead, readOf, readTlv, valueIn, valueFrom, header, tlvBytes, writtenOf, longestValue, writeSize, leaves}
@@ -24,10 +25,6 @@ pub record Firmness : Type 0 where
 -- what reading gives of a TLV
 abbrev pub asRead : ℕ → List ℕ → TlvRead
 asRead t v = record { tlv-type = t; value-length = length v; consumed = 3 + length v }
-
--- each element is a byte
-abbrev pub Bytes : List ℕ → Type 0
-Bytes s = (i : ℕ) → getD s i 0 < 256
 
 pub record RoundTrip : Type 0 where
   -- reading what was written gives the same type and value, whatever stands behind

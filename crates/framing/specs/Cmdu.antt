@@ -1,10 +1,11 @@
 -- The CMDU header (IEEE 1905.1, clause 6.2): version, reserved byte, type in 2 bytes, message id in 2, fragment number, flags; bit 7 of flags marks the last fragment.
 use mathlib.Core.Bool.{cond}
 use mathlib.Core.List.{List, [], _∷_}
-use Prim.Native.Nat.{ℕ, _+_, _-_, _*_, _/_, _%_}
+use Prim.Native.Nat.{ℕ, _-_, _/_, _%_}
 use lib.Dec.{ltb, eqb}
 use lib.ListN.{length, getD}
 use Rattle.numbers.specs.Numbers.{Answer, gives, refuses, told}
+use Rattle.numbers.specs.Bytes.{numberAt}
 use Rattle.framing.specs.declared.CmduHeader.{CmduHeader}
 use Rattle.framing.specs.declared.HeaderRead.{HeaderRead}
 use Rattle.framing.specs.declared.HeaderRead.the-variants.{Header, Refused}
@@ -20,8 +21,8 @@ readHeader s =
     (gives (record {
       «message_version» = getD s 0 0;
       reserved = getD s 1 0;
-      «message_type» = getD s 2 0 * 256 + getD s 3 0;
-      «message_id» = getD s 4 0 * 256 + getD s 5 0;
+      «message_type» = numberAt 2 2 s;
+      «message_id» = numberAt 2 4 s;
       fragment = getD s 6 0;
       flags = getD s 7 0;
       «last_fragment» = eqb (getD s 7 0 / 128 % 2) 1;

@@ -1,10 +1,11 @@
 -- A TLV: "one type byte, a big-endian 16-bit length, then that many bytes" (document 01, "Framing"; IEEE 1905.1, clause 6.4).
 use mathlib.Core.Bool.{cond}
 use mathlib.Core.List.{List, [], _∷_, _++_}
-use Prim.Native.Nat.{ℕ, _+_, _*_, _-_, _/_, _%_}
+use Prim.Native.Nat.{ℕ, _+_, _-_}
 use lib.Dec.{ltb}
 use lib.ListN.{length, take, drop, getD}
 use Rattle.numbers.specs.Numbers.{Answer, gives, refuses, told}
+use Rattle.numbers.specs.Bytes.{numberAt, inBytes}
 use Rattle.framing.specs.declared.Read.{Read}
 use Rattle.framing.specs.declared.Read.the-variants as Read
 use Rattle.framing.specs.declared.Written.{Written}
@@ -21,9 +22,9 @@ abbrev pub readOf : Read → Answer TlvRead
 readOf (Read.Whole t n c) = gives (record { tlv-type = t; value-length = n; consumed = c })
 readOf (Read.Refused r) = told r
 
--- the big-endian number in bytes 1 and 2
+-- the length that the two bytes after the type say
 abbrev pub declared : List ℕ → ℕ
-declared s = getD s 1 0 * 256 + getD s 2 0
+declared s = numberAt 2 1 s
 
 -- 2026-01: 1 and 2 "shall carry the exact shortfall": "3 [..] less what there is; the declared length less what there is"
 unfoldable pub readTlv : List ℕ → Answer TlvRead
@@ -43,7 +44,7 @@ valueFrom (refuses n vs) = 0
 
 -- the three header bytes of a TLV whose value has n bytes, and the whole TLV
 abbrev pub header : ℕ → ℕ → List ℕ
-header t n = t ∷ n / 256 ∷ n % 256 ∷ []
+header t n = t ∷ inBytes 2 n
 
 abbrev pub tlvBytes : ℕ → List ℕ → List ℕ
 tlvBytes t v = header t (length v) ++ v

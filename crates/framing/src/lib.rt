@@ -1,8 +1,9 @@
 // Framing, the lowest layer of the protocol: a TLV read and written, and the CMDU header. The walk over a payload's TLVs is the crate `walking`.
 use numbers::Refusal;
+use numbers::be16;
 ghost use mathlib.Core.Path.{_≡_};
 ghost use mathlib.Core.List.{_++_};
-ghost use Prim.Native.Nat.{_+_, _*_, _-_, _<_, _≤_};
+ghost use Prim.Native.Nat.{_≤_};
 ghost use lib.ListN.{length, drop};
 ghost use Rattle.numbers.specs.Parts.{behind};
 ghost use Rattle.framing.specs.Tlv.{readOf, readTlv, valueIn, valueFrom, writtenOf, writeSize, header, tlvBytes, leaves};
@@ -43,12 +44,6 @@ pub enum HeaderRead {
     Refused(Refusal),
 }
 
-fn wide(x: u8) -> usize
-    ensures { λ r. ⌜ (r ≡ x) × (r < 256) ⌝ }
-{
-    x as usize
-}
-
 // The TLV at the start of s.
 pub fn read_tlv(s: &[u8]) -> Read
     ensures { λ r. ⌜ readOf r ≡ readTlv (now (s .entry)) ⌝ }
@@ -56,7 +51,7 @@ pub fn read_tlv(s: &[u8]) -> Read
     if s.len() < 3 {
         return Read::Refused(Refusal::TooFewBytes(3 - s.len()));
     }
-    let length = wide(s[1]) * 256 + wide(s[2]);
+    let length = be16(s[1], s[2]);
     let consumed = 3 + length;
     if s.len() < consumed {
         return Read::Refused(Refusal::RunsPastEnd(consumed - s.len()));
@@ -128,12 +123,6 @@ pub fn write_tlv(tlv_type: u8, bytes: &[u8], out: &mut [u8]) -> Written
     }
 }
 
-fn wide16(high: u8, low: u8) -> u16
-    ensures { λ r. ⌜ r ≡ high * 256 + low ⌝ }
-{
-    (high as u16) * 256 + (low as u16)
-}
-
 // The header of the CMDU at the start of s.
 pub fn read_cmdu_header(s: &[u8]) -> HeaderRead
     ensures { λ r. ⌜ headerOf r ≡ readHeader (now (s .entry)) ⌝ }
@@ -141,8 +130,8 @@ pub fn read_cmdu_header(s: &[u8]) -> HeaderRead
     if s.len() < 8 {
         return HeaderRead::Refused(Refusal::TooFewBytes(8 - s.len()));
     }
-    let message_type = wide16(s[2], s[3]);
-    let message_id = wide16(s[4], s[5]);
+    let message_type = be16(s[2], s[3]) as u16;
+    let message_id = be16(s[4], s[5]) as u16;
     HeaderRead::Header(CmduHeader {
         message_version: s[0],
         reserved: s[1],

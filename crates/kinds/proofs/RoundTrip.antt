@@ -10,7 +10,7 @@ use Rattle.numbers.specs.Numbers.{Answer, gives, refuses, andThen, mapped}
 use Rattle.numbers.proofs.Firm.{never}
 use Rattle.numbers.proofs.Answers.{given}
 use Rattle.framing.specs.Tlv.{TlvRead, readTlv, valueIn, longestValue, tlvBytes}
-use Rattle.framing.specs.Claims.{Bytes}
+use Rattle.numbers.specs.Bytes.{Bytes}
 use Rattle.framing.proofs.Claims.{round-trip}
 use Rattle.records.specs.declared.Record.{Record}
 use Rattle.records.specs.Kinds.{codeOf, kindOf}

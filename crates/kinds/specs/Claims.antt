@@ -9,7 +9,8 @@ use Rattle.numbers.specs.Numbers.{gives, mapped}
 use Rattle.numbers.specs.Firmness.{Firm}
 use Rattle.numbers.specs.Parts.{behind}
 use Rattle.framing.specs.Tlv.{readTlv, valueIn, writtenOf, longestValue, writeSize, tlvBytes, leaves}
-use Rattle.framing.specs.Claims.{asRead, Bytes}
+use Rattle.numbers.specs.Bytes.{Bytes}
+use Rattle.framing.specs.Claims.{asRead}
 use Rattle.framing.specs.declared.Written.{Written}
 use Rattle.records.specs.declared.Record.{Record}
 use Rattle.records.specs.Kinds.{codeOf, kindOf}

@@ -1,3 +1,4 @@
 pub mod Firm
 pub mod Answers
+pub mod Bytes
 pub mod Claims

@@ -1,4 +1,5 @@
 pub mod Numbers
+pub mod Bytes
 pub mod Parts
 pub mod Firmness
 pub mod Claims

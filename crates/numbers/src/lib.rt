@@ -1,6 +1,9 @@
-// The refusals of document 01, "Numbers given back": one enum for all layers.
+// The refusals of document 01, "Numbers given back": one enum for all layers. And numbers in bytes, big-endian.
 ghost use mathlib.Core.Path.{_≡_};
+ghost use mathlib.Core.List.{[], _∷_};
+ghost use Prim.Native.Nat.{_<_};
 ghost use Rattle.numbers.specs.Numbers.{number, carried};
+ghost use Rattle.numbers.specs.Bytes.{bigEndian};
 
 // Why a call refused. A caller passes a refusal of a layer below on by this name and never makes it anew, so that what a case carries can grow.
 pub enum Refusal {
@@ -92,4 +95,18 @@ pub fn carried_by(refusal: Refusal) -> usize
         Refusal::NoStationRoom => 0,
         Refusal::NotText => 0,
     }
+}
+
+// A byte as a number of bytes, a count or a length.
+pub fn wide(byte: u8) -> usize
+    ensures { λ r. ⌜ (r ≡ byte) × (r < 256) ⌝ }
+{
+    byte as usize
+}
+
+// The number that two bytes say. A caller's u16 takes it by a cast.
+pub fn be16(high: u8, low: u8) -> usize
+    ensures { λ r. ⌜ (r ≡ bigEndian (high ∷ low ∷ [])) × (r < 65536) ⌝ }
+{
+    wide(high) * 256 + wide(low)
 }

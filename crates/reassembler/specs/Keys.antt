@@ -1,23 +1,19 @@
 -- A key is a sender's six bytes and a message id, written as one number: the bytes in their order, then the id.
 use mathlib.Core.Path.{_≡_}
-use mathlib.Core.List.{List, [], _∷_}
+use mathlib.Core.List.{List}
 use Prim.Native.Nat.{ℕ, _+_, _*_, _<_}
-use lib.ListN.{length, getD}
-
--- the big-endian number in some bytes, behind the number that stands before them
-abbrev pub bigEndian : ℕ → List ℕ → ℕ
-bigEndian n [] = n
-bigEndian n (b ∷ bs) = bigEndian (n * 256 + b) bs
+use lib.ListN.{length}
+use Rattle.numbers.specs.Bytes.{bigEndian, Bytes}
 
 abbrev pub keyOf : List ℕ → ℕ → ℕ
-keyOf sender message-id = bigEndian 0 sender * 65536 + message-id
+keyOf sender message-id = bigEndian sender * 65536 + message-id
 
 -- whose message: a sender, by its six bytes, and a message id of two
 pub record Origin : Type 0 where
   pub sender : List ℕ
   pub message-id : ℕ
   pub six : length sender ≡ 6
-  pub bytes : (i : ℕ) → getD sender i 0 < 256
+  pub bytes : Bytes sender
   pub two : message-id < 65536
 
 abbrev pub keyFor : Origin → ℕ

@@ -8,7 +8,8 @@ use lib.ListN.{length}
 use lib.Seq.{length-take-le}
 use Rattle.numbers.specs.Numbers.{gives}
 use Rattle.numbers.proofs.Firm.{by-equation, by-telling, both}
-use Rattle.framing.specs.Claims.{Bytes, asRead}
+use Rattle.numbers.specs.Bytes.{Bytes}
+use Rattle.framing.specs.Claims.{asRead}
 use Rattle.framing.specs.Tlv.{longestValue, readTlv, valueIn, tlvBytes, writtenOf}
 use Rattle.framing.proofs.Firm.{written-one}
 use Rattle.framing.proofs.RoundTrip.{read-written, value-written}

@@ -9,7 +9,7 @@ use lib.ListN.{length, getD, take, drop}
 use lib.Seq.{drop-cons}
 use borrow.Author.Tests.{le-leb, ltb-true, lt-ltb, eqb-true, eqb-false}
 use Rattle.numbers.specs.Numbers.{gives}
-use Rattle.framing.specs.Claims.{Bytes}
+use Rattle.numbers.specs.Bytes.{Bytes}
 use Rattle.records.specs.declared.AssociationState.{AssociationState}
 use Rattle.records.specs.declared.Record.{Record}
 use Rattle.records.specs.Values.{bandOf, bandByte, versionOf, versionByte, resultOf, resultByte, profileOf, profileByte, stateOf, stateByte, hasAddress, queryIn, bytesOf}

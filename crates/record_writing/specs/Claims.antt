@@ -7,7 +7,8 @@ use lib.ListN.{length, take}
 use Rattle.numbers.specs.Numbers.{gives}
 use Rattle.numbers.specs.Firmness.{Firm}
 use Rattle.framing.specs.declared.Written.{Written}
-use Rattle.framing.specs.Claims.{Bytes, asRead}
+use Rattle.numbers.specs.Bytes.{Bytes}
+use Rattle.framing.specs.Claims.{asRead}
 use Rattle.framing.specs.Tlv.{readTlv, valueIn, tlvBytes, writtenOf, leaves}
 use Rattle.records.specs.declared.Record.{Record}
 use Rattle.records.specs.Values.{bytesOf}

@@ -9,6 +9,7 @@ use lib.Seq.{getD-take, getD-drop, length-take-le}
 use Rattle.numbers.specs.Numbers.{Answer, gives, refuses}
 use Rattle.numbers.proofs.Firm.{never}
 use Rattle.numbers.proofs.Answers.{given}
+use Rattle.numbers.proofs.Bytes.{number-at}
 use Rattle.framing.specs.Tlv.{TlvRead, readTlv, declared}
 use Rattle.framing.proofs.Reading.{reads, whole}
 use Rattle.walking.specs.declared.Tlv.{Tlv}
@@ -21,7 +22,8 @@ use Rattle.walking.proofs.Stepping.{empty, passes, lasts, Steps, steps,
 reads-same : (s u : List ℕ) (t : TlvRead) → gives t ≡ readTlv s → t .consumed ≤ length u → ((i : ℕ) → i < 3 → getD u i 0 ≡ getD s i 0) → gives t ≡ readTlv u
 reads-same s u t e l same =
     let r = reads s t e in
-    let d : t .value-length ≡ declared u = r .long ∙ rw (same 1 (omega arith), same 2 (omega arith)) in
+    let d : t .value-length ≡ declared u =
+    r .long ∙ sym (number-at 2 1 s (omega (arith, r .all, r .inside))) ∙ rw (← same 1 (omega arith), ← same 2 (omega arith)) (number-at 2 1 u (omega (arith, r .all))) in
     let w = whole u (t .value-length) d (omega (arith, r .all)) (omega (arith, r .all)) in
     rw (r .all, r .typed, ← same 0 (omega arith)) w
 

@@ -10,6 +10,7 @@ use lib.Seq.{take-length, getD-drop}
 use borrow.Author.Tests.{eqb-true, lt-ltb, le-ltb, ltb-true, ltb-false}
 use Rattle.numbers.specs.Numbers.{Answer, gives, refuses}
 use Rattle.numbers.proofs.Firm.{never}
+use Rattle.numbers.proofs.Bytes.{number-at}
 use Rattle.framing.specs.Tlv.{TlvRead, readTlv}
 use Rattle.framing.proofs.Reading.{reads}
 use Rattle.walking.specs.declared.Tlv.{Tlv}
@@ -67,7 +68,9 @@ module _ (p : List ℕ) (at : ℕ) where
   fits t e h = omega (arith, reads (drop at p) t e .inside, length-drop at p)
 
   pub narrow : (t : TlvRead) → gives t ≡ readTlv (drop at p) → getD p (at + 1) 0 < 256 → getD p (at + 2) 0 < 256 → t .value-length < 65536
-  narrow t e h l = omega (arith, reads (drop at p) t e .long, getD-drop at p 1 0, getD-drop at p 2 0)
+  narrow t e h l =
+      let r = reads (drop at p) t e in
+      omega (arith, r .long, number-at 2 1 (drop at p) (omega (arith, r .all, r .inside)), getD-drop at p 1 0, getD-drop at p 2 0)
 
   -- what a step over a TLV says of the payload
   pub record Passes (t : Tlv) (next : ℕ) : Type 0 where

@@ -9,7 +9,7 @@ use Rattle.numbers.specs.Numbers.{Answer, gives, refuses}
 use Rattle.numbers.proofs.Firm.{never}
 use Rattle.numbers.proofs.Answers.{given}
 use Rattle.framing.specs.Tlv.{readTlv, valueIn, tlvBytes}
-use Rattle.framing.specs.Claims.{Bytes}
+use Rattle.numbers.specs.Bytes.{Bytes}
 use Rattle.framing.proofs.RoundTrip.{written-read}
 use Rattle.walking.specs.declared.Tlv.{Tlv}
 use Rattle.walking.specs.Walk.{Ahead, ended, passed, last, stepAt, Walk, walkBy, walkFrom, walkOf}

@@ -7,7 +7,7 @@ use lib.ListN.{length, take, drop, getD}
 use Rattle.numbers.specs.Numbers.{Answer, gives, refuses}
 use Rattle.numbers.specs.Firmness.{Firm}
 use Rattle.framing.specs.Tlv.{tlvBytes}
-use Rattle.framing.specs.Claims.{Bytes}
+use Rattle.numbers.specs.Bytes.{Bytes}
 use Rattle.walking.specs.declared.Tlv.{Tlv}
 use Rattle.walking.specs.declared.Walked.{Walked}
 use Rattle.walking.specs.Walk.{isMarker, steppedOf, stepAt, walkedOf, walkOf, counted, noTlv, offsetAt, listed, filled}

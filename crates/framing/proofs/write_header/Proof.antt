@@ -25,7 +25,7 @@ slice-write-out-3 c = simp length-set (omega arith)
 returns-3 : tie.Need-returns-3
 returns-3 c =
     let e = fits _ _ (c .before .if1 .left) (c .if2 .left) in
-    (e, header-put _ _ (c .before .before .args .out .now) (omega arith) ∙ put _ _ _ _ e)
+    (e, header-put _ _ (c .before .before .args .out .now) (c .before .if1 .left) (omega arith) ∙ put _ _ _ _ e)
 
 pub write-header-spec : {M : Type 1} → statement M
 write-header-spec =

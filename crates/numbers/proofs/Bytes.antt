@@ -1,0 +1,69 @@
+-- Laws of numbers in bytes: a number and its bytes say each other.
+use mathlib.Core.Path.{_≡_, refl, sym, ap, _∙_}
+use mathlib.Core.List.{List, [], _∷_, _++_, append-nil, append-assoc}
+use Prim.Native.Nat.{ℕ, zero, suc, _+_, _*_, _/_, _%_, _^_, _<_, _≤_}
+use native.Mathlib.Omega.{arith}
+use native.Mathlib.Nat.{pow-suc, zero-add, add-zero}
+use native.Mathlib.Numerals.{add-one}
+use lib.ListN.{length, take, drop, getD, length-drop}
+use lib.Seq.{drop-cons, getD-drop, length-take-le, drop-append-le, take-append-le}
+use Rattle.numbers.specs.Bytes.{bigEndianAfter, bigEndian, numberAt, inBytes, Bytes}
+
+-- bytes after bytes
+pub after-append : (n : ℕ) (a b : List ℕ) → bigEndianAfter n (a ++ b) ≡ bigEndianAfter (bigEndianAfter n a) b
+after-append n [] b = refl
+after-append n (x ∷ a) b = after-append (n * 256 + x) a b
+
+pub said-back : (w n : ℕ) → n < 256 ^ w → bigEndian (inBytes w n) ≡ n
+said-back zero n h = omega (arith, h)
+said-back (suc w) n h =
+    after-append 0 (inBytes w (n / 256)) (n % 256 ∷ []) ∙ rw (said-back w (n / 256) (omega (arith, h, pow-suc 256 w))) (omega arith)
+
+-- the bytes of a number behind which some bytes stand
+in-bytes-after : (w n : ℕ) (bs : List ℕ) → Bytes bs → inBytes (length bs + w) (bigEndianAfter n bs) ≡ inBytes w n ++ bs
+in-bytes-after w n [] h = rw (zero-add, append-nil)
+in-bytes-after w n (b ∷ bs) h =
+    let more : suc (length bs) + w ≡ length bs + suc w = omega arith in
+    let high : (n * 256 + b) / 256 ≡ n = omega (arith, h 0) in
+    let low : (n * 256 + b) % 256 ≡ b = omega (arith, h 0) in
+    rw (more, in-bytes-after (suc w) (n * 256 + b) bs (λ i. h (suc i)), high, low, append-assoc)
+
+pub bytes-back : (bs : List ℕ) → Bytes bs → inBytes (length bs) (bigEndian bs) ≡ bs
+bytes-back bs h = rw (← add-zero (length bs)) (in-bytes-after 0 0 bs h)
+
+-- so many bytes say one number alone
+pub one-number : (a b : List ℕ) → length a ≡ length b → Bytes a → Bytes b → bigEndian a ≡ bigEndian b → a ≡ b
+one-number a b l h k e = sym (bytes-back a h) ∙ rw (l, e) (bytes-back b k)
+
+-- a part of bytes is bytes
+part-bytes : (w p : ℕ) (s : List ℕ) → Bytes s → Bytes (take w (drop p s))
+part-bytes w p s h = start w (drop p s) (λ i. rw getD-drop (h (p + i)))
+  where
+    start : (w : ℕ) (s : List ℕ) → Bytes s → Bytes (take w s)
+    start zero s h i = omega arith
+    start (suc w) [] h i = omega arith
+    start (suc w) (b ∷ s) h zero = h 0
+    start (suc w) (b ∷ s) h (suc i) = start w s (λ j. h (suc j)) i
+
+-- the bytes from p on, one by one, as code reads them
+abbrev pub digitsAt : ℕ → ℕ → List ℕ → List ℕ
+digitsAt zero p s = []
+digitsAt (suc w) p s = getD s p 0 ∷ digitsAt w (p + 1) s
+
+module _ (w p : ℕ) (s : List ℕ) (inside : p + w ≤ length s) where
+  pub number-at : bigEndian (digitsAt w p s) ≡ numberAt w p s
+  number-at = ap bigEndian (taken w p inside)
+    where
+      taken : (w p : ℕ) → p + w ≤ length s → digitsAt w p s ≡ take w (drop p s)
+      taken zero p h = refl
+      taken (suc w) p h = rw (drop-cons s p 0 (omega arith), taken w (p + 1) (omega arith), add-one)
+
+  -- it says the bytes where it stands
+  pub bytes-at-back : Bytes s → inBytes w (numberAt w p s) ≡ take w (drop p s)
+  bytes-at-back h =
+      let l : length (take w (drop p s)) ≡ w = length-take-le w (drop p s) (simp length-drop (omega arith)) in
+      rw l at (bytes-back (take w (drop p s)) (part-bytes w p s h))
+
+  -- it stays with more bytes after them
+  pub number-longer : (more : List ℕ) → numberAt w p s ≡ numberAt w p (s ++ more)
+  number-longer more = rw (drop-append-le p s more (omega arith), take-append-le w (drop p s) more (simp length-drop (omega arith)))

@@ -1,0 +1,25 @@
+-- Numbers in bytes, big-endian: "a big-endian 16-bit length", counts "in one byte or two, big-endian" (document 01). The first byte is the highest.
+use mathlib.Core.List.{List, [], _∷_, _++_}
+use Prim.Native.Nat.{ℕ, zero, suc, _+_, _*_, _/_, _%_, _<_}
+use lib.ListN.{take, drop, getD}
+
+-- the number that some bytes say after the number n: each byte is the next digit of base 256
+abbrev pub bigEndianAfter : ℕ → List ℕ → ℕ
+bigEndianAfter n [] = n
+bigEndianAfter n (b ∷ bs) = bigEndianAfter (n * 256 + b) bs
+
+abbrev pub bigEndian : List ℕ → ℕ
+bigEndian bs = bigEndianAfter 0 bs
+
+-- the number in the w bytes of s from p on
+abbrev pub numberAt : ℕ → ℕ → List ℕ → ℕ
+numberAt w p s = bigEndian (take w (drop p s))
+
+-- the w bytes that say n; of a number too great for them, the lowest
+abbrev pub inBytes : ℕ → ℕ → List ℕ
+inBytes zero n = []
+inBytes (suc w) n = inBytes w (n / 256) ++ (n % 256 ∷ [])
+
+-- each element is a byte
+abbrev pub Bytes : List ℕ → Type 0
+Bytes s = (i : ℕ) → getD s i 0 < 256
