@@ -27,7 +27,7 @@ abbrev pub asRead : ℕ → List ℕ → TlvRead
 asRead t v = record { tlv-type = t; value-length = length v; consumed = 3 + length v }
 
 pub record RoundTrip : Type 0 where
-  -- reading what was written gives the same type and value, whatever stands behind
+  -- reading what was written gives the same type and value, whatever stands after it
   pub read-written : (t : ℕ) (v rest : List ℕ) → length v ≤ longestValue → gives (asRead t v) ≡ readTlv (tlvBytes t v ++ rest)
   pub value-written : (t : ℕ) (v rest : List ℕ) → length v ≤ longestValue → valueIn (readTlv (tlvBytes t v ++ rest)) (tlvBytes t v ++ rest) ≡ v
   -- writing what was read gives the consumed bytes
@@ -38,11 +38,17 @@ abbrev pub numberIn : {A : Type 0} → Answer A → ℕ
 numberIn (gives a) = 0
 numberIn (refuses n vs) = n
 
--- a reading of s is refused by n, and so many bytes are missing: with any fewer behind s it is refused by n again, and with any so many it isn't
+-- a reading of s is refused by n, and so many bytes are missing: with any fewer after s it is refused by n again, and with any so many or more it isn't
 pub record Missing {A : Type 0} (read : List ℕ → Answer A) (s : List ℕ) (n missing : ℕ) : Type 0 where
   pub again : (more : List ℕ) → length more < missing → numberIn (read (s ++ more)) ≡ n
-  pub no-longer : (more : List ℕ) → length more ≡ missing → numberIn (read (s ++ more)) ≡ n → ⊥
+  pub no-longer : (more : List ℕ) → missing ≤ length more → numberIn (read (s ++ more)) ≡ n → ⊥
 
 pub record Shortfalls : Type 0 where
   pub of-tlv : (s : List ℕ) (n missing : ℕ) → readTlv s ≡ refuses n (missing ∷ []) → Missing readTlv s n missing
   pub of-header : (s : List ℕ) (n missing : ℕ) → readHeader s ≡ refuses n (missing ∷ []) → Missing readHeader s n missing
+
+-- everything that is claimed of this crate
+pub record Claims : Type 0 where
+  pub firmness : Firmness
+  pub round-trip : RoundTrip
+  pub shortfalls : Shortfalls
