@@ -111,7 +111,7 @@ fn arrival(sender: u64, number: u64, time: u64) -> Arrival
         last: number == 2,
     };
     Arrival {
-        key: reassembler::key_of(2, 0, 0, 0, 0, (sender % 256) as u8, 7),
+        key: keys::key_of(2, 0, 0, 0, 0, (sender % 256) as u8, 7),
         time,
         fragment,
     }

@@ -16,8 +16,8 @@ use Rattle.pushing.proofs.Ways.{shown-same}
 use Rattle.pushing.proofs.Firm.{one-answer}
 use Rattle.pushing.proofs.Claims.{duplicate-untouched as untouched}
 use Rattle.table.proofs.Places.{all-same}
-use Rattle.reassembler.specs.Keys.{Origin, keyFor}
-use Rattle.reassembler.proofs.Keys.{key-is-one's}
+use Rattle.keys.specs.Keys.{Origin, keyFor}
+use Rattle.keys.proofs.Claims as K
 use Rattle.machines.specs.Machine.{those, run, remaining, gathered, every}
 use Rattle.orders.specs.Runs.{State, Push, Call, push, sweep, pushed, dropped, finishedBy, part, wayOf, after, tells, isAccepted, hasRoom, isOwn, isSweep, mine, start, holding, ends, crossed, repliesTo}
 use Rattle.orders.specs.Happened.{Happening, push-event, sweep-event, Happens, by-push, by-sweep, Happened, none, more, callOf, Got, from-push, from-sweep, gotBy, replyOf, isRefused, isFull, sameBytes, isFrom, isSweepEvent, isAbout}
@@ -118,7 +118,7 @@ one-key : (a o : Origin) → (sameBytes (a .sender) (o .sender) && eqb (a .messa
 one-key a o = by-key (eqb (keyFor a) (keyFor o)) refl
   where
     by-key : (b : Bool) → eqb (keyFor a) (keyFor o) ≡ b → (sameBytes (a .sender) (o .sender) && eqb (a .message-id) (o .message-id)) ≡ b
-    by-key true e = let same = key-is-one's a o (eqb-true _ _ e) in rw (same .0, same .1, same-refl (o .sender), eq-eqb (o .message-id) (o .message-id) refl)
+    by-key true e = let same = K.claims .key-is-one's a o (eqb-true _ _ e) in rw (same .0, same .1, same-refl (o .sender), eq-eqb (o .message-id) (o .message-id) refl)
     by-key false e = by-both (sameBytes (a .sender) (o .sender) && eqb (a .message-id) (o .message-id)) refl
       where
         by-both : (b : Bool) → (sameBytes (a .sender) (o .sender) && eqb (a .message-id) (o .message-id)) ≡ b → b ≡ false

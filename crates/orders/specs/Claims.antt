@@ -12,7 +12,7 @@ use Rattle.pushing.specs.declared.Pushed.the-variants.{DuplicatedFragment}
 use Rattle.pushing.specs.Push.{waiting, answerBy, outputBy}
 use Rattle.pushing.specs.Show.{shown}
 use Rattle.pushing.specs.Made.{Made}
-use Rattle.reassembler.specs.Keys.{Origin, keyFor}
+use Rattle.keys.specs.Keys.{Origin, keyFor}
 use Rattle.machines.specs.Machine.{those, gathered, every}
 use Rattle.machines.specs.Both.{lefts, rights}
 use Rattle.stations.specs.Rows.{whereOf}

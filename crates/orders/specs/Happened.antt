@@ -10,7 +10,7 @@ use Rattle.pushing.specs.declared.Pushed.{Pushed}
 use Rattle.pushing.specs.Push.{pushedOf, way, Goes}
 use Rattle.pushing.specs.Show.{shown}
 use Rattle.sweeping.specs.Sweep.{swept, sweptAs}
-use Rattle.reassembler.specs.Keys.{Origin, keyFor}
+use Rattle.keys.specs.Keys.{Origin, keyFor}
 use Rattle.orders.specs.Runs.{State, Push, Call, push, sweep, Reply, pushed, dropped, part, refusedBy, forRoom, isSweep}
 
 -- a call as it happened: a push under the key that key_of makes, with the output as it was lent, the answer, and the output as it came back; a sweep with its time and its answer

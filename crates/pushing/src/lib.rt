@@ -27,7 +27,7 @@ pub struct Fragment {
     pub last: bool,
 }
 
-// A fragment as it comes in: under which key (see key_of of the crate reassembler), and when, in milliseconds.
+// A fragment as it comes in: under which key (see key_of of the crate keys), and when, in milliseconds.
 #[repr(C)]
 pub struct Arrival {
     pub key: u64,

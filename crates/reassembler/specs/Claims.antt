@@ -1,6 +1,6 @@
 -- What is claimed of this crate's calls; proofs/Claims.antt proves it.
 use mathlib.Core.Path.{_≡_}
-use mathlib.Core.List.{List, [], _∷_}
+use mathlib.Core.List.{List}
 use Prim.Native.Nat.{ℕ}
 use lib.ListN.{length}
 use denote.Ref.{RefT, now}
@@ -11,7 +11,6 @@ use Rattle.pushing.specs.declared.Pushed.{Pushed}
 use Rattle.pushing.specs.Push.{pushedOf, way, Goes}
 use Rattle.pushing.specs.Show.{shown}
 use Rattle.sweeping.specs.Sweep.{swept, sweptAs}
-use Rattle.reassembler.specs.Keys.{keyOf, Origin, keyFor}
 use Rattle.reassembler.specs.Showing.{shownFrom}
 
 -- each public call by its name: any two outcomes that its contract allows are one
@@ -24,8 +23,7 @@ pub record Firmness : Type 0 where
   -- the bytes of the part that is returned, and where it lies
   pub show : (answer : Pushed) (payload out : RefT (List ℕ))
       → Firm {A = List ℕ × (ℕ × ℕ)} (λ o. (o .0 ≡ shown (pushedOf answer) (now payload) (now out)) × (o .1 ≡ shownFrom (pushedOf answer) payload out .ptr))
-  pub key-of : (s0 s1 s2 s3 s4 s5 id : ℕ) → Firm (λ key. key ≡ keyOf (s0 ∷ s1 ∷ s2 ∷ s3 ∷ s4 ∷ s5 ∷ []) id)
 
--- a key is one sender's and one message id's
-abbrev pub KeyIsOne's : Type 0
-KeyIsOne's = (a b : Origin) → keyFor a ≡ keyFor b → (a .sender ≡ b .sender) × (a .message-id ≡ b .message-id)
+-- everything that is claimed of this crate
+pub record Claims : Type 0 where
+  pub firmness : Firmness

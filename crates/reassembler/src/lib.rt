@@ -1,16 +1,14 @@
-// The fragment table as a caller uses it: push and sweep alter the caller's own table, show gives the message of an answer, key_of makes a key.
+// The fragment table as a caller uses it: push and sweep alter the caller's own table, show gives the message of an answer.
 
 use pushing::Arrival;
 use pushing::Pushed;
 use table::Table;
 ghost use mathlib.Core.Path.{_≡_};
-ghost use mathlib.Core.List.{[], _∷_};
 ghost use lib.ListN.{length};
 ghost use Rattle.pushing.specs.Push.{pushedOf, way, Goes};
 ghost use Rattle.sweeping.specs.Sweep.{swept, sweptAs};
 ghost use Rattle.pushing.specs.Show.{shown};
 ghost use Rattle.pushing.specs.Made.{Made};
-ghost use Rattle.reassembler.specs.Keys.{keyOf};
 ghost use Rattle.reassembler.specs.Showing.{shownFrom};
 
 // The message of an answer: of a single fragment it is the payload, of others the output's first bytes. The slices are those that push was given.
@@ -38,15 +36,6 @@ pub fn show<'a>(answer: Pushed, payload: &'a [u8], out: &'a [u8]) -> &'a [u8]
         Pushed::MissingLastFragment => &payload[..0],
         Pushed::Refused(_) => &payload[..0],
     }
-}
-
-// The key of a sender, by its six bytes in their order, and a message id.
-pub fn key_of(s0: u8, s1: u8, s2: u8, s3: u8, s4: u8, s5: u8, message_id: u16) -> u64
-    ensures { λ r. ⌜ r ≡ keyOf (s0 ∷ s1 ∷ s2 ∷ s3 ∷ s4 ∷ s5 ∷ []) «message_id» ⌝ }
-{
-    let high = (s0 as u64 * 256 + s1 as u64) * 256 + s2 as u64;
-    let low = (s3 as u64 * 256 + s4 as u64) * 256 + s5 as u64;
-    (high * 16777216 + low) * 65536 + message_id as u64
 }
 
 // Push, altering the caller's table itself: a thin shell over push_step.

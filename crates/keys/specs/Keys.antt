@@ -1,9 +1,9 @@
 -- A key is a sender's six bytes and a message id, written as one number: the bytes in their order, then the id.
 use mathlib.Core.Path.{_≡_}
 use mathlib.Core.List.{List}
-use Prim.Native.Nat.{ℕ, _+_, _*_, _<_}
+use Prim.Native.Nat.{ℕ, _+_, _*_, _/_, _%_, _<_}
 use lib.ListN.{length}
-use Rattle.numbers.specs.Bytes.{bigEndian, Bytes}
+use Rattle.numbers.specs.Bytes.{bigEndian, inBytes, Bytes}
 
 abbrev pub keyOf : List ℕ → ℕ → ℕ
 keyOf sender message-id = bigEndian sender * 65536 + message-id
@@ -18,3 +18,13 @@ pub record Origin : Type 0 where
 
 abbrev pub keyFor : Origin → ℕ
 keyFor o = keyOf (o .sender) (o .message-id)
+
+-- the way back: the sender is the key's upper 48 bits, as one number or in its six bytes, and the id its lower 16
+abbrev pub senderOf : ℕ → ℕ
+senderOf key = key / 65536
+
+abbrev pub senderBytes : ℕ → List ℕ
+senderBytes sender = inBytes 6 sender
+
+abbrev pub idOf : ℕ → ℕ
+idOf key = key % 65536
