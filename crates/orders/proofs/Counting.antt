@@ -7,12 +7,12 @@ use native.Mathlib.Omega.{arith}
 use lib.Dec.{eqb, ltb}
 use borrow.Author.Tests.{ltb-true, ltb-false, lt-ltb, le-ltb, eqb-true, eqb-false, eq-eqb}
 use Rattle.table.specs.declared.Table.{Table}
-use Rattle.sweeping.specs.declared.Swept.{Swept}
-use Rattle.sweeping.specs.Sweep.{expired, sweptRow, sweptRows, swept, sweptAs}
-use Rattle.table.specs.Rows.{rowOf, without}
+use Rattle.searching.specs.Count.{howMany}
+use Rattle.sweeping.specs.Sweep.{expired, swept}
+use Rattle.table.specs.Rows.{rowOf}
 use Rattle.pushing.specs.Joining.{never, since}
 use Rattle.table.proofs.Sound.{Sound, row-holds}
-use Rattle.sweeping.proofs.Sound.{later}
+use Rattle.searching.proofs.Count.{count-before-all, count-next}
 use Rattle.orders.specs.Runs.{State, Holding, holding, holdsNothing}
 use Rattle.orders.specs.Shares.{share, total, isIn, distinct}
 use Rattle.orders.proofs.Rows.{isUsed, codeAt, firstAt}
@@ -24,27 +24,6 @@ use Rattle.orders.proofs.Totals.{total-same, total-none, total-one}
 -- one row's share
 unfoldable rowShare : Table → ℕ → ℕ → ℕ
 rowShare t time row = cond (expired t time row) 1 0
-
-unfoldable rowsTotal : Table → ℕ → ℕ → ℕ
-rowsTotal t time zero = 0
-rowsTotal t time (suc n) = rowsTotal t time n + rowShare t time n
-
-module _ (t : Table) (s : Sound t) (time : ℕ) where
-  row-share : (n : ℕ) (w : Swept) → expired (w .table) time n ≡ expired t time n → sweptRow time n w .dropped ≡ w .dropped + rowShare t time n
-  unfolding sweptRow rowShare
-  row-share n w same = by-age (expired (w .table) time n) ∙ ap (λ (b : Bool). w .dropped + cond b 1 0) same
-    where
-      by-age : (b : Bool) → cond b (sweptAs (without (w .table) n) (w .dropped + 1)) w .dropped ≡ w .dropped + cond b 1 0
-      by-age true = refl
-      by-age false = omega arith
-
-  -- a row that the sweep comes to is as it was
-  rows-total : (n : ℕ) → n ≤ 16 → sweptRows t time n .dropped ≡ rowsTotal t time n
-  unfolding sweptRows rowsTotal
-  rows-total zero h = refl
-  rows-total (suc n) h =
-      let was = later t s time n (omega arith) n (omega arith) in
-      row-share n (sweptRows t time n) (rw (was .0, was .1)) ∙ ap (λ (m : ℕ). m + rowShare t time n) (rows-total n (omega arith))
 
 -- a key's share is that of its row
 module _ (z : State) (s : Sound (z .table)) (time : ℕ) where
@@ -103,10 +82,10 @@ module _ (z : State) (s : Sound (z .table)) (time : ℕ) where
         total-same (shareBelow (suc n)) (shareBelow n) ks (λ k q. below-other n k (λ e. false≢true (sym u ∙ ap (isUsed t) (sym e) ∙ row-holds t k (omega arith) .0)))
         ∙ omega (arith, unused-none n u)
 
-    keys-total : (n : ℕ) → n ≤ 16 → total (shareBelow n) ks ≡ rowsTotal t time n
-    unfolding rowsTotal
-    keys-total zero h = total-none (shareBelow 0) ks (λ k. rw (le-ltb (rowOf t k) 0 (omega arith)))
-    keys-total (suc n) h = next n (omega arith) (isUsed t n) refl ∙ ap (λ (m : ℕ). m + rowShare t time n) (keys-total n (omega arith))
+    keys-total : (n : ℕ) → n ≤ 16 → total (shareBelow n) ks ≡ howMany (expired t time) n
+    unfolding rowShare
+    keys-total zero h = total-none (shareBelow 0) ks (λ k. rw (le-ltb (rowOf t k) 0 (omega arith))) ∙ count-before-all (expired t time)
+    keys-total (suc n) h = next n (omega arith) (isUsed t n) refl ∙ ap (λ (m : ℕ). m + rowShare t time n) (keys-total n (omega arith)) ∙ sym (count-next (expired t time) n)
 
     all-below : (k : ℕ) → shareBelow 16 k ≡ shareOf k
     all-below k = by-row (ltb (rowOf t k) 16) refl
@@ -116,7 +95,7 @@ module _ (z : State) (s : Sound (z .table)) (time : ℕ) where
         by-row false e = sym (share-none k (ltb-false _ _ e))
 
     pub counts-add-up : swept t time .dropped ≡ total shareOf ks
-    counts-add-up = rows-total t s time 16 (omega arith) ∙ sym (keys-total 16 (omega arith)) ∙ total-same (shareBelow 16) shareOf ks (λ k q. all-below k)
+    counts-add-up = sym (keys-total 16 (omega arith)) ∙ total-same (shareBelow 16) shareOf ks (λ k q. all-below k)
 
 -- the keys that a table holds
 module _ (z : State) (s : Sound (z .table)) where

@@ -13,14 +13,14 @@ use Rattle.pushing.specs.Joining.{nothing, heldBy, never, due, firstTime
 use Rattle.sweeping.specs.Sweep.{isOld, expired, sweptRows, swept}
 use Rattle.table.proofs.Sound.{Sound, row-holds, no-row}
 use Rattle.table.proofs.Apart.{row-after-drop, drop-gone}
-use Rattle.sweeping.proofs.Sweeping.{table-none, table-next}
-use Rattle.sweeping.proofs.Sound.{sweep-sound, later}
+use Rattle.sweeping.proofs.Sweeping.{rows-none, rows-next, later}
+use Rattle.sweeping.proofs.Sound.{sweep-sound}
 use Rattle.pushing.proofs.Apart.{Untouched, drop-untouched}
 use Rattle.pushing.proofs.Own.{absent, absent-since}
 
 module _ (t : Table) (s : Sound t) (store : List ℕ) (time key : ℕ) where
   abbrev after : ℕ → Table
-  after n = sweptRows t time n .table
+  after n = sweptRows t time n
 
   abbrev row : ℕ
   row = rowOf t key
@@ -37,26 +37,23 @@ module _ (t : Table) (s : Sound t) (store : List ℕ) (time key : ℕ) where
     abbrev s′ : Sound (after n)
     s′ = sweep-sound t s time n (omega arith)
 
-    expired-is : expired (after n) time n ≡ (getD (t .used) n false && isOld time (getD (t .firsts) n 0))
-    expired-is = let was = later t s time n (omega arith) n (omega arith) in rw (was .0, was .1)
-
     both : (a b : Bool) → (a && b) ≡ true → (a ≡ true) × (b ≡ true)
     both true true e = (refl, refl)
     both true false e = absurd (false≢true e)
     both false b e = absurd (false≢true e)
 
     -- no row but the key's own holds the key
-    not-key : expired (after n) time n ≡ true → (rowOf (after n) key ≡ n → ⊥) → getD (after n .codes) n 0 ≡ key → ⊥
+    not-key : expired t time n ≡ true → (rowOf (after n) key ≡ n → ⊥) → getD (after n .codes) n 0 ≡ key → ⊥
     not-key e ne c = by-end (ltb (rowOf (after n) key) 16) refl
       where
         used : getD (after n .used) n false ≡ true
-        used = both (getD (after n .used) n false) (isOld time (getD (after n .firsts) n 0)) e .0
+        used = later t time n n (omega arith) .0 ∙ both (getD (t .used) n false) (isOld time (getD (t .firsts) n 0)) e .0
 
         by-end : (b : Bool) → ltb (rowOf (after n) key) 16 ≡ b → ⊥
         by-end false q = no-row (after n) s′ key (ltb-false _ _ q) n used c
         by-end true q = let holds = row-holds (after n) key (ltb-true _ _ q) in ne (s′ .keyed (rowOf (after n) key) n (holds .0) used (holds .1 ∙ sym c))
 
-    kept-on : (T : Table) → T ≡ after n → Fate n → expired (after n) time n ≡ false → after (suc n) ≡ T → Fate (suc n)
+    kept-on : (T : Table) → T ≡ after n → Fate n → expired t time n ≡ false → after (suc n) ≡ T → Fate (suc n)
     kept-on T e (goes l o g) x q = goes (omega arith) o (subst (λ (z : Table). 16 ≤ rowOf z key) (sym (q ∙ e)) g)
     kept-on T e (stays u r l) x q =
         stays (subst (λ (z : Table). Untouched key t z store store) (sym (q ∙ e)) u) (ap (λ (z : Table). rowOf z key) (q ∙ e) ∙ r) (λ l₂. by-row (eqb row n) refl l₂)
@@ -70,10 +67,10 @@ module _ (t : Table) (s : Sound t) (store : List ℕ) (time key : ℕ) where
         by-row true f l₂ =
             let same : row ≡ n = eqb-true _ _ f in
             let used : getD (t .used) row false ≡ true = row-holds t key (omega arith) .0 in
-            let young : (getD (t .used) row false && old) ≡ false = ap (λ (k : ℕ). getD (t .used) k false && isOld time (getD (t .firsts) k 0)) same ∙ sym expired-is ∙ x in
+            let young : (getD (t .used) row false && old) ≡ false = ap (λ (k : ℕ). getD (t .used) k false && isOld time (getD (t .firsts) k 0)) same ∙ x in
             rw used at young
 
-    dropped-on : Fate n → expired (after n) time n ≡ true → after (suc n) ≡ without (after n) n → Fate (suc n)
+    dropped-on : Fate n → expired t time n ≡ true → after (suc n) ≡ without (after n) n → Fate (suc n)
     dropped-on (goes l o g) x q =
         goes (omega arith) o (subst (λ (z : Table). 16 ≤ rowOf z key) (sym q) (rw (row-after-drop (after n) s′ n h key (not-key x (λ e. omega arith))) g))
     dropped-on (stays u r l) x q = by-row (eqb row n) refl
@@ -81,7 +78,7 @@ module _ (t : Table) (s : Sound t) (store : List ℕ) (time key : ℕ) where
         by-row : (b : Bool) → eqb row n ≡ b → Fate (suc n)
         by-row true f =
             let same : row ≡ n = eqb-true _ _ f in
-            let aged = both (getD (t .used) n false) (isOld time (getD (t .firsts) n 0)) (sym expired-is ∙ x) in
+            let aged = both (getD (t .used) n false) (isOld time (getD (t .firsts) n 0)) x in
             goes (omega arith) (ap (λ (k : ℕ). isOld time (getD (t .firsts) k 0)) same ∙ aged .1) (subst (λ (z : Table). 16 ≤ rowOf z key) (sym q) (drop-gone (after n) s′ n h key (r ∙ same)))
         by-row false f =
             let ne : row ≡ n → ⊥ = eqb-false _ _ f in
@@ -94,13 +91,13 @@ module _ (t : Table) (s : Sound t) (store : List ℕ) (time key : ℕ) where
             by-less true g l₃ = l (ltb-true _ _ g)
             by-less false g l₃ = absurd (eqb-false row n f (omega (arith, ltb-false row n g)))
 
-    on : Fate n → (b : Bool) → expired (after n) time n ≡ b → Fate (suc n)
-    on fate true x = dropped-on fate x (table-next t time n ∙ rw x)
-    on fate false x = kept-on (after n) refl fate x (table-next t time n ∙ rw x)
+    on : Fate n → (b : Bool) → expired t time n ≡ b → Fate (suc n)
+    on fate true x = dropped-on fate x (rows-next t time n ∙ rw x)
+    on fate false x = kept-on (after n) refl fate x (rows-next t time n ∙ rw x)
 
   fates : (n : ℕ) → n ≤ 16 → Fate n
-  fates zero h = stays (subst (λ (z : Table). Untouched key t z store store) (sym (table-none t time)) ((λ k. refl), refl)) (ap (λ (z : Table). rowOf z key) (table-none t time)) (λ l. absurd (omega arith))
-  fates (suc n) h = on n (omega arith) (fates n (omega arith)) (expired (after n) time n) refl
+  fates zero h = stays (subst (λ (z : Table). Untouched key t z store store) (rows-none t time) ((λ k. refl), refl)) (ap (λ (z : Table). rowOf z key) (sym (rows-none t time))) (λ l. absurd (omega arith))
+  fates (suc n) h = on n (omega arith) (fates n (omega arith)) (expired t time n) refl
 
   age : (b : Bool) → ltb row 16 ≡ b → due time (firstTime t key) ≡ (b && old)
   unfolding firstTime

@@ -15,8 +15,8 @@ use Rattle.pushing.specs.Joining.{keptAt, heldIn, since, firstTime}
 pub use Rattle.pushing.specs.Claims.{Untouched}
 use Rattle.pushing.specs.Push.{Way, way, tableBy, storeBy, placeFor}
 use Rattle.searching.proofs.Search.{lowest-holds}
-use Rattle.table.proofs.Apart.{Same, same-place, put-same, row-after-drop, time-after-drop, drop-same, row-after-open}
-use Rattle.table.proofs.Sound.{Sound, place-holds, row-holds}
+use Rattle.table.proofs.Apart.{Same, same-place, put-same, row-after-drop, drop-same, row-after-open}
+use Rattle.table.proofs.Sound.{dropped-time, Sound, place-holds, row-holds}
 use Rattle.pushing.proofs.Pieces.{kept-out, kept-same}
 use Rattle.pushing.proofs.Ways.{Went, went, went-refuse, went-duplicate, went-keep, went-open, went-end}
 
@@ -49,7 +49,7 @@ untouched-by key t t′ store store′ row time same =
 module _ (t : Table) (s : Sound t) (dropped : ℕ) (in-16 : dropped < 16) where
   pub drop-untouched : (store : List ℕ) (key : ℕ) → (getD (t .codes) dropped 0 ≡ key → ⊥) → Untouched key t (without t dropped) store store
   drop-untouched store key ne =
-      untouched-by key t (without t dropped) store store (row-after-drop t s dropped in-16 key ne) (λ h. time-after-drop t s dropped in-16 (rowOf t key) other) (drop-same t s store (rowOf t key) dropped other)
+      untouched-by key t (without t dropped) store store (row-after-drop t s dropped in-16 key ne) (λ h. dropped-time t dropped (rowOf t key) other) (drop-same t s store (rowOf t key) dropped other)
     where
       other : rowOf t key ≡ dropped → ⊥
       other e = ne (ap (λ (r : ℕ). getD (t .codes) r 0) (sym e) ∙ row-holds t key (omega arith) .1)

@@ -1,1 +1,2 @@
-// The least number that passes a test, and its laws: what every look-up in a table means, whatever the table. No code, only the definition and what is proved of it.
+// The least number that passes a test, how many pass, and the laws of both: what every look-up and every count over a table means, whatever the table. No code, only
+// the definitions and what is proved of them.

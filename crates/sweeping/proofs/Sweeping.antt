@@ -1,52 +1,61 @@
--- Laws of the sweep: what one row adds.
-use mathlib.Core.Path.{_≡_, refl, sym, ap, _∙_, subst}
+-- Laws of the sweep: what one row adds, and that the rows which it has not reached are as they were.
+use mathlib.Core.Path.{_≡_, refl, sym, ap, _∙_}
 use mathlib.Core.Bool.{Bool, true, false, cond}
 use Prim.Native.Nat.{ℕ, zero, suc, _+_, _≤_, _<_}
 use native.Mathlib.Omega.{arith}
+use native.Mathlib.Nat.{add-zero}
 use native.Mathlib.Numerals.{add-one}
 use lib.Dec.{leb}
+use lib.ListN.{getD}
 use borrow.Author.Tests.{leb-true, leb-false}
+use Rattle.searching.specs.Count.{howMany}
 use Rattle.table.specs.declared.Table.{Table}
 use Rattle.sweeping.specs.declared.Swept.{Swept}
 use Rattle.table.specs.Rows.{without}
-use Rattle.sweeping.specs.Sweep.{expired, sweptRow, sweptRows, sweptAs}
+use Rattle.sweeping.specs.Sweep.{expired, sweptRows, sweptAs}
+use Rattle.searching.proofs.Count.{count-before-all, count-next}
+use Rattle.table.proofs.Sound.{dropped-other, dropped-time}
 
-module _ (time row : ℕ) (s : Swept) where
-  pub row-dropped : expired (s .table) time row ≡ true → sweptAs (without (s .table) row) (s .dropped + 1) ≡ sweptRow time row s
-  unfolding sweptRow
-  row-dropped e = rw e
+module _ (t : Table) (time : ℕ) where
+  pub rows-none : t ≡ sweptRows t time 0
+  unfolding sweptRows
+  rows-none = refl
 
-  pub row-stays : expired (s .table) time row ≡ false → s ≡ sweptRow time row s
-  unfolding sweptRow
-  row-stays e = rw e
+  pub rows-next : (n : ℕ) → sweptRows t time (suc n) ≡ cond (expired t time n) (without (sweptRows t time n) n) (sweptRows t time n)
+  unfolding sweptRows
+  rows-next n = refl
 
--- the table alone
-pub table-none : (t : Table) (time : ℕ) → sweptRows t time 0 .table ≡ t
-unfolding sweptRows
-table-none t time = refl
+  -- later rows
+  pub later : (n r : ℕ) → n ≤ r → (getD (sweptRows t time n .used) r false ≡ getD (t .used) r false) × (getD (sweptRows t time n .firsts) r 0 ≡ getD (t .firsts) r 0)
+  later zero r l = rw (← rows-none) (refl, refl)
+  later (suc n) r l = rw (rows-next n) (by-age (expired t time n) (later n r (omega arith)))
+    where
+      by-age : (b : Bool) → (getD (sweptRows t time n .used) r false ≡ getD (t .used) r false) × (getD (sweptRows t time n .firsts) r 0 ≡ getD (t .firsts) r 0)
+          → (getD (cond b (without (sweptRows t time n) n) (sweptRows t time n) .used) r false ≡ getD (t .used) r false) × (getD (cond b (without (sweptRows t time n) n) (sweptRows t time n) .firsts) r 0 ≡ getD (t .firsts) r 0)
+      by-age true was = (dropped-other (sweptRows t time n) n r (λ q. omega arith) ∙ was .0, dropped-time (sweptRows t time n) n r (λ q. omega arith) ∙ was .1)
+      by-age false was = was
 
-pub table-next : (t : Table) (time n : ℕ) → sweptRows t time (suc n) .table ≡ cond (expired (sweptRows t time n .table) time n) (without (sweptRows t time n .table) n) (sweptRows t time n .table)
-unfolding sweptRows sweptRow
-table-next t time n = by-age (sweptRows t time n) (expired (sweptRows t time n .table) time n)
-  where
-    by-age : (z : Swept) (b : Bool) → cond b (sweptAs (without (z .table) n) (z .dropped + 1)) z .table ≡ cond b (without (z .table) n) (z .table)
-    by-age z true = refl
-    by-age z false = refl
+  pub expired-later : (n r : ℕ) → n ≤ r → expired (sweptRows t time n) time r ≡ expired t time r
+  expired-later n r l = let was = later n r l in rw (was .0, was .1)
 
-pub rows-none : (t : Table) (time : ℕ) → sweptAs t 0 ≡ sweptRows t time 0
-unfolding sweptRows
-rows-none t time = refl
+  -- what the loop has once it has swept the rows below n
+  abbrev pub sweptTo : ℕ → Swept
+  sweptTo n = sweptAs (sweptRows t time n) (howMany (expired t time) n)
 
-pub rows-next : (t : Table) (time n : ℕ) → sweptRow time n (sweptRows t time n) ≡ sweptRows t time (n + 1)
-unfolding sweptRows
-rows-next t time n = sym (ap (sweptRows t time) (add-one n))
+  pub swept-none : sweptAs t 0 ≡ sweptTo 0
+  swept-none = rw (← rows-none, ← count-before-all (expired t time))
 
--- rows that stay are passed over
-pub rows-skip : (t : Table) (time : ℕ) (w : Swept) (m k : ℕ) → m ≤ k → w ≡ sweptRows t time m → ((j : ℕ) → m ≤ j → j < k → expired (w .table) time j ≡ false) → w ≡ sweptRows t time k
-unfolding sweptRows
-rows-skip t time w m zero h e young = subst (λ (j : ℕ). w ≡ sweptRows t time j) (let none : m ≡ 0 = omega arith in none) e
-rows-skip t time w m (suc k) h e young = by-order (leb m k) refl (λ l. rows-skip t time w m k l e (λ j a b. young j a (omega arith)))
-  where
-    by-order : (b : Bool) → leb m k ≡ b → (m ≤ k → w ≡ sweptRows t time k) → w ≡ sweptRow time k (sweptRows t time k)
-    by-order true q ih = let l = leb-true m k q in row-stays time k w (young k l (omega arith)) ∙ ap (sweptRow time k) (ih l)
-    by-order false q ih = subst (λ (j : ℕ). w ≡ sweptRows t time j) (let last : m ≡ suc k = omega (arith, leb-false m k q) in last) e
+  pub swept-here : (n : ℕ) → expired t time n ≡ true → sweptAs (without (sweptTo n .table) n) (sweptTo n .dropped + 1) ≡ sweptTo (n + 1)
+  swept-here n e = rw (add-one n, rows-next, count-next, e)
+
+  swept-past : (n : ℕ) → expired t time n ≡ false → sweptTo n ≡ sweptTo (suc n)
+  swept-past n e = rw (rows-next, count-next, e, add-zero)
+
+  -- rows that stay are passed over
+  pub swept-skip : (m k : ℕ) → m ≤ k → ((j : ℕ) → m ≤ j → j < k → expired t time j ≡ false) → sweptTo m ≡ sweptTo k
+  swept-skip m zero h young = ap sweptTo (let none : m ≡ 0 = omega arith in none)
+  swept-skip m (suc k) h young = by-order (leb m k) refl (λ l. swept-skip m k l (λ j a b. young j a (omega arith)))
+    where
+      by-order : (b : Bool) → leb m k ≡ b → (m ≤ k → sweptTo m ≡ sweptTo k) → sweptTo m ≡ sweptTo (suc k)
+      by-order true q below = let l = leb-true m k q in below l ∙ swept-past k (young k l (omega arith))
+      by-order false q below = ap sweptTo (let last : m ≡ suc k = omega (arith, leb-false m k q) in last)

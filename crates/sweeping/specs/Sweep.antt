@@ -1,10 +1,11 @@
 -- Sweep (document 01, "The table"): which keys it drops, and how many.
 use mathlib.Core.Bool.{Bool, false, cond, _&&_}
-use Prim.Native.Nat.{ℕ, zero, suc, _+_, _-_}
+use Prim.Native.Nat.{ℕ, zero, suc, _-_}
 use lib.Dec.{leb}
 use lib.ListN.{getD}
 use Rattle.table.specs.declared.Table.{Table}
 use Rattle.sweeping.specs.declared.Swept.{Swept}
+use Rattle.searching.specs.Count.{howMany}
 use Rattle.table.specs.Rows.{keys, without}
 
 -- so many milliseconds
@@ -22,18 +23,15 @@ isOld now-ms first = leb lifetime (elapsed now-ms first)
 abbrev pub expired : Table → ℕ → ℕ → Bool
 expired t now-ms row = getD (t .used) row false && isOld now-ms (getD (t .firsts) row 0)
 
--- one row is looked at: its key is counted and dropped if its time has come. Document 02, 2026-06: "Sweep answers one number."
-unfoldable pub sweptRow : ℕ → ℕ → Swept → Swept
-sweptRow now-ms row s = cond (expired (s .table) now-ms row) (record { table = without (s .table) row; dropped = s .dropped + 1 }) s
-
--- the rows below n, one after the other
-unfoldable pub sweptRows : Table → ℕ → ℕ → Swept
-sweptRows t now-ms zero = record { table = t; dropped = 0 }
-sweptRows t now-ms (suc n) = sweptRow now-ms n (sweptRows t now-ms n)
-
-abbrev pub swept : Table → ℕ → Swept
-swept t now-ms = sweptRows t now-ms keys
+-- the table without those keys of the rows below n whose time has come
+unfoldable pub sweptRows : Table → ℕ → ℕ → Table
+sweptRows t now-ms zero = t
+sweptRows t now-ms (suc n) = cond (expired t now-ms n) (without (sweptRows t now-ms n) n) (sweptRows t now-ms n)
 
 -- a table and a number that a call left
 abbrev pub sweptAs : Table → ℕ → Swept
 sweptAs t dropped = record { table = t; dropped = dropped }
+
+-- Document 02, 2026-06: "Sweep answers one number.": how many keys were dropped
+abbrev pub swept : Table → ℕ → Swept
+swept t now-ms = sweptAs (sweptRows t now-ms keys) (howMany (expired t now-ms) keys)

@@ -108,7 +108,7 @@ module _ (t : Table) (s : Sound t) (dropped : ℕ) (in-16 : dropped < 16) where
   row-after-drop key ne = lowest-same (isRowOf (without t dropped) key) (isRowOf t key) 16 (λ r h. by-row r (eqb r dropped) refl)
     where
       by-row : (r : ℕ) (b : Bool) → eqb r dropped ≡ b → isRowOf (without t dropped) key r ≡ isRowOf t key r
-      by-row r false e = rw (dropped-other t s dropped in-16 r (eqb-false _ _ e), dropped-code t s dropped in-16 r (eqb-false _ _ e))
+      by-row r false e = rw (dropped-other t dropped r (eqb-false _ _ e), dropped-code t dropped r (eqb-false _ _ e))
       by-row r true e =
           let same : r ≡ dropped = eqb-true _ _ e in
           let no-code : eqb (getD (t .codes) dropped 0) key ≡ false = ne-eqb _ _ ne in
@@ -117,10 +117,6 @@ module _ (t : Table) (s : Sound t) (dropped : ℕ) (in-16 : dropped < 16) where
           never-both : (u : Bool) → (u && false) ≡ false
           never-both true = refl
           never-both false = refl
-
-  pub time-after-drop : (row : ℕ) → (row ≡ dropped → ⊥) → getD (without t dropped .firsts) row 0 ≡ getD (t .firsts) row 0
-  unfolding without
-  time-after-drop row ne = getD-set-other (t .firsts) dropped row 0 0 ne
 
   -- and its own key is gone
   pub drop-gone : (key : ℕ) → rowOf t key ≡ dropped → 16 ≤ rowOf (without t dropped) key
@@ -132,8 +128,8 @@ module _ (t : Table) (s : Sound t) (dropped : ℕ) (in-16 : dropped < 16) where
           let r = rowOf (without t dropped) key in
           let holds = row-holds (without t dropped) key (ltb-true _ _ q) in
           let ne : r ≡ dropped → ⊥ = λ same. false≢true (sym (dropped-unused t s dropped in-16) ∙ ap (λ (k : ℕ). getD (without t dropped .used) k false) (sym same) ∙ holds .0) in
-          let was-used = sym (dropped-other t s dropped in-16 r ne) ∙ holds .0 in
-          let was-key = sym (dropped-code t s dropped in-16 r ne) ∙ holds .1 in
+          let was-used = sym (dropped-other t dropped r ne) ∙ holds .0 in
+          let was-key = sym (dropped-code t dropped r ne) ∙ holds .1 in
           let own = row-holds t key (omega arith) in
           absurd (ne (s .keyed r (rowOf t key) was-used (own .0) (was-key ∙ sym (own .1)) ∙ e))
 

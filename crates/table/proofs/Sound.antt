@@ -176,6 +176,20 @@ module _ (t : Table) (s : Sound t) (row key time : ℕ) (in-16 : row < 16) (new 
     keyed = keyed-at;
   }
 
+-- the other rows after a drop
+module _ (t : Table) (row r : ℕ) (other : r ≡ row → ⊥) where
+  pub dropped-other : getD (without t row .used) r false ≡ getD (t .used) r false
+  unfolding without
+  dropped-other = getD-set-other (t .used) row r false false other
+
+  pub dropped-code : getD (without t row .codes) r 0 ≡ getD (t .codes) r 0
+  unfolding without
+  dropped-code = getD-set-other (t .codes) row r 0 0 other
+
+  pub dropped-time : getD (without t row .firsts) r 0 ≡ getD (t .firsts) r 0
+  unfolding without
+  dropped-time = getD-set-other (t .firsts) row r 0 0 other
+
 module _ (t : Table) (s : Sound t) (row : ℕ) (in-16 : row < 16) where
   -- a place after the drop is free, or as it was and another row's
   at-freed : (P : Place → Type 0) (i : ℕ) → P freePlace → ((placeAt t i .owner ≡ ownerOf row → ⊥) → P (placeAt t i)) → P (placeAt (without t row) i)
@@ -185,16 +199,8 @@ module _ (t : Table) (s : Sound t) (row : ℕ) (in-16 : row < 16) where
   unfolding without
   dropped-unused = getD-set-same (t .used) row false false (omega (arith, s .used-long))
 
-  pub dropped-other : (r : ℕ) → (r ≡ row → ⊥) → getD (without t row .used) r false ≡ getD (t .used) r false
-  unfolding without
-  dropped-other r other = getD-set-other (t .used) row r false false other
-
   not-dropped : (r : ℕ) → getD (without t row .used) r false ≡ true → r ≡ row → ⊥
   not-dropped r e same = false≢true (sym dropped-unused ∙ ap (λ (k : ℕ). getD (without t row .used) k false) (sym same) ∙ e)
-
-  pub dropped-code : (r : ℕ) → (r ≡ row → ⊥) → getD (without t row .codes) r 0 ≡ getD (t .codes) r 0
-  unfolding without
-  dropped-code r other = getD-set-other (t .codes) row r 0 0 other
 
   pub drop-sound : Sound (without t row)
   unfolding without
@@ -206,13 +212,13 @@ module _ (t : Table) (s : Sound t) (row : ℕ) (in-16 : row < 16) where
     small = λ i. at-freed (λ (q : Place). q .size ≤ 1492) i (omega arith) (λ other. s .small i);
     byte = λ i. at-freed (λ (q : Place). q .number < 256) i (omega arith) (λ other. s .byte i);
     owned = λ i r. at-freed (λ (q : Place). q .owner ≡ ownerOf r → getD (without t row .used) r false ≡ true) i (λ own. absurd (omega arith))
-        (λ other own. dropped-other r (λ same. other (own ∙ ap ownerOf same)) ∙ s .owned i r own);
+        (λ other own. dropped-other t row r (λ same. other (own ∙ ap ownerOf same)) ∙ s .owned i r own);
     once = λ i j r. at-freed (λ (q : Place). q .owner ≡ ownerOf r → placeAt (without t row) j .owner ≡ ownerOf r → q .number ≡ placeAt (without t row) j .number → i ≡ j) i (λ own f g. absurd (omega arith))
         (λ other own. at-freed (λ (z : Place). z .owner ≡ ownerOf r → placeAt t i .number ≡ z .number → i ≡ j) j (λ f g. absurd (omega arith)) (λ other₂ f g. s .once i j r own f g));
     keyed = λ r q e f g.
         let a = not-dropped r e in
         let b = not-dropped q f in
-        s .keyed r q (sym (dropped-other r a) ∙ e) (sym (dropped-other q b) ∙ f) (sym (dropped-code r a) ∙ g ∙ dropped-code q b);
+        s .keyed r q (sym (dropped-other t row r a) ∙ e) (sym (dropped-other t row q b) ∙ f) (sym (dropped-code t row r a) ∙ g ∙ dropped-code t row q b);
   }
 
 pub end-sound : (t : Table) → Sound t → (row : ℕ) → Sound (droppedKey t row)
