@@ -14,7 +14,7 @@ use Rattle.pushing.specs.Show.{shown}
 use Rattle.pushing.specs.Made.{Made}
 use Rattle.pushing.proofs.Ways.{shown-same}
 use Rattle.pushing.proofs.Firm.{one-answer}
-use Rattle.pushing.proofs.Claims.{duplicate-untouched as untouched}
+use Rattle.pushing.proofs.Claims as P
 use Rattle.table.proofs.Places.{all-same}
 use Rattle.keys.specs.Keys.{Origin, keyFor}
 use Rattle.keys.proofs.Claims as K
@@ -236,5 +236,5 @@ module _ (store : List ℕ) (es : List Happening) (z : State) (h : Happened (sta
 -- a duplicate leaves everything as it was
 pub duplicate-untouched : (z z′ : State) (o : Origin) (p : Push) (key : p .arrival .key ≡ keyFor o) (out out′ : List ℕ) → Happens z (push-event o p key out DuplicatedFragment out′) z′ → (z′ ≡ z) × (out′ ≡ out)
 duplicate-untouched z z′ o p key out out′ (by-push {table′ = table′} {part′ = part′} long goes) =
-    let same = untouched (z .table) (part z p) out (p .arrival) (p .payload) table′ part′ out′ goes in
+    let same = P.claims .duplicate-untouched (z .table) (part z p) out (p .arrival) (p .payload) table′ part′ out′ goes in
     ((λ i. record { table = same .0 i; store = same .1 i ++ drop (p .lent) (z .store) }) ∙ ap (λ (l : List ℕ). record { table = z .table; store = l }) (take-append-drop (p .lent) (z .store)), same .2)

@@ -4,13 +4,14 @@ use mathlib.Core.List.{List, []}
 use Prim.Native.Nat.{ℕ, _<_}
 use lib.ListN.{length}
 use Rattle.numbers.specs.Firmness.{Firm}
+use Rattle.numbers.specs.declared.Refusal.{Refusal}
 use Rattle.table.specs.declared.Table.{Table}
 use Rattle.table.specs.Rows.{freshTable}
 use Rattle.table.specs.Sound.{Sound}
 use Rattle.sweeping.specs.Sweep.{swept, sweptAs}
 use Rattle.pushing.specs.declared.Arrival.{Arrival}
 use Rattle.pushing.specs.declared.Pushed.{Pushed}
-use Rattle.pushing.specs.declared.Pushed.the-variants.{DuplicatedFragment}
+use Rattle.pushing.specs.declared.Pushed.the-variants.{DuplicatedFragment, Refused}
 use Rattle.pushing.specs.declared.AfterPush.{AfterPush}
 use Rattle.pushing.specs.Joining.{heldBy, firstTime}
 use Rattle.pushing.specs.Push.{way, tableBy, storeBy, outputBy, answerBy, Goes}
@@ -52,7 +53,24 @@ abbrev pub DuplicateUntouched : Type 0
 DuplicateUntouched = (t : Table) (store out : List ℕ) (a : Arrival) (payload : List ℕ) (t′ : Table) (store′ out′ : List ℕ)
     → Goes (way t store a payload (length out)) t store out a payload DuplicatedFragment t′ store′ out′ → (t′ ≡ t) × (store′ ≡ store) × (out′ ≡ out)
 
+-- document 01, on refusals: "Nothing lent changes." A push that is refused, by any number, leaves all three as they were
+abbrev pub RefusalUntouched : Type 0
+RefusalUntouched = (t : Table) (store out : List ℕ) (a : Arrival) (payload : List ℕ) (refusal : Refusal) (t′ : Table) (store′ out′ : List ℕ)
+    → Goes (way t store a payload (length out)) t store out a payload (Refused refusal) t′ store′ out′ → (t′ ≡ t) × (store′ ≡ store) × (out′ ≡ out)
+
 -- what is shown of a push is the same whatever the output held
 abbrev pub ShownSame : Type 0
 ShownSame = (t : Table) (store : List ℕ) (a : Arrival) (payload : List ℕ) (room : ℕ) (out : List ℕ)
     → shown (answerBy (way t store a payload room)) payload (outputBy (way t store a payload room) out) ≡ shown (answerBy (way t store a payload room)) payload (outputBy (way t store a payload room) [])
+
+-- everything that is claimed of this crate
+pub record Claims : Type 0 where
+  pub firmness : Firmness
+  pub fresh-made : FreshMade
+  pub push-made : PushMade
+  pub sweep-made : SweepMade
+  pub made-sound : MadeSound
+  pub push-untouched : PushUntouched
+  pub duplicate-untouched : DuplicateUntouched
+  pub refusal-untouched : RefusalUntouched
+  pub shown-same : ShownSame

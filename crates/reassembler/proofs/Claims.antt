@@ -11,7 +11,7 @@ use Rattle.pushing.proofs.Firm.{one-answer}
 use Rattle.reassembler.specs.Showing.{shownFrom}
 use Rattle.reassembler.specs.Claims.{Claims, Firmness}
 
-firmness : Firmness
+pub firmness : Firmness
 firmness = record {
   push = λ t store out a payload p q x y i. (one-answer (p .0) (q .0) (x .answers ∙ sym (y .answers)) i, (x .keeps ∙ sym (y .keeps)) i, (x .stores ∙ sym (y .stores)) i, (x .puts ∙ sym (y .puts)) i);
   sweep = λ t time p q x y. ap (λ (s : Swept). (s .dropped, s .table)) (x ∙ sym y);

@@ -9,3 +9,7 @@ use Rattle.sweeping.specs.Sweep.{swept}
 -- any two tables with a number that its contract allows are one
 pub record Firmness : Type 0 where
   pub sweep-step : (t : Table) (time : ℕ) → Firm {A = Swept} (λ r. r ≡ swept t time)
+
+-- everything that is claimed of this crate
+pub record Claims : Type 0 where
+  pub firmness : Firmness

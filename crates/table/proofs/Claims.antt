@@ -1,7 +1,7 @@
 -- The claims of specs/Claims.antt, proved.
 use Rattle.numbers.proofs.Firm.{by-equation}
 use Rattle.table.specs.Rows.{freshTable, droppedKey}
-use Rattle.table.specs.Claims.{Firmness}
+use Rattle.table.specs.Claims.{Claims}
 
-pub firmness : Firmness
-firmness = record { fresh = by-equation freshTable; without-key = λ t row. by-equation (droppedKey t row) }
+pub claims : Claims
+claims = record { firmness = record { fresh = by-equation freshTable; without-key = λ t row. by-equation (droppedKey t row) } }

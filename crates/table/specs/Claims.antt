@@ -9,3 +9,7 @@ use Rattle.table.specs.Rows.{freshTable, droppedKey}
 pub record Firmness : Type 0 where
   pub fresh : Firm {A = Table} (λ r. r ≡ freshTable)
   pub without-key : (t : Table) (row : ℕ) → Firm {A = Table} (λ r. r ≡ droppedKey t row)
+
+-- everything that is claimed of this crate
+pub record Claims : Type 0 where
+  pub firmness : Firmness
