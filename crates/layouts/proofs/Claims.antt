@@ -20,7 +20,7 @@ use Rattle.layouts.specs.declared.Counted.the-variants.{Entries, Refused
 use Rattle.layouts.specs.Layouts.{Layout, Rest, handed-back, refused, ListKind, layoutOf, isList}
 use Rattle.layouts.specs.Reading.{Consumed, consumedTo, readingOf, readAs, readValue}
 use Rattle.layouts.specs.Access.{numbersOf, Span, spanOf, lengthAt, locatedOf, locateEntry, partOf, startIn, countedOf, countEntries}
-use Rattle.layouts.specs.Claims.{Firmness, levelsOf, Shown, Below, Values, Alone, ConsumedAlone}
+use Rattle.layouts.specs.Claims.{Firmness, levelsOf, Shown, Below, Values, Alone, ConsumedAlone, Claims}
 use Rattle.layouts.proofs.Within.{end-within}
 use Rattle.layouts.proofs.Laws.{read-to}
 use Rattle.layouts.proofs.Finding.{find-here}
@@ -206,3 +206,6 @@ module _ (code : ℕ) (s : List ℕ) (r : Consumed) (x : readValue code s ≡ gi
 
 pub consumed-alone : ConsumedAlone
 consumed-alone = alone
+
+pub claims : Claims
+claims = record { firmness = firmness; values = values; consumed-alone = consumed-alone }

@@ -20,7 +20,7 @@ use Rattle.utf8.specs.Utf8.{isUtf8}
 use Rattle.texts.specs.Texts.{Piece, field, string, to-end, TextKind, textKind, isText}
 use Rattle.texts.specs.Reading.{ReadPiece, pieceAt, Pieces, before, piecesAt, Laid, textIn, allValid, wholeOf, consumedIn, readText}
 use Rattle.texts.specs.Access.{nthOf, wholeSpan, textSpan, ofText, radioIn, radioCount, locateRadio, countRadios, locateText, locateRadioText}
-use Rattle.texts.specs.Claims.{Firmness, Text, Values, Alone, ConsumedAlone}
+use Rattle.texts.specs.Claims.{Firmness, Text, Values, Alone, ConsumedAlone, Claims}
 use Rattle.texts.proofs.Whole.{parts, valid, list-within, each-within}
 use Rattle.texts.proofs.Asked.{answers, Among, text-among, radio-among, one-radio}
 use Rattle.texts.proofs.Local.{all-consumed, whole-alone}
@@ -352,3 +352,6 @@ values = record {
   every-text = every-text;
   beyond = beyond;
 }
+
+pub claims : Claims
+claims = record { firmness = firmness; values = values; consumed-alone = consumed-alone }

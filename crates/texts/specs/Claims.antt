@@ -73,3 +73,9 @@ pub record Alone (code : ℕ) (s : List ℕ) (r : Consumed) : Type 0 where
 
 abbrev pub ConsumedAlone : Type 0
 ConsumedAlone = (code : ℕ) (s : List ℕ) (r : Consumed) → readText code s ≡ gives r → Alone code s r
+
+-- everything that is claimed of this crate
+pub record Claims : Type 0 where
+  pub firmness : Firmness
+  pub values : Values
+  pub consumed-alone : ConsumedAlone

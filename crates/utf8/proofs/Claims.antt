@@ -1,13 +1,10 @@
 -- The claims of specs/Claims.antt, proved.
 use Rattle.numbers.proofs.Firm.{by-equation}
-use Rattle.utf8.specs.Claims.{Firmness, Exactly, Cut}
-use Rattle.utf8.proofs.Exactly as grammar
+use Rattle.utf8.specs.Claims.{Firmness, Claims}
+use Rattle.utf8.proofs.Exactly.{exactly, cut}
 
-pub firmness : Firmness
+firmness : Firmness
 firmness = record { is-utf8 = λ s. by-equation _ }
 
-pub exactly : Exactly
-exactly = grammar.exactly
-
-pub cut : Cut
-cut = grammar.cut
+pub claims : Claims
+claims = record { firmness = firmness; exactly = exactly; cut = cut }
