@@ -1,6 +1,5 @@
 -- What was asked of a value that reads: the kind, the value, and where what was found lies in it.
 use mathlib.Core.Path.{_≡_, refl, sym, ap, _∙_}
-use mathlib.Core.Bool.{Bool, true, false}
 use mathlib.Core.List.{List, [], _∷_}
 use Prim.Native.Nat.{ℕ, zero, suc, _≤_}
 use native.Mathlib.Omega.{arith}
@@ -78,16 +77,13 @@ module _ (k : TextKind) (s : List ℕ) (v : Laid) (e : wholeOf k s ≡ gives v) 
   pub radio-among : nthOf (v .radios .each) i ≡ gives h → Among s (v .list .first) (v .radios .end) h
   radio-among a = let l = valid k s v e .laid in among (v .list .many) radio s (v .list .first) (v .radios) i h (list-within k s v l .1) (parts k s v l .each) a
 
--- radios are counted without a number, in a kind that has them
+-- radios are counted without a number
 module _ (d i j k : ℕ) (v : Laid) where
-  pub count-all : (b : Bool) → b ≡ true → d ≡ 0 → radioCount b (numbers d i j k) v ≡ gives (v .list .many)
-  count-all b x y = rw (x, y)
+  pub count-all : d ≡ 0 → radioCount (numbers d i j k) v ≡ gives (v .list .many)
+  count-all x = rw x
 
-  pub count-under : (b : Bool) → b ≡ true → (d ≡ 0 → ⊥) → radioCount b (numbers d i j k) v ≡ refuses 6 []
-  count-under b x ne = rw (x, numbers-more d i j k (omega arith))
-
-  pub count-none : (b : Bool) → b ≡ false → radioCount b (numbers d i j k) v ≡ refuses 6 []
-  count-none b x = rw x
+  pub count-under : (d ≡ 0 → ⊥) → radioCount (numbers d i j k) v ≡ refuses 6 []
+  count-under ne = rw (numbers-more d i j k (omega arith))
 
   -- one is asked for by one number
   pub one-number : d ≡ 1 → radioIn (numbers d i j k) v ≡ mapped wholeSpan (nthOf (v .radios .each) i)

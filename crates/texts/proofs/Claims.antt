@@ -18,7 +18,7 @@ use Rattle.layouts.specs.Claims.{Shown}
 use Rattle.layouts.proofs.Claims.{reading-told, located-told, counted-told, part-alone}
 use Rattle.utf8.specs.Utf8.{isUtf8}
 use Rattle.texts.specs.Texts.{Piece, field, string, to-end, TextKind, textKind, isText}
-use Rattle.texts.specs.Reading.{ReadPiece, pieceAt, Pieces, before, piecesAt, Laid, textIn, allValid, wholeOf, consumedIn, readText}
+use Rattle.texts.specs.Reading.{ReadPiece, pieceAt, Pieces, before, piecesAt, radioList, Laid, textIn, allValid, wholeOf, consumedIn, readText}
 use Rattle.texts.specs.Access.{nthOf, wholeSpan, textSpan, ofText, radioIn, radioCount, locateRadio, countRadios, locateText, locateRadioText}
 use Rattle.texts.specs.Claims.{Firmness, Text, Values, Alone, ConsumedAlone, Claims}
 use Rattle.texts.proofs.Whole.{parts, valid, list-within, each-within}
@@ -225,16 +225,21 @@ no-rest s r x =
     let rest : length s - a .value .radios .end ≡ r .rest = ap (λ r. r .rest) (a .says) in
     omega arith
 
-own-count : (code : ℕ) (is s : List ℕ) (r : Consumed) (n : ℕ) → readText code s ≡ gives r → countRadios code is s ≡ gives n → n ≡ r .entries
+own-count : (code : ℕ) (s : List ℕ) (r : Consumed) → readText code s ≡ gives r → countRadios code [] s ≡ gives (r .entries)
 unfolding countRadios
-own-count code is s r n x y =
+own-count code s r x = let a = read code s r x in says code s r a (λ k v. radioCount [] v) ∙ ap gives (many code s r a)
+
+no-lower-count : (code i : ℕ) (is s : List ℕ) (r : Consumed) → readText code s ≡ gives r → countRadios code (i ∷ is) s ≡ refuses 6 []
+unfolding countRadios
+no-lower-count code i is s r x = says code s r (read code s r x) (λ k v. radioCount (i ∷ is) v)
+
+no-radios : (code : ℕ) (s : List ℕ) (k : TextKind) (r : Consumed) → textKind code ≡ gives k → k .radios ≡ false → readText code s ≡ gives r → r .entries ≡ 0
+unfolding radioList
+no-radios code s k r y b x =
     let a = read code s r x in
-    go (a .kind .radios) is (sym (says code s r a (λ k v. radioCount (k .radios) is v)) ∙ y) ∙ many code s r a
-  where
-    go : (b : Bool) (is : List ℕ) → radioCount b is (read code s r x .value) ≡ gives n → n ≡ read code s r x .value .list .many
-    go true [] e = sym (given _ n e)
-    go true (i ∷ is) e = never n 6 [] (sym e)
-    go false is e = never n 6 [] (sym e)
+    let none : a .kind .radios ≡ false = ap (λ k. k .radios) (given _ k (sym (a .is) ∙ y)) ∙ b in
+    let l = parts (a .kind) s (a .value) (valid (a .kind) s (a .value) (a .reads) .laid) .counts in
+    sym (many code s r a) ∙ sym (ap (λ m. m .many) (given _ (a .value .list) (rw none at l)))
 
 every-radio : (code : ℕ) (s : List ℕ) (r : Consumed) (i : ℕ) → readText code s ≡ gives r → i < r .entries → Shown (locateRadio code (i ∷ []) s) (r .consumed)
 unfolding locateRadio
@@ -327,7 +332,7 @@ module _ (code : ℕ) (s : List ℕ) (r : Consumed) (x : readText code s ≡ giv
       let m = many code s r a in
       record {
         reads = follows (textKind code) (a .kind) _ (a .is) ∙ mapped-given (consumedIn t) _ _ alone-reads ∙ rw (none, e, m);
-        counts = λ is. same (λ k v. radioCount (k .radios) is v);
+        counts = λ is. same (λ k v. radioCount is v);
         located = λ is. same (λ k v. radioIn is v);
         parts = λ is. part (λ k v. radioIn is v) (radio-lies code s r a is);
         texts = λ i. same (λ k v. mapped textSpan (nthOf (v .texts .each) i));
@@ -345,6 +350,8 @@ values = record {
   consumed-within = consumed-within;
   no-rest = no-rest;
   own-count = own-count;
+  no-lower-count = no-lower-count;
+  no-radios = no-radios;
   every-radio = every-radio;
   every-radio-text = every-radio-text;
   no-other = no-other;

@@ -1,5 +1,4 @@
 -- Access by numbers: a radio of a value as an entry, and each text as its own part. "16, 3, 18" and then 6: the whole value has to read.
-use mathlib.Core.Bool.{Bool, true, false}
 use mathlib.Core.List.{List, [], _∷_}
 use Prim.Native.Nat.{ℕ, zero, suc}
 use Rattle.numbers.specs.Numbers.{Answer, gives, refuses, andThen, mapped}
@@ -33,14 +32,13 @@ radioIn (i ∷ j ∷ is) v = refuses 6 []
 unfoldable pub locateRadio : ℕ → List ℕ → List ℕ → Answer Span
 locateRadio code is s = ofText code (λ k v. radioIn is v) s
 
--- how many radios there are; a kind without them, and a radio, has no entries to count
-abbrev pub radioCount : Bool → List ℕ → Laid → Answer ℕ
-radioCount true [] v = gives (v .list .many)
-radioCount true (i ∷ is) v = refuses 6 []
-radioCount false is v = refuses 6 []
+-- how many radios there are: none in a kind without them; a radio has no entries to count
+abbrev pub radioCount : List ℕ → Laid → Answer ℕ
+radioCount [] v = gives (v .list .many)
+radioCount (i ∷ is) v = refuses 6 []
 
 unfoldable pub countRadios : ℕ → List ℕ → List ℕ → Answer ℕ
-countRadios code is s = ofText code (λ k v. radioCount (k .radios) is v) s
+countRadios code is s = ofText code (λ k v. radioCount is v) s
 
 -- the value's own text with this number, and the text of the radio with this number
 unfoldable pub locateText : ℕ → ℕ → List ℕ → Answer Span

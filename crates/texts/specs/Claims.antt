@@ -47,8 +47,10 @@ pub record Values : Type 0 where
   pub consumed-within : (code : ℕ) (s : List ℕ) (r : Consumed) → readText code s ≡ gives r → (r .consumed ≤ length s) × (r .consumed + r .rest ≡ length s)
   -- "`ControlUrl` (22, the whole value)": never a rest
   pub no-rest : (s : List ℕ) (r : Consumed) → readText 22 s ≡ gives r → r .rest ≡ 0
-  -- a count is what reading says
-  pub own-count : (code : ℕ) (is s : List ℕ) (r : Consumed) (n : ℕ) → readText code s ≡ gives r → countRadios code is s ≡ gives n → n ≡ r .entries
+  -- the value's own list has as many entries as reading says, none in 21 and 22; a radio has no list
+  pub own-count : (code : ℕ) (s : List ℕ) (r : Consumed) → readText code s ≡ gives r → countRadios code [] s ≡ gives (r .entries)
+  pub no-lower-count : (code i : ℕ) (is s : List ℕ) (r : Consumed) → readText code s ≡ gives r → countRadios code (i ∷ is) s ≡ refuses 6 []
+  pub no-radios : (code : ℕ) (s : List ℕ) (k : TextKind) (r : Consumed) → textKind code ≡ gives k → k .radios ≡ false → readText code s ≡ gives r → r .entries ≡ 0
   -- every radio can be asked for, and has a text; and no other entry can
   pub every-radio : (code : ℕ) (s : List ℕ) (r : Consumed) (i : ℕ) → readText code s ≡ gives r → i < r .entries → Shown (locateRadio code (i ∷ []) s) (r .consumed)
   pub every-radio-text : (s : List ℕ) (r : Consumed) (i : ℕ) → readText 0xD4 s ≡ gives r → i < r .entries → Text (locateRadioText i s) s (r .consumed)

@@ -74,9 +74,9 @@ pub(crate) fn radio_in(row: Row, path: Path, s: &[u8]) -> Located
     }
 }
 
-// How many radios such a value has.
+// How many radios such a value has: none, of a kind without them.
 pub(crate) fn count_in(row: Row, path: Path, s: &[u8]) -> Counted
-    ensures { λ r. ⌜ countedOf r ≡ andThen (wholeOf (rowKind row) (now (s .entry))) (λ v. radioCount (row .radios) (numbersOf path) v) ⌝ }
+    ensures { λ r. ⌜ countedOf r ≡ andThen (wholeOf (rowKind row) (now (s .entry))) (λ v. radioCount (numbersOf path) v) ⌝ }
 {
     match read_row(row, s) {
         Laid::Of {
@@ -84,10 +84,8 @@ pub(crate) fn count_in(row: Row, path: Path, s: &[u8]) -> Counted
             first: _,
             end: _,
         } => {
-            if row.radios {
-                if path.depth == 0 {
-                    return Counted::Entries(n);
-                }
+            if path.depth == 0 {
+                return Counted::Entries(n);
             }
             Counted::Refused(Refusal::NoEntry)
         }

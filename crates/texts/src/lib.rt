@@ -63,7 +63,7 @@ pub fn entry(code: u8, path: Path, s: &[u8]) -> &[u8]
     access::part(locate(code, path, s), s)
 }
 
-// How many radios the value s has, asked for without numbers. A kind without radios has no entries to count, and a radio has none.
+// How many radios the value s has, asked for without numbers; none, of a kind without them. A radio has no entries to count.
 pub fn count(code: u8, path: Path, s: &[u8]) -> Counted
     ensures { λ r. ⌜ countedOf r ≡ countRadios code (numbersOf path) (now (s .entry)) ⌝ }
 {

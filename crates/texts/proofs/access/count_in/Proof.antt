@@ -1,4 +1,4 @@
--- The radios of the value that was read, where its kind has any.
+-- The radios of the value that was read.
 use borrow.Author.Needs.{needs}
 use Rattle.texts.proofs.access.count_in.Statement.{statement}
 use Rattle.texts.proofs.access.count_in.Tie as tie
@@ -10,7 +10,7 @@ use Rattle.layouts.specs.Access.{numbersOf}
 use Rattle.texts.specs.Access.{radioCount}
 use Rattle.texts.specs.PrivatePieces.{rowKind}
 use Rattle.texts.proofs.Whole.{Outlined, outlined-of, not-read}
-use Rattle.texts.proofs.Asked.{count-all, count-under, count-none}
+use Rattle.texts.proofs.Asked.{count-all, count-under}
 
 -- the value that was read
 whole : (c : tie.After-n) →
@@ -21,34 +21,24 @@ whole c = outlined-of _ _ (sym (rw (c .n .given .1) at (c .before .before .read-
 
 returns : tie.Need-returns
 returns c =
-    let k = c .before .before .before .before in
-    let a = k .before .before .before .before .args in
-    let p = a .path in
+    let k = c .before .before .before in
+    let p = k .before .before .before .before .args .path in
     let w = whole k in
-    sym (follows _ _ _ (w .is) ∙ count-all (p .depth) (p .i0) (p .i1) (p .i2) (w .value) (a .row .radios) (c .before .before .if1 .taken) (c .if2 .taken) ∙ ap (λ m. gives (m .many)) (w .list))
+    sym (follows _ _ _ (w .is) ∙ count-all (p .depth) (p .i0) (p .i1) (p .i2) (w .value) (c .if1 .taken) ∙ ap (λ m. gives (m .many)) (w .list))
 
 returns-2 : tie.Need-returns-2
 returns-2 c =
-    let k = c .before .before .before .before in
-    let a = k .before .before .before .before .args in
-    let p = a .path in
+    let k = c .before .before .before in
+    let p = k .before .before .before .before .args .path in
     let w = whole k in
-    sym (follows _ _ _ (w .is) ∙ count-under (p .depth) (p .i0) (p .i1) (p .i2) (w .value) (a .row .radios) (c .before .before .if1 .taken) (c .if2 .left))
+    sym (follows _ _ _ (w .is) ∙ count-under (p .depth) (p .i0) (p .i1) (p .i2) (w .value) (c .if1 .left))
 
 returns-3 : tie.Need-returns-3
 returns-3 c =
-    let k = c .before .before in
-    let a = k .before .before .before .before .args in
-    let p = a .path in
-    let w = whole k in
-    sym (follows _ _ _ (w .is) ∙ count-none (p .depth) (p .i0) (p .i1) (p .i2) (w .value) (a .row .radios) (c .if1 .left))
-
-returns-4 : tie.Need-returns-4
-returns-4 c =
     let a = c .before .before .before .before .before .args in
-    not-read (rowKind (a .row)) (a .s .now) (λ v. radioCount (a .row .radios) (numbersOf (a .path)) v) _ _ (sym (rw (c .before .r .given .1) at (c .before .before .before .read-row .ensures)))
+    not-read (rowKind (a .row)) (a .s .now) (λ v. radioCount (numbersOf (a .path)) v) _ _ (sym (rw (c .before .r .given .1) at (c .before .before .before .read-row .ensures)))
 
 pub count-in-spec : {M : Type 1} → statement M
 count-in-spec =
     tie.close
-    (tie.spec (λ c κs. search needs) (λ c. search needs) returns (λ c. search needs) returns-2 returns-3 returns-4)
+    (tie.spec (λ c κs. search needs) (λ c. search needs) returns (λ c. search needs) returns-2 returns-3)
