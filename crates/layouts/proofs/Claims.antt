@@ -3,23 +3,25 @@ use mathlib.Core.Path.{_≡_, refl, sym, ap, _∙_}
 use mathlib.Core.List.{List, [], _∷_, _++_}
 use Prim.Native.Nat.{ℕ, _+_, _-_, _<_, _≤_}
 use native.Mathlib.Omega.{arith}
-use denote.Ref.{now}
 use lib.ListN.{length, take, drop, length-drop, take-append-drop}
 use lib.Seq.{take-all, length-take-le, take-append-le, drop-append-le}
 use lib.Dec.{leb, T, leb→le}
 use Rattle.numbers.specs.Numbers.{Answer, gives, refuses}
-use Rattle.numbers.specs.Parts.{behind}
 use Rattle.numbers.proofs.Firm.{by-equation, by-telling, both, firm, never}
 use Rattle.numbers.proofs.Answers.{given, gave, follows, mapped-given}
+use Rattle.layouts.specs.declared.Listing.{Listing}
+use Rattle.layouts.specs.declared.Listing.the-variants.{Of, Refused as NoList}
+use Rattle.layouts.specs.declared.End.{End}
+use Rattle.layouts.specs.declared.End.the-variants.{At, Refused as NoEnd}
 use Rattle.layouts.specs.declared.Reading.{Reading}
 use Rattle.layouts.specs.declared.Reading.the-variants.{Value, Refused}
 use Rattle.layouts.specs.declared.Located.{Located}
 use Rattle.layouts.specs.declared.Located.the-variants.{Entry, Refused as NotLocated}
 use Rattle.layouts.specs.declared.Counted.{Counted}
 use Rattle.layouts.specs.declared.Counted.the-variants.{Entries, Refused as NotCounted}
-use Rattle.layouts.specs.Layouts.{Layout, Rest, handed-back, refused, ListKind, layoutOf, isList}
-use Rattle.layouts.specs.Reading.{Consumed, consumedTo, readingOf, readAs, readValue}
-use Rattle.layouts.specs.Access.{numbersOf, Span, spanOf, lengthAt, locatedOf, locateEntry, partOf, startIn, countedOf, countEntries}
+use Rattle.layouts.specs.Layouts.{Layout, Rest, handed-back, refused, ListKind, layoutOf}
+use Rattle.layouts.specs.Reading.{ListAt, Consumed, consumedTo, listingOf, endingOf, readingOf, readAs, readValue}
+use Rattle.layouts.specs.Access.{Span, spanOf, lengthAt, locatedOf, locateEntry, partOf, countedOf, countEntries}
 use Rattle.layouts.specs.Claims.{Firmness, levelsOf, Shown, Below, Values, Alone, ConsumedAlone, Claims}
 use Rattle.layouts.proofs.Within.{end-within}
 use Rattle.layouts.proofs.Laws.{read-to}
@@ -27,9 +29,22 @@ use Rattle.layouts.proofs.Finding.{find-here}
 use Rattle.layouts.proofs.Table.{allCounted, each, rest-counted}
 use Rattle.layouts.proofs.Reached.{reached, only, span-inside}
 use Rattle.layouts.proofs.Local.{Agree, taken, end-local, list-alike, span-alike, length-alike}
+use Rattle.layouts.proofs.Parts.{parts-of-entries, plain}
 use Rattle.layouts.proofs.Values.{Ended, ended, asked, answers}
 
 -- no two answers are told alike
+listing-told : (a b : Listing) → listingOf a ≡ listingOf b → a ≡ b
+listing-told (Of n p) (Of m q) e = ap (λ l. Of (l .many) (l .first)) (given _ _ e)
+listing-told (Of n p) (NoList x) e = never _ _ _ e
+listing-told (NoList x) (Of n p) e = never _ _ _ (sym e)
+listing-told (NoList x) (NoList y) e = ap NoList (firm ListAt x y e)
+
+ending-told : (a b : End) → endingOf a ≡ endingOf b → a ≡ b
+ending-told (At p) (At q) e = ap At (given p q e)
+ending-told (At p) (NoEnd x) e = never _ _ _ e
+ending-told (NoEnd x) (At p) e = never _ _ _ (sym e)
+ending-told (NoEnd x) (NoEnd y) e = ap NoEnd (firm ℕ x y e)
+
 pub reading-told : (a b : Reading) → readingOf a ≡ readingOf b → a ≡ b
 reading-told (Value c r n) (Value d t m) e = ap (λ v. Value (v .consumed) (v .rest) (v .entries)) (given _ _ e)
 reading-told (Value c r n) (Refused x) e = never _ _ _ e
@@ -48,13 +63,16 @@ counted-told (Entries n) (NotCounted x) e = never _ _ _ e
 counted-told (NotCounted x) (Entries n) e = never _ _ _ (sym e)
 counted-told (NotCounted x) (NotCounted y) e = ap NotCounted (firm ℕ x y e)
 
-pub firmness : Firmness
+firmness : Firmness
 firmness = record {
-  is-list = λ code. by-equation (isList code);
-  read-value = λ code s. by-telling readingOf reading-told (readValue code s);
-  locate = λ code path s. by-telling locatedOf located-told (locateEntry code (numbersOf path) s);
-  entry = λ code path s. let x = locateEntry code (numbersOf path) (now s) in both _ _ (by-equation (partOf x (now s))) (by-equation (behind (startIn x) s));
-  count = λ code path s. by-telling countedOf counted-told (countEntries code (numbersOf path) s);
+  list-at = λ row s at. by-telling listingOf listing-told _;
+  read-list = λ row n s at. by-telling endingOf ending-told _;
+  read-entry = λ row s at. by-telling endingOf ending-told _;
+  is-list = λ code. by-equation _;
+  read-value = λ code s. by-telling readingOf reading-told _;
+  locate = λ code path s. by-telling locatedOf located-told _;
+  entry = λ code path s. both _ _ (by-equation _) (by-equation _);
+  count = λ code path s. by-telling countedOf counted-told _;
 }
 
 -- the kind of a code whose value reads
@@ -208,4 +226,4 @@ pub consumed-alone : ConsumedAlone
 consumed-alone = alone
 
 pub claims : Claims
-claims = record { firmness = firmness; values = values; consumed-alone = consumed-alone }
+claims = record { firmness = firmness; values = values; consumed-alone = consumed-alone; parts-of-entries = parts-of-entries; plain = plain }

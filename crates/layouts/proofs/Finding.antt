@@ -6,11 +6,11 @@ use native.Mathlib.Numerals.{sub-one}
 use native.Mathlib.Omega.{arith}
 use borrow.Author.Tests.{lt-ltb, le-ltb}
 use Rattle.numbers.specs.Numbers.{gives, refuses, andThen, mapped}
-use Rattle.layouts.specs.declared.rows.Row.{Row}
+use Rattle.layouts.specs.declared.Row.{Row}
 use Rattle.layouts.specs.Layouts.{Layout}
 use Rattle.layouts.specs.Reading.{ListAt, listOf, entriesEnd, endOf}
 use Rattle.layouts.specs.Access.{numbers, childAt, below, findEntry, spanOf}
-use Rattle.layouts.specs.PrivateRows.{rowBelow, rowLayout}
+use Rattle.layouts.specs.Rows.{rowBelow, rowLayout}
 use Rattle.layouts.proofs.Within.{among}
 use Rattle.layouts.proofs.Laws.{layout-more, list-level}
 

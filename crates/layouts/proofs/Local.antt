@@ -9,11 +9,12 @@ use lib.Seq.{getD-take, length-take-le}
 use lib.Dec.{ltb, T}
 use borrow.Author.Tests.{ltb-true}
 use Rattle.numbers.specs.Numbers.{Answer, gives, refuses, andThen}
-use Rattle.numbers.proofs.Answers.{given, gave}
+use Rattle.numbers.proofs.Answers.{given, gave, follows, mapped-given}
 use Rattle.layouts.specs.Layouts.{Counting, c1, c2, to-end, Layout, bytes, entry}
 use Rattle.layouts.specs.Reading.{ListAt, headOf, countAt, listOf, entriesEnd, endOf}
-use Rattle.layouts.specs.Access.{childAt, below, Spot, findEntry, spanOf, lengthAt}
+use Rattle.layouts.specs.Access.{childAt, below, Spot, findEntry, spanOf, lengthAt, Spans, spansFrom}
 use Rattle.layouts.proofs.Within.{Within, reaches, reached, count-within, behind-head, list-leaf, list-within, entries-within, ends-in, end-within}
+use Rattle.layouts.proofs.Spans.{spans-end, placed, cons, spans-within}
 use Rattle.layouts.proofs.Reached.{child-reads, child-lies, find-lies}
 use Rattle.layouts.proofs.Table.{hasCount, allCounted}
 
@@ -61,14 +62,23 @@ module _ (s t : List ℕ) (m : ℕ) (g : Agree m s t) where
       let long = g .long in
       rw (reaches (p + k) t (p + k) (omega arith)) (count-local w (headOf e) (p + k) x (counted k w e c) b (a .counts))
 
+  pub spans-local : (f f′ : ℕ → Answer ℕ) → ((p q : ℕ) → f p ≡ gives q → Within p q s) → ((p q : ℕ) → q ≤ m → f p ≡ gives q → f′ p ≡ gives q) →
+      (n p : ℕ) (r : Spans) → r .end ≤ m → spansFrom f n p ≡ gives r → spansFrom f′ n p ≡ gives r
+  unfolding spansFrom
+  spans-local f f′ w same zero p r b x = x
+  spans-local f f′ w same (suc n) p r b x =
+      let c = cons f n p r x in
+      let v = spans-within f s w n (c .stop) (c .others) (w p (c .stop) (c .reads) .1) (c .are) in
+      let y : c .others .end ≡ r .end = ap (λ r. r .end) (c .all) in
+      follows (f′ p) (c .stop) _ (same p (c .stop) (omega arith) (c .reads)) ∙
+      mapped-given _ _ (c .others) (spans-local f f′ w same n (c .stop) (c .others) (omega arith) (c .are)) ∙ ap gives (c .all)
+
   entries-local : (f f′ : ℕ → Answer ℕ) → ((p q : ℕ) → f p ≡ gives q → Within p q s) → ((p q : ℕ) → q ≤ m → f p ≡ gives q → f′ p ≡ gives q) →
       (n p q : ℕ) → q ≤ m → entriesEnd f n p ≡ gives q → entriesEnd f′ n p ≡ gives q
-  unfolding entriesEnd
-  entries-local f f′ w same zero p q b x = x
-  entries-local f f′ w same (suc n) p q b x =
-      let a = gave (f p) (λ r. entriesEnd f n r) q x in
-      let v = entries-within f s w n (a .first) q (w p (a .first) (a .is) .1) (a .then) in
-      rw (same p (a .first) (omega arith) (a .is)) (entries-local f f′ w same n (a .first) q b (a .then))
+  entries-local f f′ w same n p q b x =
+      let r = placed f n p q x in
+      let e = r .end in
+      sym (spans-end f′ n p) ∙ mapped-given _ _ (r .spans) (spans-local f f′ w same n p (r .spans) (omega arith) (r .are)) ∙ ap gives e
 
   pub end-local : (l : Layout) (p q : ℕ) → T (allCounted l) → q ≤ m → endOf l s p ≡ gives q → endOf l t p ≡ gives q
   unfolding endOf
@@ -102,7 +112,8 @@ module _ (s t : List ℕ) (m : ℕ) (g : Agree m s t) where
       some : (y : ListAt) → listOf l s p ≡ gives y → (d : Bool) → ltb i (y .many) ≡ d →
           cond d (entriesEnd (endOf (below l) t) i (y .first)) (refuses 6 []) ≡ cond d (entriesEnd (endOf (below l) s) i (y .first)) (refuses 6 [])
       some y e true d =
-          let n = child-reads l s p q i y x e (ltb-true i (y .many) d) in
+          let r = child-reads l s p q i y x e (ltb-true i (y .many) d) in
+          let n = r .nth in
           let z = n .lies in
           let w = end-within (below l) s (n .start) (z .stop) (z .reads) in
           entries-local (endOf (below l) s) (endOf (below l) t) (end-within (below l) s) (λ a b. end-local (below l) a b (counted-below l c)) i (y .first) (n .start) (omega arith) (n .starts) ∙ sym (n .starts)

@@ -4,25 +4,23 @@ use mathlib.Core.List.{List}
 use Prim.Native.Nat.{ℕ, _+_, _-_, _<_, _≤_}
 use native.Mathlib.Nat.{sub-zero}
 use native.Mathlib.Omega.{arith}
-use lib.ListN.{length}
 use Rattle.numbers.specs.Numbers.{gives, refuses}
 use Rattle.layouts.specs.Layouts.{Layout}
 use Rattle.layouts.specs.Reading.{entriesEnd, endOf}
 use Rattle.layouts.proofs.Laws.{entries-none, entries-more}
-use Rattle.layouts.proofs.Within.{end-within}
 
 abbrev pub Left : Layout → List ℕ → ℕ → ℕ → ℕ → ℕ → Type 0
-Left l s n at i p = (i ≤ n) × (p ≤ length s) × (entriesEnd (endOf l s) n at ≡ entriesEnd (endOf l s) (n - i) p)
+Left l s n at i p = (i ≤ n) × (entriesEnd (endOf l s) n at ≡ entriesEnd (endOf l s) (n - i) p)
 
-pub left-all : (l : Layout) (s : List ℕ) (n at : ℕ) → at ≤ length s → Left l s n at 0 at
-left-all l s n at h = (omega arith, h, rw sub-zero)
+pub left-all : (l : Layout) (s : List ℕ) (n at : ℕ) → Left l s n at 0 at
+left-all l s n at = (omega arith, rw sub-zero)
 
 module _ (l : Layout) (s : List ℕ) (n at i p : ℕ) (left : Left l s n at i p) where
   pub left-none : n ≤ i → gives p ≡ entriesEnd (endOf l s) n at
-  left-none h = sym (left .2 ∙ entries-none (endOf l s) n i p h)
+  left-none h = sym (left .1 ∙ entries-none (endOf l s) n i p h)
 
   pub left-cut : (m : ℕ) (vs : List ℕ) → i < n → endOf l s p ≡ refuses m vs → refuses m vs ≡ entriesEnd (endOf l s) n at
-  left-cut m vs h e = sym (left .2 ∙ entries-more (endOf l s) n i p h ∙ rw e)
+  left-cut m vs h e = sym (left .1 ∙ entries-more (endOf l s) n i p h ∙ rw e)
 
   pub left-more : (q : ℕ) → i < n → endOf l s p ≡ gives q → Left l s n at (i + 1) q
-  left-more q h e = (omega arith, end-within l s p q e .1, left .2 ∙ entries-more (endOf l s) n i p h ∙ rw e)
+  left-more q h e = (omega arith, left .1 ∙ entries-more (endOf l s) n i p h ∙ rw e)

@@ -2,68 +2,39 @@
 -- entry are those below the counts.
 use mathlib.Core.Path.{_≡_, refl, sym, ap, _∙_}
 use mathlib.Core.List.{List, [], _∷_, _++_}
-use Prim.Native.Nat.{ℕ, zero, suc, _+_, _<_, _≤_}
-use native.Mathlib.Nat.{le-of-suc-le-suc}
+use Prim.Native.Nat.{ℕ, _<_, _≤_}
 use native.Mathlib.Omega.{arith}
 use Rattle.numbers.specs.Numbers.{Answer, gives, andThen, mapped}
 use Rattle.numbers.proofs.Firm.{never}
 use Rattle.numbers.proofs.Answers.{given, follows, gave, mapped-given, mapped-gave, alike, regrouped}
-use Rattle.layouts.specs.Layouts.{Layout, bytes, entry}
-use Rattle.layouts.specs.Reading.{ListAt, listOf, entriesEnd, endOf}
+use Rattle.layouts.specs.Layouts.{Layout}
+use Rattle.layouts.specs.Reading.{ListAt, listOf, endOf}
 use Rattle.layouts.specs.Access.{childAt, below, Spot, findEntry, Span, spanOf, lengthAt}
 use Rattle.layouts.specs.Claims.{Shown, Below}
-use Rattle.layouts.proofs.Within.{Within, leafless, list-within, entries-within, ends-in, end-within, among}
+use Rattle.layouts.proofs.Within.{list-within, end-within, among}
+use Rattle.layouts.proofs.Spans.{Placed, listed, Lies, Nth, nth}
 use Rattle.layouts.proofs.Finding.{child-there}
 
--- an entry at `start` that reads and lies between p and q
-pub record Lies (f : ℕ → Answer ℕ) (p q start : ℕ) : Type 0 where
-  pub stop : ℕ
-  pub reads : f start ≡ gives stop
-  pub low : p ≤ start
-  pub high : stop ≤ q
-
-pub record Nth (f : ℕ → Answer ℕ) (p q i : ℕ) : Type 0 where
-  pub start : ℕ
-  pub starts : entriesEnd f i p ≡ gives start
-  pub lies : Lies f p q start
-
--- entry i of n that read
-nth : (f : ℕ → Answer ℕ) (s : List ℕ) → ((p q : ℕ) → f p ≡ gives q → Within p q s) → (n p q i : ℕ) → i < n → entriesEnd f n p ≡ gives q → Nth f p q i
-unfolding entriesEnd
-nth f s w zero p q i h x = absurd (omega arith)
-nth f s w (suc n) p q zero h x =
-    let g = gave (f p) (λ r. entriesEnd f n r) q x in
-    let a = entries-within f s w n (g .first) q (w p (g .first) (g .is) .1) (g .then) in
-    record { start = p; starts = refl; lies = record { stop = g .first; reads = g .is; low = omega arith; high = a .0 } }
-nth f s w (suc n) p q (suc i) h x =
-    let g = gave (f p) (λ r. entriesEnd f n r) q x in
-    let t = nth f s w n (g .first) q i (le-of-suc-le-suc h) (g .then) in
-    let a = w p (g .first) (g .is) in
-    let b = t .lies in
-    record {
-      start = t .start;
-      starts = follows (f p) (g .first) (λ r. entriesEnd f i r) (g .is) ∙ t .starts;
-      lies = record { stop = b .stop; reads = b .reads; low = omega arith; high = b .high };
-    }
-
 -- entry i of the list of an entry that reads
-pub child-reads : (l : Layout) (s : List ℕ) (p q i : ℕ) (m : ListAt) → endOf l s p ≡ gives q → listOf l s p ≡ gives m → i < m .many →
-    Nth (endOf (below l) s) (m .first) q i
-child-reads (bytes n) s p q i m x y h = leafless n s p m y
-child-reads (entry n w e) s p q i m x y h =
-    let g = ends-in n w e s p q x in
-    let same : g .list ≡ m = given (g .list) m (sym (g .has) ∙ y) in
-    nth (endOf e s) s (end-within e s) (m .many) (m .first) q i h (rw same at (g .ends))
+pub record Child (l : Layout) (s : List ℕ) (m : ListAt) (q i : ℕ) : Type 0 where
+  pub list : Placed (endOf (below l) s) (m .many) (m .first) q
+  pub nth : Nth (endOf (below l) s) (m .first) (list .spans) i
+
+pub child-reads : (l : Layout) (s : List ℕ) (p q i : ℕ) (m : ListAt) → endOf l s p ≡ gives q → listOf l s p ≡ gives m → i < m .many → Child l s m q i
+child-reads l s p q i m x y h =
+    let r = listed l s p q m x y in
+    record { list = r; nth = nth (endOf (below l) s) s (end-within (below l) s) (m .many) (m .first) (r .spans) i h (r .are) }
 
 -- an entry that was found in the list of one that reads, reads and lies in it
 pub child-lies : (l : Layout) (i : ℕ) (s : List ℕ) (p q a : ℕ) → endOf l s p ≡ gives q → childAt l i s p ≡ gives a → Lies (endOf (below l) s) p q a
 child-lies l i s p q a x y =
     let m = among l i s p a y in
     let t = child-reads l s p q i (m .list) x (m .has) (m .less) in
-    let b = t .lies in
-    let same : t .start ≡ a = given (t .start) a (sym (t .starts) ∙ m .starts) in
+    let n = t .nth in
+    let b = n .lies in
+    let same : n .start ≡ a = given (n .start) a (sym (n .starts) ∙ m .starts) in
     let w = list-within l s p (m .list) (m .has) in
-    record { stop = b .stop; reads = ap (endOf (below l) s) (sym same) ∙ b .reads; low = omega arith; high = b .high }
+    record { stop = b .stop; reads = ap (endOf (below l) s) (sym same) ∙ b .reads; low = omega arith; high = omega arith }
 
 -- and so do those that numbers lead to
 pub find-lies : (l : Layout) (is s : List ℕ) (p q : ℕ) (f : Spot) → endOf l s p ≡ gives q → findEntry l is s p ≡ gives f → Lies (endOf (f .layout) s) p q (f .start)
@@ -105,7 +76,8 @@ reached l is s q n i x y h =
     let m = mapped-gave (λ m. m .many) (listOf (f .layout) s (f .start)) n (g .then) in
     let many : m .first .many ≡ n = given (m .first .many) n (m .then) in
     let b = find-lies l is s 0 q f x (g .is) in
-    let c = child-reads (f .layout) s (f .start) (b .stop) i (m .first) (b .reads) (m .is) (omega arith) in
+    let t = child-reads (f .layout) s (f .start) (b .stop) i (m .first) (b .reads) (m .is) (omega arith) in
+    let c = t .nth in
     let d = c .lies in
     let w = end-within (below (f .layout)) s (c .start) (d .stop) (d .reads) in
     let there = child-there (f .layout) i s (f .start) (m .first) (m .is) (omega arith) ∙ c .starts in

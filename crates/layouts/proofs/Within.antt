@@ -1,7 +1,7 @@
 -- What is read lies within the bytes: an entry ends at or behind its start, and not behind the end.
 use mathlib.Core.Path.{_≡_, refl, sym, ap}
 use mathlib.Core.Bool.{Bool, true, false, cond}
-use mathlib.Core.List.{List, [], _∷_}
+use mathlib.Core.List.{List, []}
 use Prim.Native.Nat.{ℕ, zero, suc, _+_, _<_, _≤_}
 use native.Mathlib.Omega.{arith}
 use lib.ListN.{length}
@@ -12,7 +12,7 @@ use Rattle.numbers.proofs.Firm.{never}
 use Rattle.numbers.proofs.Answers.{given, gave}
 use Rattle.layouts.specs.Layouts.{Counting, c1, c2, to-end, Layout, bytes, entry}
 use Rattle.layouts.specs.Reading.{reaching, ListAt, headOf, countAt, listOf, entriesEnd, endOf}
-use Rattle.layouts.specs.Access.{childAt, below, Spot, findEntry}
+use Rattle.layouts.specs.Access.{childAt, below}
 
 abbrev pub Within : ℕ → ℕ → List ℕ → Type 0
 Within p q s = (p ≤ q) × (q ≤ length s)
@@ -110,19 +110,3 @@ among l i s p q x =
           cond t (entriesEnd (endOf (below l) s) i (m .first)) (refuses 6 []) ≡ gives q → Among l i s p q
       go m y true t x = record { list = m; has = y; less = ltb-true i (m .many) t; starts = x }
       go m y false t x = never q 6 [] (sym x)
-
-pub child-within : (l : Layout) (i : ℕ) (s : List ℕ) (p q : ℕ) → childAt l i s p ≡ gives q → Within p q s
-child-within l i s p q x =
-    let a = among l i s p q x in
-    let c = list-within l s p (a .list) (a .has) in
-    let d = entries-within (endOf (below l) s) s (end-within (below l) s) i (a .list .first) q (c .1) (a .starts) in
-    omega arith
-
-pub find-within : (l : Layout) (is s : List ℕ) (p : ℕ) (f : Spot) → p ≤ length s → findEntry l is s p ≡ gives f → Within p (f .start) s
-unfolding findEntry
-find-within l [] s p f b x = let y : p ≡ f .start = ap (λ f. f .start) (given _ f x) in omega arith
-find-within l (i ∷ is) s p f b x =
-    let g = gave (childAt l i s p) (λ q. findEntry (below l) is s q) f x in
-    let c = child-within l i s p (g .first) (g .is) in
-    let d = find-within (below l) is s (g .first) f (c .1) (g .then) in
-    omega arith

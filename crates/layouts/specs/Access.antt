@@ -1,7 +1,7 @@
 -- Access by numbers: "An entry is asked for by its numbers at each level, from 0, and comes back as its own part of the lent value, the lists under
 -- it included" (document 01, "The 21 kinds").
 use mathlib.Core.Bool.{cond}
-use mathlib.Core.List.{List, [], _∷_}
+use mathlib.Core.List.{List, [], _∷_, map}
 use Prim.Native.Nat.{ℕ, zero, suc, _-_}
 use lib.Dec.{ltb}
 use lib.ListN.{take, drop}
@@ -72,6 +72,33 @@ partOf (refuses n vs) s = []
 abbrev pub startIn : Answer Span → ℕ
 startIn (gives r) = r .start
 startIn (refuses n vs) = 0
+
+-- number i of these, from 0; 6 where there is none
+abbrev pub nthOf : {A : Type 0} → List A → ℕ → Answer A
+nthOf [] i = refuses 6 []
+nthOf (x ∷ xs) zero = gives x
+nthOf (x ∷ xs) (suc i) = nthOf xs i
+
+-- entries one after the other: where each lies, and where the last one ends
+pub record Spans : Type 0 where
+  pub each : List Span
+  pub end : ℕ
+
+abbrev pub before : Span → Spans → Spans
+before e r = record { each = e ∷ r .each; end = r .end }
+
+-- n entries, the first of which starts at p, if each ends where f says
+unfoldable pub spansFrom : (ℕ → Answer ℕ) → ℕ → ℕ → Answer Spans
+spansFrom f zero p = gives (record { each = []; end = p })
+spansFrom f (suc n) p = andThen (f p) (λ q. mapped (before (record { start = p; end = q })) (spansFrom f n q))
+
+-- the entries of the list of the entry that starts at p
+unfoldable pub spansIn : Layout → List ℕ → ℕ → Answer Spans
+spansIn l s p = andThen (listOf l s p) (λ m. spansFrom (endOf (below l) s) (m .many) (m .first))
+
+-- the parts of the entries of a value's own list
+unfoldable pub partsIn : Layout → List ℕ → Answer (List (List ℕ))
+partsIn l s = mapped (λ r. map (λ e. partOf (gives e) s) (r .each)) (spansIn l s 0)
 
 -- what each answer of the calls says
 abbrev pub locatedOf : Located → Answer Span

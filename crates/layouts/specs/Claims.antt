@@ -1,19 +1,24 @@
 -- What is claimed of this crate's calls and definitions; proofs/Claims.antt proves it.
 use mathlib.Core.Path.{_≡_}
-use mathlib.Core.List.{List, [], _∷_, _++_}
-use Prim.Native.Nat.{ℕ, suc, _+_, _<_, _≤_}
+use mathlib.Core.List.{List, [], _∷_, _++_, flatten}
+use Prim.Native.Nat.{ℕ, suc, _+_, _*_, _<_, _≤_}
 use denote.Ref.{RefT, now}
 use lib.ListN.{length, take}
-use Rattle.numbers.specs.Numbers.{Answer, gives}
+use Rattle.numbers.specs.Numbers.{Answer, gives, mapped}
 use Rattle.numbers.specs.Firmness.{Firm}
 use Rattle.numbers.specs.Parts.{behind}
+use Rattle.layouts.specs.declared.Row.{Row}
 use Rattle.layouts.specs.declared.Path.{Path}
-use Rattle.layouts.specs.Layouts.{Layout, bytes, entry, ListKind, layoutOf, isList}
-use Rattle.layouts.specs.Reading.{Consumed, readingOf, readValue}
-use Rattle.layouts.specs.Access.{numbersOf, Span, locatedOf, locateEntry, partOf, startIn, countedOf, countEntries}
+use Rattle.layouts.specs.Layouts.{Counting, to-end, Layout, bytes, entry, ListKind, layoutOf, isList}
+use Rattle.layouts.specs.Rows.{rowLayout}
+use Rattle.layouts.specs.Reading.{ListAt, listOf, entriesEnd, endOf, Consumed, listingOf, endingOf, readingOf, readValue}
+use Rattle.layouts.specs.Access.{numbersOf, Span, spanOf, nthOf, partsIn, locatedOf, locateEntry, partOf, startIn, countedOf, countEntries}
 
 -- each public call by its name: any two answers that its contract allows are one. A part is its bytes and its place.
 pub record Firmness : Type 0 where
+  pub list-at : (row : Row) (s : List ℕ) (at : ℕ) → Firm (λ r. listingOf r ≡ listOf (rowLayout row) s at)
+  pub read-list : (row : Row) (n : ℕ) (s : List ℕ) (at : ℕ) → Firm (λ r. endingOf r ≡ entriesEnd (endOf (rowLayout row) s) n at)
+  pub read-entry : (row : Row) (s : List ℕ) (at : ℕ) → Firm (λ r. endingOf r ≡ endOf (rowLayout row) s at)
   pub is-list : (code : ℕ) → Firm (λ r. r ≡ isList code)
   pub read-value : (code : ℕ) (s : List ℕ) → Firm (λ r. readingOf r ≡ readValue code s)
   pub locate : (code : ℕ) (path : Path) (s : List ℕ) → Firm (λ r. locatedOf r ≡ locateEntry code (numbersOf path) s)
@@ -63,8 +68,29 @@ pub record Alone (code : ℕ) (s : List ℕ) (r : Consumed) : Type 0 where
 abbrev pub ConsumedAlone : Type 0
 ConsumedAlone = (code : ℕ) (s : List ℕ) (r : Consumed) → readValue code s ≡ gives r → Alone code s r
 
+-- of any layout, whether or not it is in the table: the parts of the entries of a value's own list, as a list
+pub record Parts (l : Layout) (s : List ℕ) (m : ListAt) (q : ℕ) : Type 0 where
+  pub parts : List (List ℕ)
+  pub are : partsIn l s ≡ gives parts
+  pub many : length parts ≡ m .many
+  -- part number i is the one that asking for entry i gives; beyond the last, both refuse
+  pub numbered : (i : ℕ) → nthOf parts i ≡ mapped (λ e. partOf (gives e) s) (spanOf l (i ∷ []) s)
+  -- joined, after what stands in front of the first one, they are the bytes consumed
+  pub all : take (m .first) s ++ flatten parts ≡ take q s
+
+abbrev pub PartsOfEntries : Type 0
+PartsOfEntries = (l : Layout) (s : List ℕ) (m : ListAt) (q : ℕ) → listOf l s 0 ≡ gives m → endOf l s 0 ≡ gives q → Parts l s m q
+
+-- entries of h bytes and no list are runs of h bytes, one after the other; a list to the end begins after the head
+pub record Plain : Type 0 where
+  pub runs : (n : ℕ) (w : Counting) (h : ℕ) (s : List ℕ) (m : ListAt) (q i : ℕ) → listOf (entry n w (bytes h)) s 0 ≡ gives m → endOf (entry n w (bytes h)) s 0 ≡ gives q
+      → i < m .many → spanOf (entry n w (bytes h)) (i ∷ []) s ≡ gives (record { start = m .first + i * h; end = m .first + i * h + h })
+  pub after-head : (n : ℕ) (e : Layout) (s : List ℕ) (m : ListAt) → listOf (entry n to-end e) s 0 ≡ gives m → m .first ≡ n
+
 -- everything that is claimed of this crate
 pub record Claims : Type 0 where
   pub firmness : Firmness
   pub values : Values
   pub consumed-alone : ConsumedAlone
+  pub parts-of-entries : PartsOfEntries
+  pub plain : Plain

@@ -1,4 +1,5 @@
 pub mod Layouts
+pub mod Rows
 pub mod Reading
 pub mod Access
 pub mod PrivateRows

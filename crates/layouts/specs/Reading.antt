@@ -5,6 +5,10 @@ use Prim.Native.Nat.{ℕ, zero, suc, _+_, _-_, _*_, _/_}
 use lib.Dec.{ltb, leb}
 use lib.ListN.{length, getD}
 use Rattle.numbers.specs.Numbers.{Answer, gives, refuses, told, andThen}
+use Rattle.layouts.specs.declared.Listing.{Listing}
+use Rattle.layouts.specs.declared.Listing.the-variants.{Of, Refused as NoList}
+use Rattle.layouts.specs.declared.End.{End}
+use Rattle.layouts.specs.declared.End.the-variants.{At, Refused as NoEnd}
 use Rattle.layouts.specs.declared.Reading.{Reading}
 use Rattle.layouts.specs.declared.Reading.the-variants.{Value, Refused}
 use Rattle.layouts.specs.Layouts.{Counting, c1, c2, to-end, Layout, bytes, entry, Rest, handed-back, refused, ListKind, layoutOf}
@@ -49,7 +53,15 @@ pub record Consumed : Type 0 where
   pub rest : ℕ
   pub entries : ℕ
 
--- what each answer of the call says
+-- what each answer of the calls says
+abbrev pub listingOf : Listing → Answer ListAt
+listingOf (Of n p) = gives (record { many = n; first = p })
+listingOf (NoList r) = told r
+
+abbrev pub endingOf : End → Answer ℕ
+endingOf (At p) = gives p
+endingOf (NoEnd r) = told r
+
 abbrev pub readingOf : Reading → Answer Consumed
 readingOf (Value c r n) = gives (record { consumed = c; rest = r; entries = n })
 readingOf (Refused r) = told r

@@ -1,22 +1,22 @@
 // An entry by its numbers.
 use crate::Counted;
+use crate::End;
+use crate::Listing;
 use crate::Located;
 use crate::Path;
 use crate::Reading;
-use crate::lists::End;
-use crate::lists::Listing;
-use crate::lists::list_at;
-use crate::lists::read_entry;
-use crate::lists::read_list;
+use crate::Row;
+use crate::list_at;
 use crate::lists::read_row;
-use crate::rows::Row;
+use crate::read_entry;
+use crate::read_list;
 use crate::rows::row_below;
 use numbers::Refusal;
 ghost use mathlib.Core.Path.{_≡_};
-ghost use Prim.Native.Nat.{_≤_};
-ghost use lib.ListN.{length};
+ghost use Rattle.layouts.specs.Reading.{endingOf};
 ghost use Rattle.layouts.specs.Access.{numbersOf, childAt, findEntry, spanOf, lengthAt, ofValue, locatedOf, countedOf};
-ghost use Rattle.layouts.specs.PrivateRows.{rowLayout, rowKind, endTold, levelTold};
+ghost use Rattle.layouts.specs.Rows.{rowLayout};
+ghost use Rattle.layouts.specs.PrivateRows.{kindWith, levelTold};
 
 // An entry that was found: its row, and where it starts.
 pub(crate) enum Level {
@@ -26,8 +26,7 @@ pub(crate) enum Level {
 
 // Where entry i of the list of the entry of this row that starts at p starts.
 fn child(row: Row, i: usize, s: &[u8], p: usize) -> End
-    requires { ⌜ p ≤ length (now s) ⌝ }
-    ensures { λ r. ⌜ endTold r ≡ childAt (rowLayout row) i (now (s .entry)) p ⌝ }
+    ensures { λ r. ⌜ endingOf r ≡ childAt (rowLayout row) i (now (s .entry)) p ⌝ }
 {
     match list_at(row, s, p) {
         Listing::Of { n, first } => {
@@ -98,10 +97,10 @@ fn length_at(row: Row, path: Path, s: &[u8]) -> Counted
 }
 
 // The same two, of a value that has to read whole first.
-pub(crate) fn locate_in(row: Row, path: Path, s: &[u8]) -> Located
-    ensures { λ r. ⌜ locatedOf r ≡ ofValue (λ l t. spanOf l (numbersOf path) t) (rowKind row) (now (s .entry)) ⌝ }
+pub(crate) fn locate_in(row: Row, strict: bool, path: Path, s: &[u8]) -> Located
+    ensures { λ r. ⌜ locatedOf r ≡ ofValue (λ l t. spanOf l (numbersOf path) t) (kindWith (rowLayout row) strict) (now (s .entry)) ⌝ }
 {
-    match read_row(row, s) {
+    match read_row(row, strict, s) {
         Reading::Value {
             consumed: _,
             rest: _,
@@ -111,10 +110,10 @@ pub(crate) fn locate_in(row: Row, path: Path, s: &[u8]) -> Located
     }
 }
 
-pub(crate) fn count_in(row: Row, path: Path, s: &[u8]) -> Counted
-    ensures { λ r. ⌜ countedOf r ≡ ofValue (λ l t. lengthAt l (numbersOf path) t) (rowKind row) (now (s .entry)) ⌝ }
+pub(crate) fn count_in(row: Row, strict: bool, path: Path, s: &[u8]) -> Counted
+    ensures { λ r. ⌜ countedOf r ≡ ofValue (λ l t. lengthAt l (numbersOf path) t) (kindWith (rowLayout row) strict) (now (s .entry)) ⌝ }
 {
-    match read_row(row, s) {
+    match read_row(row, strict, s) {
         Reading::Value {
             consumed: _,
             rest: _,

@@ -5,13 +5,40 @@ mod lists;
 mod rows;
 
 use numbers::Refusal;
+use rows::ListKindRow;
 ghost use mathlib.Core.Path.{_≡_};
 ghost use Rattle.numbers.specs.Parts.{behind};
 ghost use Rattle.layouts.specs.Layouts.{isList};
-ghost use Rattle.layouts.specs.Reading.{readingOf, readValue};
+ghost use Rattle.layouts.specs.Rows.{rowLayout};
+ghost use Rattle.layouts.specs.Reading.{listOf, entriesEnd, endOf, listingOf, endingOf, readingOf, readValue};
 ghost use Rattle.layouts.specs.Access.{numbersOf, locatedOf, locateEntry, partOf, startIn, countedOf, countEntries};
 
-// What reading a value finds: the bytes consumed, how many are left behind them, and how many entries the value's own list has.
+// A layout as a row of numbers: an entry of h0 bytes and then, where it has levels of lists, a list whose count has w0 bytes: 1 or 2, or 0 for a list that goes
+// to the end. An entry of that list is h1 bytes and then, where levels are left, a list whose count has w1 bytes, and so on. A value is an entry too.
+pub struct Row {
+    pub levels: u8,
+    pub h0: u8,
+    pub w0: u8,
+    pub h1: u8,
+    pub w1: u8,
+    pub h2: u8,
+    pub w2: u8,
+    pub h3: u8,
+}
+
+// How many entries a list has, and where the first one starts.
+pub enum Listing {
+    Of { n: usize, first: usize },
+    Refused(Refusal),
+}
+
+// Where a part ends.
+pub enum End {
+    At(usize),
+    Refused(Refusal),
+}
+
+// What reading a value finds: the bytes consumed, how many are left after them, and how many entries the value's own list has.
 pub enum Reading {
     Value {
         consumed: usize,
@@ -41,13 +68,59 @@ pub enum Counted {
     Refused(Refusal),
 }
 
+// The list of the entry of this row that starts at `at`: it stands after the entry's head. An entry of the lowest level has none.
+pub fn list_at(row: Row, s: &[u8], at: usize) -> Listing
+    ensures { λ r. ⌜ listingOf r ≡ listOf (rowLayout row) (now (s .entry)) at ⌝ }
+{
+    if row.levels == 0 {
+        return Listing::Refused(Refusal::NoEntry);
+    }
+    match lists::reach(rows::wide(row.h0), s, at) {
+        End::At(q) => lists::count_at(row.w0, rows::wide(row.h1), s, q),
+        End::Refused(r) => Listing::Refused(r),
+    }
+}
+
+// Where n entries of this row end, the first of which starts at `at`. It goes over the entries in a loop, so that the stack grows with the levels alone.
+pub fn read_list(row: Row, n: usize, s: &[u8], at: usize) -> End
+    ensures { λ r. ⌜ endingOf r ≡ entriesEnd (endOf (rowLayout row) (now (s .entry))) n at ⌝ }
+{
+    let mut p = at;
+    let mut i = 0;
+    while i < n {
+        match read_entry(row, s, p) {
+            End::At(q) => {
+                p = q;
+            }
+            End::Refused(r) => {
+                return End::Refused(r);
+            }
+        }
+        i += 1;
+    }
+    End::At(p)
+}
+
+// Where the entry of this row that starts at `at` ends: in its list, if it has one.
+pub fn read_entry(row: Row, s: &[u8], at: usize) -> End
+    ensures { λ r. ⌜ endingOf r ≡ endOf (rowLayout row) (now (s .entry)) at ⌝ }
+{
+    if row.levels == 0 {
+        return lists::reach(rows::wide(row.h0), s, at);
+    }
+    match list_at(row, s, at) {
+        Listing::Of { n, first } => read_list(rows::row_below(row), n, s, first),
+        Listing::Refused(r) => End::Refused(r),
+    }
+}
+
 // Whether the kind with this code is one of these.
 pub fn is_list(code: u8) -> bool
     ensures { λ r. ⌜ r ≡ isList code ⌝ }
 {
     match rows::row_of(code) {
-        rows::KindRow::List(_) => true,
-        rows::KindRow::Refused(_) => false,
+        ListKindRow::List(_, _) => true,
+        ListKindRow::Refused(_) => false,
     }
 }
 
@@ -56,8 +129,8 @@ pub fn read_value(code: u8, s: &[u8]) -> Reading
     ensures { λ r. ⌜ readingOf r ≡ readValue code (now (s .entry)) ⌝ }
 {
     match rows::row_of(code) {
-        rows::KindRow::List(row) => lists::read_row(row, s),
-        rows::KindRow::Refused(r) => Reading::Refused(r),
+        ListKindRow::List(row, strict) => lists::read_row(row, strict, s),
+        ListKindRow::Refused(r) => Reading::Refused(r),
     }
 }
 
@@ -66,8 +139,8 @@ pub fn locate(code: u8, path: Path, s: &[u8]) -> Located
     ensures { λ r. ⌜ locatedOf r ≡ locateEntry code (numbersOf path) (now (s .entry)) ⌝ }
 {
     match rows::row_of(code) {
-        rows::KindRow::List(row) => access::locate_in(row, path, s),
-        rows::KindRow::Refused(r) => Located::Refused(r),
+        ListKindRow::List(row, strict) => access::locate_in(row, strict, path, s),
+        ListKindRow::Refused(r) => Located::Refused(r),
     }
 }
 
@@ -87,7 +160,7 @@ pub fn count(code: u8, path: Path, s: &[u8]) -> Counted
     ensures { λ r. ⌜ countedOf r ≡ countEntries code (numbersOf path) (now (s .entry)) ⌝ }
 {
     match rows::row_of(code) {
-        rows::KindRow::List(row) => access::count_in(row, path, s),
-        rows::KindRow::Refused(r) => Counted::Refused(r),
+        ListKindRow::List(row, strict) => access::count_in(row, strict, path, s),
+        ListKindRow::Refused(r) => Counted::Refused(r),
     }
 }

@@ -1,27 +1,15 @@
 // The table of list kinds.
+use crate::Row;
 use numbers::Refusal;
 ghost use mathlib.Core.Path.{_≡_};
 ghost use Prim.Native.Nat.{_<_};
 ghost use Rattle.layouts.specs.Layouts.{bytes, entry, layoutOf};
-ghost use Rattle.layouts.specs.PrivateRows.{counting, rowBelow, kindWith, rowKind, rowTold};
+ghost use Rattle.layouts.specs.Rows.{counting, rowBelow, rowLayout};
+ghost use Rattle.layouts.specs.PrivateRows.{rowTold};
 
-// A row of the table: an entry of h0 bytes and then, where it has levels of lists, a list whose count has w0 bytes: 1 or 2, or 0 for a list that goes to the
-// end. An entry of that list is h1 bytes and then, where levels are left, a list whose count has w1 bytes, and so on. The value itself is an entry.
-pub(crate) struct Row {
-    pub levels: u8,
-    pub h0: u8,
-    pub w0: u8,
-    pub h1: u8,
-    pub w1: u8,
-    pub h2: u8,
-    pub w2: u8,
-    pub h3: u8,
-    // bytes behind the layout are refused
-    pub strict: bool,
-}
-
-pub(crate) enum KindRow {
-    List(Row),
+// A row of the table, and whether bytes after its layout are refused.
+pub(crate) enum ListKindRow {
+    List(Row, bool),
     Refused(Refusal),
 }
 
@@ -39,13 +27,12 @@ pub(crate) fn row_below(row: Row) -> Row
         h2: row.h3,
         w2: 0,
         h3: 0,
-        strict: row.strict,
     }
 }
 
 // The rows of layouts with one, two and three levels of lists, written from the outside to the inside.
-fn one(h0: u8, w0: u8, h1: u8, strict: bool) -> Row
-    ensures { λ r. ⌜ rowKind r ≡ kindWith (entry h0 (counting w0) (bytes h1)) strict ⌝ }
+fn one(h0: u8, w0: u8, h1: u8) -> Row
+    ensures { λ r. ⌜ rowLayout r ≡ entry h0 (counting w0) (bytes h1) ⌝ }
 {
     Row {
         levels: 1,
@@ -56,12 +43,11 @@ fn one(h0: u8, w0: u8, h1: u8, strict: bool) -> Row
         h2: 0,
         w2: 0,
         h3: 0,
-        strict,
     }
 }
 
-fn two(h0: u8, w0: u8, h1: u8, w1: u8, h2: u8, strict: bool) -> Row
-    ensures { λ r. ⌜ rowKind r ≡ kindWith (entry h0 (counting w0) (entry h1 (counting w1) (bytes h2))) strict ⌝ }
+fn two(h0: u8, w0: u8, h1: u8, w1: u8, h2: u8) -> Row
+    ensures { λ r. ⌜ rowLayout r ≡ entry h0 (counting w0) (entry h1 (counting w1) (bytes h2)) ⌝ }
 {
     Row {
         levels: 2,
@@ -72,12 +58,11 @@ fn two(h0: u8, w0: u8, h1: u8, w1: u8, h2: u8, strict: bool) -> Row
         h2,
         w2: 0,
         h3: 0,
-        strict,
     }
 }
 
-fn three(h0: u8, w0: u8, h1: u8, w1: u8, h2: u8, w2: u8, h3: u8, strict: bool) -> Row
-    ensures { λ r. ⌜ rowKind r ≡ kindWith (entry h0 (counting w0) (entry h1 (counting w1) (entry h2 (counting w2) (bytes h3)))) strict ⌝ }
+fn three(h0: u8, w0: u8, h1: u8, w1: u8, h2: u8, w2: u8, h3: u8) -> Row
+    ensures { λ r. ⌜ rowLayout r ≡ entry h0 (counting w0) (entry h1 (counting w1) (entry h2 (counting w2) (bytes h3))) ⌝ }
 {
     Row {
         levels: 3,
@@ -88,34 +73,33 @@ fn three(h0: u8, w0: u8, h1: u8, w1: u8, h2: u8, w2: u8, h3: u8, strict: bool) -
         h2,
         w2,
         h3,
-        strict,
     }
 }
 
 // The row of the list kind with this code.
-pub(crate) fn row_of(code: u8) -> KindRow
+pub(crate) fn row_of(code: u8) -> ListKindRow
     ensures { λ r. ⌜ rowTold r ≡ layoutOf code ⌝ }
 {
     match code {
         // SupportedService
-        0x80 => KindRow::List(one(0, 1, 1, false)),
+        0x80 => ListKindRow::List(one(0, 1, 1), false),
         // NonIeee1905NeighborDevices
-        6 => KindRow::List(one(6, 0, 6, true)),
+        6 => ListKindRow::List(one(6, 0, 6), true),
         // Ieee1905NeighborDevice
-        7 => KindRow::List(one(6, 0, 7, true)),
+        7 => ListKindRow::List(one(6, 0, 7), true),
         // Ipv4
-        23 => KindRow::List(two(0, 1, 6, 1, 9, false)),
+        23 => ListKindRow::List(two(0, 1, 6, 1, 9), false),
         // Ipv6
-        24 => KindRow::List(two(0, 1, 22, 1, 33, false)),
+        24 => ListKindRow::List(two(0, 1, 22, 1, 33), false),
         // DeviceBridgingCapability
-        4 => KindRow::List(two(0, 1, 0, 1, 6, false)),
+        4 => ListKindRow::List(two(0, 1, 0, 1, 6), false),
         // ApOperationalBss
-        0x83 => KindRow::List(three(0, 1, 6, 1, 6, 1, 1, false)),
+        0x83 => ListKindRow::List(three(0, 1, 6, 1, 6, 1, 1), false),
         // BssConfigurationReport
-        0xB7 => KindRow::List(three(0, 1, 6, 1, 8, 1, 1, false)),
+        0xB7 => ListKindRow::List(three(0, 1, 6, 1, 8, 1, 1), false),
         // L2NeighborDevice
-        30 => KindRow::List(three(0, 1, 6, 2, 6, 2, 6, true)),
-        _ => KindRow::Refused(Refusal::UnknownKind),
+        30 => ListKindRow::List(three(0, 1, 6, 2, 6, 2, 6), true),
+        _ => ListKindRow::Refused(Refusal::UnknownKind),
     }
 }
 

@@ -3,7 +3,6 @@ use borrow.Author.Needs.{needs}
 use Rattle.layouts.proofs.entry.Statement.{statement}
 use Rattle.layouts.proofs.entry.Tie as tie
 use mathlib.Core.Path.{_≡_, sym}
-use native.Mathlib.Nat.{sub-self}
 use Rattle.numbers.specs.Numbers.{gives}
 use Rattle.layouts.specs.Access.{numbersOf, locateEntry}
 use Rattle.layouts.proofs.Within.{Within}
@@ -33,7 +32,7 @@ returns c = let e = has (c .before .before) in (rw e, rw e)
 returns-2 : tie.Need-returns-2
 returns-2 c =
     let e = sym (rw (c .before .enum-told .given .1) at (c .before .before .before .locate .ensures)) in
-    (simp (e, sub-self), rw e)
+    (rw e, rw e)
 
 pub entry-spec : {M : Type 1} → statement M
 entry-spec =

@@ -2,36 +2,25 @@
 use borrow.Author.Needs.{needs}
 use Rattle.layouts.proofs.access.child.Statement.{statement}
 use Rattle.layouts.proofs.access.child.Tie as tie
-use mathlib.Core.Path.{_≡_, sym, ap, _∙_}
+use mathlib.Core.Path.{_≡_, sym, _∙_}
 use Prim.Native.Nat.{_<_}
 use Rattle.numbers.specs.Numbers.{gives}
 use Rattle.layouts.specs.Reading.{listOf}
-use Rattle.layouts.specs.PrivateRows.{rowLayout}
-use Rattle.layouts.proofs.Laws.{fewer, list-level}
-use Rattle.layouts.proofs.Within.{list-within}
+use Rattle.layouts.specs.Rows.{rowLayout}
+use Rattle.layouts.proofs.Laws.{list-level}
 use Rattle.layouts.proofs.Finding.{child-there, child-past, child-none, below-row}
 
 -- the list that was found, which an entry of the lowest level has not
 has : (c : tie.After-n) →
     let a = c .before .before .before .before .args in
     listOf (rowLayout (a .row)) (a .s .now) (a .p) ≡ gives (record { many = c .n .given .0 .0; first = c .n .given .0 .1 .0 })
-has c = sym (rw (c .n .given .1) at (c .before .before .list-at .ensures .0))
+has c = sym (rw (c .n .given .1) at (c .before .before .list-at .ensures))
 
 above : (c : tie.After-n) → 0 < c .before .before .before .before .args .row .levels
 above c = let a = c .before .before .before .before .args in list-level (a .row) (a .s .now) (a .p) _ (has c)
 
 row-below-requires : tie.Need-row-below-requires
 row-below-requires c κs = above (c .before .before)
-
-read-list-requires : tie.Need-read-list-requires
-read-list-requires c κs =
-    let l = c .before .before .before in
-    let a = l .before .before .before .before .args in
-    let g = l .n .given in
-    let h : c .row-below .result .h0 ≡ a .row .h1 = ap (λ r. r .h0) (c .row-below .ensures) in (
-      list-within (rowLayout (a .row)) (a .s .now) (a .p) _ (has l) .1,
-      rw h (fewer (a .i) (g .0 .0) (a .row .h1) (search needs) (rw (g .1) at (l .before .before .list-at .ensures .1))),
-    )
 
 returns : tie.Need-returns
 returns c =
@@ -51,7 +40,7 @@ returns-3 : tie.Need-returns-3
 returns-3 c =
     let d = c .before .before .before in
     let a = d .before .before .args in
-    sym (child-none (rowLayout (a .row)) (a .i) (a .s .now) (a .p) _ _ (sym (rw (c .before .r .given .1) at (d .list-at .ensures .0))))
+    sym (child-none (rowLayout (a .row)) (a .i) (a .s .now) (a .p) _ _ (sym (rw (c .before .r .given .1) at (d .list-at .ensures))))
 
 pub child-spec : {M : Type 1} → statement M
 child-spec =
@@ -60,7 +49,7 @@ child-spec =
     (λ c κs. search needs)
     (λ c. search needs)
     row-below-requires
-    read-list-requires
+    (λ c κs. search needs)
     returns
     (λ c. search needs)
     returns-2

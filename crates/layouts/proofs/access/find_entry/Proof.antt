@@ -3,23 +3,21 @@ use Rattle.layouts.proofs.access.find_entry.Statement.{statement}
 use Rattle.layouts.proofs.access.find_entry.Tie as tie
 use borrow.Author.Needs.{needs}
 use mathlib.Core.Path.{_≡_, refl, sym, _∙_}
-use lib.ListN.{length}
-use Prim.Native.Nat.{_-_, _≤_}
+use Prim.Native.Nat.{_-_}
 use Rattle.numbers.specs.Numbers.{gives}
 use Rattle.layouts.specs.Access.{numbers, childAt, findEntry}
-use Rattle.layouts.specs.PrivateRows.{rowLayout}
-use Rattle.layouts.proofs.Within.{child-within}
+use Rattle.layouts.specs.Rows.{rowLayout}
 use Rattle.layouts.proofs.Finding.{child-level, below-row, numbers-none, numbers-more, find-stop, find-on, find-here}
 
 abbrev Inv-loop : tie.InvT-loop
 Inv-loop s row₀ at₀ left₀ i0₀ i1₀ i2₀ row at left i0 i1 i2 =
-    (at ≤ length s) × (findEntry (rowLayout row₀) (numbers left₀ i0₀ i1₀ i2₀) s at₀ ≡ findEntry (rowLayout row) (numbers left i0 i1 i2) s at)
+    findEntry (rowLayout row₀) (numbers left₀ i0₀ i1₀ i2₀) s at₀ ≡ findEntry (rowLayout row) (numbers left i0 i1 i2) s at
 
 abbrev μ-loop : tie.MeasureT-loop
 μ-loop s row₀ at₀ left₀ i0₀ i1₀ i2₀ row at left i0 i1 i2 = left
 
 loop-holds : tie.Need-loop-holds Inv-loop μ-loop
-loop-holds c = (search needs, refl)
+loop-holds c = refl
 
 -- the entry that was found one level down
 has : (c : tie.After-q Inv-loop μ-loop) →
@@ -36,7 +34,7 @@ returns c =
     let v = l .loop in
     let more = numbers-more (v .left) (v .i0) (v .i1) (v .i2) (d .before .loop-test .taken) in
     let stop = find-stop (rowLayout (v .row)) (v .i0) (a .s .now) (v .at) (numbers (v .left - 1) (v .i1) (v .i2) 0) _ _ (sym (rw (c .before .r .given .1) at (d .child .ensures))) in
-    sym (v .inv .1 ∙ rw more stop)
+    sym (v .inv ∙ rw more stop)
 
 row-below-requires : tie.Need-row-below-requires Inv-loop μ-loop
 row-below-requires c κs =
@@ -53,7 +51,7 @@ loop-again c =
     let more = numbers-more (v .left) (v .i0) (v .i1) (v .i2) (q .before .before .before .loop-test .taken) in
     let down = below-row (v .row) (child-level (v .row) (v .i0) (a .s .now) (v .at) _ (has q)) in
     let on = find-on (rowLayout (v .row)) (v .i0) (a .s .now) (v .at) (numbers (v .left - 1) (v .i1) (v .i2) 0) _ (has q) in
-    (child-within (rowLayout (v .row)) (v .i0) (a .s .now) (v .at) _ (has q) .1, v .inv .1 ∙ rw more (rw (c .row-below .ensures) (rw down at on)))
+    v .inv ∙ rw more (rw (c .row-below .ensures) (rw down at on))
 
 returns-2 : tie.Need-returns-2 Inv-loop μ-loop
 returns-2 c =
@@ -61,7 +59,7 @@ returns-2 c =
     let a = l .before .before .args in
     let v = l .loop in
     let none = numbers-none (v .left) (v .i0) (v .i1) (v .i2) (c .loop-test .left) in
-    sym (v .inv .1 ∙ rw none (find-here (rowLayout (v .row)) (a .s .now) (v .at)))
+    sym (v .inv ∙ rw none (find-here (rowLayout (v .row)) (a .s .now) (v .at)))
 
 pub find-entry-spec : {M : Type 1} → statement M
 find-entry-spec =

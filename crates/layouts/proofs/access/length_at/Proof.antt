@@ -5,8 +5,7 @@ use Rattle.layouts.proofs.access.length_at.Tie as tie
 use mathlib.Core.Path.{_≡_, sym}
 use Rattle.numbers.specs.Numbers.{gives}
 use Rattle.layouts.specs.Access.{numbersOf, findEntry, lengthAt}
-use Rattle.layouts.specs.PrivateRows.{rowLayout}
-use Rattle.layouts.proofs.Within.{find-within}
+use Rattle.layouts.specs.Rows.{rowLayout}
 
 -- the entry that was found
 has : (c : tie.After-found) →
@@ -14,23 +13,17 @@ has : (c : tie.After-found) →
     findEntry (rowLayout (a .row)) (numbersOf (a .path)) (a .s .now) 0 ≡ gives (record { layout = rowLayout (c .found .given .0 .0); start = c .found .given .0 .1 .0 })
 has c = sym (rw (c .found .given .1) at (c .before .before .find-entry .ensures))
 
-list-at-requires : tie.Need-list-at-requires
-list-at-requires c κs =
-    let k = c .before in
-    let a = k .before .before .before .before .args in
-    find-within (rowLayout (a .row)) (numbersOf (a .path)) (a .s .now) 0 _ (search needs) (has k) .1
-
 returns : tie.Need-returns
 unfolding lengthAt
 returns c =
     let d = c .before .before .before in
-    rw (has (d .before .before), sym (rw (c .before .n .given .1) at (d .list-at .ensures .0)))
+    rw (has (d .before .before), sym (rw (c .before .n .given .1) at (d .list-at .ensures)))
 
 returns-2 : tie.Need-returns-2
 unfolding lengthAt
 returns-2 c =
     let d = c .before .before .before in
-    rw (has (d .before .before), sym (rw (c .before .r .given .1) at (d .list-at .ensures .0)))
+    rw (has (d .before .before), sym (rw (c .before .r .given .1) at (d .list-at .ensures)))
 
 returns-3 : tie.Need-returns-3
 unfolding lengthAt
@@ -42,7 +35,7 @@ length-at-spec =
     (tie.spec
     (λ c κs. search needs)
     (λ c. search needs)
-    list-at-requires
+    (λ c κs. search needs)
     (λ c. search needs)
     (λ c. search needs)
     (λ c. search needs)

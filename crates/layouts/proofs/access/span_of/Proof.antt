@@ -6,8 +6,7 @@ use mathlib.Core.Path.{_≡_, sym, _∙_}
 use Rattle.numbers.specs.Numbers.{gives, andThen, mapped}
 use Rattle.layouts.specs.Reading.{endOf}
 use Rattle.layouts.specs.Access.{numbersOf, findEntry, spanOf}
-use Rattle.layouts.specs.PrivateRows.{rowLayout}
-use Rattle.layouts.proofs.Within.{find-within}
+use Rattle.layouts.specs.Rows.{rowLayout}
 use Rattle.layouts.proofs.Finding.{span-none, span-some}
 
 returns : tie.Need-returns
@@ -30,12 +29,6 @@ has : (c : tie.After-found) →
     let a = c .before .before .before .before .before .before .args in
     findEntry (rowLayout (a .row)) (numbersOf (a .path)) (a .s .now) 0 ≡ gives (record { layout = rowLayout (c .found .given .0 .0); start = c .found .given .0 .1 .0 })
 has c = sym (rw (c .found .given .1) at (c .before .before .find-entry .ensures))
-
-read-entry-requires : tie.Need-read-entry-requires
-read-entry-requires c κs =
-    let k = c .before in
-    let a = k .before .before .before .before .before .before .args in
-    find-within (rowLayout (a .row)) (numbersOf (a .path)) (a .s .now) 0 _ (search needs) (has k) .1
 
 returns-2 : tie.Need-returns-2
 returns-2 c =
@@ -61,7 +54,7 @@ span-of-spec =
     returns
     (λ c κs. search needs)
     (λ c. search needs)
-    read-entry-requires
+    (λ c κs. search needs)
     (λ c. search needs)
     (λ c. search needs)
     (λ c. search needs)

@@ -1,47 +1,42 @@
--- At each return the tests that led there say which case of `countAt` holds; a count of at most two bytes, or one that came of a division, is small.
+-- At each return the tests that led there say which case of `countAt` holds.
 use borrow.Author.Needs.{needs}
 use Rattle.layouts.proofs.lists.count_at.Statement.{statement}
 use Rattle.layouts.proofs.lists.count_at.Tie as tie
 use borrow.Author.Tests.{eq-eqb, ne-eqb, le-leb, lt-leb}
 use native.Mathlib.Omega.{arith}
-use Prim.Native.Nat.{_+_, _-_, _*_}
+use Prim.Native.Nat.{_+_}
 use lib.ListN.{length}
-use native.Mathlib.Nat.{div-zero, div-mul-le-self}
+use native.Mathlib.Nat.{div-zero}
 use Rattle.layouts.specs.Reading.{countAt}
-use Rattle.layouts.proofs.Laws.{few}
 
 returns : tie.Need-returns
 unfolding countAt
 returns c =
-    let a = c .before .before .before .args in
-    (simp (eq-eqb _ _ (c .before .if1 .taken), c .if2 .taken, div-zero), omega arith)
+    simp (eq-eqb _ _ (c .before .if1 .taken), c .if2 .taken, div-zero)
 
 returns-2 : tie.Need-returns-2
 unfolding countAt
 returns-2 c =
-    let a = c .before .before .before .args in
-    (simp (eq-eqb _ _ (c .before .if1 .taken)), omega (arith, div-mul-le-self (length (a .s .now) - a .at) (a .h)))
+    simp (eq-eqb _ _ (c .before .if1 .taken))
 
 returns-3 : tie.Need-returns-3
 unfolding countAt
 returns-3 c =
     let a = c .before .before .before .before .args in
-    (simp (c .before .if3 .taken, lt-leb (a .at + 1) (length (a .s .now)) (omega arith)), tt)
+    simp (c .before .if3 .taken, lt-leb (a .at + 1) (length (a .s .now)) (omega arith))
 
 returns-4 : tie.Need-returns-4
 unfolding countAt
 returns-4 c =
     let a = c .before .before .before .before .before .before .args in
-    let n = c .wide .ensures in (
-      simp (n .0, c .before .before .before .if3 .taken, le-leb (a .at + 1) (length (a .s .now)) (omega arith)),
-      few (c .wide .result) (a .h) (omega arith) (search needs),
-    )
+    let n = c .wide .ensures in
+    simp (n .0, c .before .before .before .if3 .taken, le-leb (a .at + 1) (length (a .s .now)) (omega arith))
 
 returns-5 : tie.Need-returns-5
 unfolding countAt
 returns-5 c =
     let a = c .before .before .before .before .args in
-    (simp (ne-eqb _ _ (c .before .before .if1 .left), ne-eqb _ _ (c .before .if3 .left), lt-leb (a .at + 2) (length (a .s .now)) (omega arith)), tt)
+    simp (ne-eqb _ _ (c .before .before .if1 .left), ne-eqb _ _ (c .before .if3 .left), lt-leb (a .at + 2) (length (a .s .now)) (omega arith))
 
 returns-6 : tie.Need-returns-6
 unfolding countAt
@@ -49,15 +44,13 @@ returns-6 c =
     let b = c .before .before .before .before in
     let a = b .before .before .before .before .args in
     let high = c .before .before .wide2 .ensures in
-    let low = c .wide3 .ensures in (
-      simp (
-        high .0,
-        low .0,
-        ne-eqb _ _ (b .before .before .if1 .left),
-        ne-eqb _ _ (b .before .if3 .left),
-        le-leb (a .at + 2) (length (a .s .now)) (omega arith),
-      ),
-      few (c .before .before .wide2 .result * 256 + c .wide3 .result) (a .h) (omega arith) (search needs),
+    let low = c .wide3 .ensures in
+    simp (
+      high .0,
+      low .0,
+      ne-eqb _ _ (b .before .before .if1 .left),
+      ne-eqb _ _ (b .before .if3 .left),
+      le-leb (a .at + 2) (length (a .s .now)) (omega arith),
     )
 
 pub count-at-spec : {M : Type 1} → statement M

@@ -2,33 +2,27 @@
 use borrow.Author.Needs.{needs}
 use Rattle.layouts.proofs.lists.read_row.Statement.{statement}
 use Rattle.layouts.proofs.lists.read_row.Tie as tie
-use mathlib.Core.Path.{_≡_, sym, ap, _∙_}
+use mathlib.Core.Path.{_≡_, sym, _∙_}
 use Rattle.numbers.specs.Numbers.{gives}
-use Rattle.layouts.specs.Reading.{listOf, endOf, readAs}
-use Rattle.layouts.specs.PrivateRows.{rowLayout, rowKind, endTold}
+use Rattle.layouts.specs.Reading.{listOf, endOf, endingOf, readAs}
+use Rattle.layouts.specs.Rows.{rowLayout}
+use Rattle.layouts.specs.PrivateRows.{kindWith}
 use Rattle.layouts.proofs.Laws.{list-level, end-there, read-to}
-use Rattle.layouts.proofs.Within.{list-within, end-within}
+use Rattle.layouts.proofs.Within.{end-within}
 
 -- the list that was found
 has : (c : tie.After-n) →
     let a = c .before .before .before .before .args in
     listOf (rowLayout (a .row)) (a .s .now) 0 ≡ gives (record { many = c .n .given .0 .0; first = c .n .given .0 .1 .0 })
-has c = sym (rw (c .n .given .1) at (c .before .before .list-at .ensures .0))
+has c = sym (rw (c .n .given .1) at (c .before .before .list-at .ensures))
 
 row-below-requires : tie.Need-row-below-requires
 row-below-requires c κs = let l = c .before in let a = l .before .before .before .before .args in list-level (a .row) (a .s .now) 0 _ (has l)
 
-read-list-requires : tie.Need-read-list-requires
-read-list-requires c κs =
-    let l = c .before .before in
-    let a = l .before .before .before .before .args in
-    let h : c .row-below .result .h0 ≡ a .row .h1 = ap (λ r. r .h0) (c .row-below .ensures) in
-    (list-within (rowLayout (a .row)) (a .s .now) 0 _ (has l) .1, rw h (rw (l .n .given .1) at (l .before .before .list-at .ensures .1)))
-
 -- the value ends where its list was read to
 ends : (c : tie.After-read-list) →
     let a = c .before .before .before .before .before .before .before .args in
-    endOf (rowLayout (a .row)) (a .s .now) 0 ≡ endTold (c .read-list .result)
+    endOf (rowLayout (a .row)) (a .s .now) 0 ≡ endingOf (c .read-list .result)
 ends c =
     let l = c .before .before .before in
     let a = l .before .before .before .before .args in
@@ -50,7 +44,7 @@ returns c =
     let e = c .before .before in
     let l = e .before .before .before .before .before in
     let a = l .before .before .before .before .args in
-    c .consumed-to .ensures ∙ sym (read-to (rowKind (a .row)) (a .s .now) _ _ (has l) (ends-at e))
+    c .consumed-to .ensures ∙ sym (read-to (kindWith (rowLayout (a .row)) (a .strict)) (a .s .now) _ _ (has l) (ends-at e))
 
 returns-2 : tie.Need-returns-2
 unfolding readAs
@@ -61,7 +55,7 @@ returns-2 c =
 returns-3 : tie.Need-returns-3
 unfolding readAs
 returns-3 c =
-    let e = rw (c .before .r2 .given .1) at (c .before .before .before .list-at .ensures .0) in
+    let e = rw (c .before .r2 .given .1) at (c .before .before .before .list-at .ensures) in
     sym (rw (← e))
 
 pub read-row-spec : {M : Type 1} → statement M
@@ -71,7 +65,7 @@ read-row-spec =
     (λ c κs. search needs)
     (λ c. search needs)
     row-below-requires
-    read-list-requires
+    (λ c κs. search needs)
     (λ c. search needs)
     consumed-to-requires
     (λ c. search needs)

@@ -3,45 +3,47 @@ use borrow.Author.Needs.{needs}
 use Rattle.layouts.proofs.rows.row_of.Statement.{statement}
 use Rattle.layouts.proofs.rows.row_of.Tie as tie
 use borrow.Author.Tests.{ne-eqb}
+use mathlib.Core.Bool.{true, false}
 use mathlib.Core.Path.{ap}
 use Rattle.numbers.specs.Numbers.{gives}
 use Rattle.layouts.specs.Layouts.{layoutOf}
+use Rattle.layouts.specs.PrivateRows.{kindWith}
 
 returns : tie.Need-returns
 unfolding layoutOf
-returns c = rw (c .before .match .keys1) (ap gives (c .one .ensures))
+returns c = rw (c .before .match .keys1) (ap (λ l. gives (kindWith l false)) (c .one .ensures))
 
 returns-2 : tie.Need-returns-2
 unfolding layoutOf
-returns-2 c = rw (c .before .match .keys2) (ap gives (c .one2 .ensures))
+returns-2 c = rw (c .before .match .keys2) (ap (λ l. gives (kindWith l true)) (c .one2 .ensures))
 
 returns-3 : tie.Need-returns-3
 unfolding layoutOf
-returns-3 c = rw (c .before .match .keys3) (ap gives (c .one3 .ensures))
+returns-3 c = rw (c .before .match .keys3) (ap (λ l. gives (kindWith l true)) (c .one3 .ensures))
 
 returns-4 : tie.Need-returns-4
 unfolding layoutOf
-returns-4 c = rw (c .before .match .keys4) (ap gives (c .two .ensures))
+returns-4 c = rw (c .before .match .keys4) (ap (λ l. gives (kindWith l false)) (c .two .ensures))
 
 returns-5 : tie.Need-returns-5
 unfolding layoutOf
-returns-5 c = rw (c .before .match .keys5) (ap gives (c .two2 .ensures))
+returns-5 c = rw (c .before .match .keys5) (ap (λ l. gives (kindWith l false)) (c .two2 .ensures))
 
 returns-6 : tie.Need-returns-6
 unfolding layoutOf
-returns-6 c = rw (c .before .match .keys6) (ap gives (c .two3 .ensures))
+returns-6 c = rw (c .before .match .keys6) (ap (λ l. gives (kindWith l false)) (c .two3 .ensures))
 
 returns-7 : tie.Need-returns-7
 unfolding layoutOf
-returns-7 c = rw (c .before .match .keys7) (ap gives (c .three .ensures))
+returns-7 c = rw (c .before .match .keys7) (ap (λ l. gives (kindWith l false)) (c .three .ensures))
 
 returns-8 : tie.Need-returns-8
 unfolding layoutOf
-returns-8 c = rw (c .before .match .keys8) (ap gives (c .three2 .ensures))
+returns-8 c = rw (c .before .match .keys8) (ap (λ l. gives (kindWith l false)) (c .three2 .ensures))
 
 returns-9 : tie.Need-returns-9
 unfolding layoutOf
-returns-9 c = rw (c .before .match .keys9) (ap gives (c .three3 .ensures))
+returns-9 c = rw (c .before .match .keys9) (ap (λ l. gives (kindWith l true)) (c .three3 .ensures))
 
 returns-10 : tie.Need-returns-10
 unfolding layoutOf

@@ -2,7 +2,7 @@
 use Rattle.layouts.proofs.rows.three.Statement.{statement}
 use Rattle.layouts.proofs.rows.three.Tie as tie
 use mathlib.Core.Path.{refl}
-use Rattle.layouts.specs.PrivateRows.{layoutIn}
+use Rattle.layouts.specs.Rows.{layoutIn}
 
 returns : tie.Need-returns
 unfolding layoutIn
