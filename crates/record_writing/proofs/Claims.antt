@@ -21,11 +21,11 @@ use Rattle.records.specs.Reading.{RecordRead, readRecord}
 use Rattle.records.proofs.Ways.{by-kind}
 use Rattle.records.proofs.Given.{kind-read, consumed-within}
 use Rattle.record_writing.specs.Writing.{readable}
-use Rattle.record_writing.specs.Claims.{Firmness, itself, Rewritten, RoundTrips}
+use Rattle.record_writing.specs.Claims.{Firmness, itself, Rewritten, RoundTrips, Claims}
 use Rattle.record_writing.proofs.ReadBack.{back}
 use Rattle.record_writing.proofs.WriteBack.{kept}
 
-pub firmness : Firmness
+firmness : Firmness
 firmness = record {
   size-of = λ item. by-equation _;
   write-value = λ item out. both _ _ (by-telling writtenOf written-one _) (by-equation _);
@@ -81,3 +81,6 @@ tlv-back r rest h =
 
 pub round-trips : RoundTrips
 round-trips = record { read-back = read-back; tlv-back = tlv-back; write-back = write-back; never-read = never-read }
+
+pub claims : Claims
+claims = record { firmness = firmness; round-trips = round-trips }

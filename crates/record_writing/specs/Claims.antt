@@ -49,3 +49,8 @@ pub record RoundTrips : Type 0 where
   pub write-back : (code : ℕ) (s : List ℕ) (x : RecordRead) → Bytes s → readRecord code s ≡ gives x → Rewritten code s x
   -- no bytes read as a record that is refused by 9
   pub never-read : (item : Record) (code : ℕ) (s : List ℕ) (x : RecordRead) → readable item ≡ false → Bytes s → readRecord code s ≡ gives x → x .value ≡ item → ⊥
+
+-- everything that is claimed of this crate
+pub record Claims : Type 0 where
+  pub firmness : Firmness
+  pub round-trips : RoundTrips

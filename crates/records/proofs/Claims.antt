@@ -6,7 +6,7 @@ use Rattle.numbers.proofs.Firm.{firm, never, by-equation, by-telling}
 use Rattle.records.specs.declared.Read.{Read}
 use Rattle.records.specs.declared.Measured.{Measured}
 use Rattle.records.specs.Reading.{RecordRead, gotOf, measuredOf}
-use Rattle.records.specs.Claims.{Firmness, OwnCodes, Inside}
+use Rattle.records.specs.Claims.{Firmness, Inside, Claims}
 use Rattle.records.proofs.Ways.{by-kind}
 use Rattle.records.proofs.Given.{consumed-within}
 
@@ -22,7 +22,7 @@ measured-one (Measured.Bytes n) (Measured.Refused f) e = never _ _ _ e
 measured-one (Measured.Refused f) (Measured.Bytes n) e = never _ _ _ (sym e)
 measured-one (Measured.Refused f) (Measured.Refused g) e = ap Measured.Refused (firm ℕ f g e)
 
-pub firmness : Firmness
+firmness : Firmness
 firmness = record {
   read-record = λ code s. by-telling gotOf read-one _;
   read-client-association = λ s. by-telling gotOf read-one _;
@@ -31,8 +31,8 @@ firmness = record {
   measure = λ code s. by-telling measuredOf measured-one _;
 }
 
-pub own-codes : OwnCodes
-own-codes = by-kind
-
 pub inside : Inside
 inside = consumed-within
+
+pub claims : Claims
+claims = record { firmness = firmness; own-codes = by-kind; inside = inside }

@@ -25,3 +25,9 @@ OwnCodes = (k : Kind) (s : List ℕ) → readRecord (codeOf k) s ≡ ofKind k s
 -- what was consumed lies in the value, so that the rest is what stands behind it
 abbrev pub Inside : Type 0
 Inside = (code : ℕ) (s : List ℕ) (x : RecordRead) → readRecord code s ≡ gives x → x .consumed ≤ length s
+
+-- everything that is claimed of this crate
+pub record Claims : Type 0 where
+  pub firmness : Firmness
+  pub own-codes : OwnCodes
+  pub inside : Inside
