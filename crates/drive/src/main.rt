@@ -1,25 +1,16 @@
 // Answers the commands on standard input, a line each, through the library's public calls (oracle/COMMANDS.md). It is held against the original
 // by oracle/run, and against a kept list of the original's answers whenever it is checked.
-mod events;
-mod fields;
-mod parse;
-mod payloads;
-mod pushes;
-mod show;
-mod singles;
-
+use answer_lines::Text;
 use libc::STDIN_FILENO;
-use pushes::Served;
-use show::Text;
 use stations::Stations;
 use table::STORE_SIZE;
-use table::Table;
+use table_commands::Served;
+ghost use Prim.Native.Nat.{_≤_};
 ghost use Rattle.pushing.specs.Made.{Made};
 
-// The table, where the text of answers ends, what of the input is still to be answered, from `at` to `have`, and whether it has ended and all is done.
+// The table and where the text of answers ends, what of the input is still to be answered, from `at` to `have`, and whether it has ended and all is done.
 struct State {
-    table: Table,
-    used: usize,
+    served: Served,
     at: usize,
     have: usize,
     ended: bool,
@@ -39,19 +30,102 @@ struct Filled {
     ended: bool,
 }
 
-// One line answered from the bytes that it gives; where the text then ends.
-fn answer(line: &[u8], bytes: &[u8], out: &mut Bytes, text: &mut Text, used: usize) -> usize {
-    let letter = parse::byte_at(line, 0);
-    match letter {
-        b'k' | b'g' | b'd' | b'D' | b'l' => payloads::answer(letter, line, bytes, text, used),
-        b'w' | b's' | b'f' => singles::answer_written(letter, line, bytes, out, text, used),
-        _ => singles::answer_read(letter, line, bytes, text, used),
+// Which field of a line has the bytes of its command; 0 where the letter is no command's.
+fn field_of_bytes(letter: u8) -> usize {
+    let of_kinds = kind_commands::field_of_bytes(letter);
+    if 0 < of_kinds {
+        return of_kinds;
+    }
+    let of_payloads = payload_commands::field_of_bytes(letter);
+    if 0 < of_payloads {
+        return of_payloads;
+    }
+    let of_table = table_commands::field_of_bytes(letter);
+    if 0 < of_table {
+        return of_table;
+    }
+    station_commands::field_of_bytes(letter)
+}
+
+// One line answered that is not about the table of fragments; where the text then ends. A letter that is no command's is told so.
+fn answer(
+    line: &[u8],
+    bytes: &[u8],
+    out: &mut Bytes,
+    held: &mut Stations,
+    text: &mut Text,
+    used: usize,
+) -> usize {
+    let letter = command_lines::byte_at(line, 0);
+    if 0 < kind_commands::field_of_bytes(letter) {
+        return kind_commands::answer(line, bytes, out, text, used);
+    }
+    if 0 < payload_commands::field_of_bytes(letter) {
+        return payload_commands::answer(line, bytes, text, used);
+    }
+    if 0 < station_commands::field_of_bytes(letter) {
+        return station_commands::answer(held, line, bytes, text, used);
+    }
+    answer_lines::put(text, used, b"bad")
+}
+
+// One line answered, with the table of fragments as it is then.
+fn turn(
+    s: Served,
+    line: &[u8],
+    bytes: &[u8],
+    out: &mut Bytes,
+    store: &mut Store,
+    held: &mut Stations,
+    text: &mut Text,
+) -> Served
+    requires { ⌜ Made (s .table) ⌝ }
+    ensures { λ r. ⌜ Made (r .table) ⌝ }
+{
+    let letter = command_lines::byte_at(line, 0);
+    if 0 < table_commands::field_of_bytes(letter) {
+        return table_commands::answer(s, line, bytes, out, store, text);
+    }
+    let t = s.table;
+    Served {
+        table: t,
+        used: answer(line, bytes, out, held, text, s.used),
     }
 }
 
-// Moves what is not answered yet to the start, and reads more behind it.
+// The bytes that the line gives are read, and the line is answered, with its end, where the text has room.
+fn answered(
+    s: Served,
+    line: &[u8],
+    data: &mut Bytes,
+    out: &mut Bytes,
+    store: &mut Store,
+    held: &mut Stations,
+    text: &mut Text,
+) -> Served
+    requires { ⌜ Made (s .table) ⌝ }
+    ensures { λ r. ⌜ Made (r .table) ⌝ }
+{
+    let t = s.table;
+    let with_room = Served {
+        table: t,
+        used: answer_lines::with_room(text, s.used),
+    };
+    let field = field_of_bytes(command_lines::byte_at(line, 0));
+    let n = command_lines::decode_field(line, field, data);
+    let bytes = command_lines::part(data, 0, n);
+    let command = command_lines::command_of(line, n);
+    let served = turn(with_room, command, bytes, out, store, held, text);
+    let after = served.table;
+    Served {
+        table: after,
+        used: answer_lines::put(text, served.used, b"\n"),
+    }
+}
+
+// Moves what is not answered yet to the start, and reads more after it.
 fn fill(input: &mut [u8], at: usize, have: usize) -> Filled {
-    let kept = parse::moved(input, at, have);
+    let kept = command_lines::moved(input, at, have);
     let got = libc::read(STDIN_FILENO, &mut input[kept..]);
     let more = io::count(got, &input[kept..]);
     Filled {
@@ -60,95 +134,16 @@ fn fill(input: &mut [u8], at: usize, have: usize) -> Filled {
     }
 }
 
-// The letters of the table's commands.
-fn is_of_table(letter: u8) -> bool {
-    match letter {
-        b'z' | b'p' | b'v' | b'c' => true,
-        _ => false,
-    }
-}
-
-// One line answered, with the table of fragments as it is then.
-fn turn(
-    t: Table,
-    line: &[u8],
-    bytes: &[u8],
-    out: &mut Bytes,
-    store: &mut Store,
-    held: &mut Stations,
-    text: &mut Text,
-    before: usize,
-) -> Served
-    requires { ⌜ Made t ⌝ }
-    ensures { λ r. ⌜ Made (r .table) ⌝ }
-{
-    let used = show::with_room(text, before);
-    let letter = parse::byte_at(line, 0);
-    if is_of_table(letter) {
-        return pushes::answer(t, line, bytes, out, store, text, used);
-    }
-    if events::is_of_stations(letter) {
-        return Served {
-            table: t,
-            used: events::answer(held, line, bytes, text, used),
-        };
-    }
-    Served {
-        table: t,
-        used: answer(line, bytes, out, text, used),
-    }
-}
-
-// Answers the line that stands there up to `end`.
-fn answered(
-    s: State,
-    end: usize,
-    input: &Input,
-    data: &mut Bytes,
-    out: &mut Bytes,
-    store: &mut Store,
-    held: &mut Stations,
-    text: &mut Text,
-) -> State
-    requires { ⌜ Made (s .table) ⌝ }
-    ensures { λ r. ⌜ Made (r .table) ⌝ }
-{
-    let t = s.table;
-    let line = parse::line_in(input, s.at, end);
-    let n = parse::decode_line(line, data);
-    let command = parse::command_of(line, n);
-    let served = turn(
-        t,
-        command,
-        parse::part(data, 0, n),
-        out,
-        store,
-        held,
-        text,
-        s.used,
-    );
-    let after = served.table;
-    State {
-        table: after,
-        used: show::put(text, served.used, b"\n"),
-        at: std::num::wrapping_add_usize(end, 1),
-        have: s.have,
-        ended: s.ended,
-        done: false,
-    }
-}
-
 // Reads more; at the input's end it writes out what is left.
 fn supplied(s: State, input: &mut Input, text: &Text) -> State
-    requires { ⌜ Made (s .table) ⌝ }
-    ensures { λ r. ⌜ Made (r .table) ⌝ }
+    requires { ⌜ Made (s .served .table) ⌝ }
+    ensures { λ r. ⌜ Made (r .served .table) ⌝ }
 {
-    let t = s.table;
+    let served = s.served;
     if s.ended {
-        show::flush(text, s.used);
+        answer_lines::flush(text, served.used);
         return State {
-            table: t,
-            used: 0,
+            served,
             at: 0,
             have: 0,
             ended: true,
@@ -157,8 +152,7 @@ fn supplied(s: State, input: &mut Input, text: &Text) -> State
     }
     let filled = fill(input, s.at, s.have);
     State {
-        table: t,
-        used: s.used,
+        served,
         at: 0,
         have: filled.have,
         ended: filled.ended,
@@ -176,12 +170,21 @@ fn step(
     held: &mut Stations,
     text: &mut Text,
 ) -> State
-    requires { ⌜ Made (s .table) ⌝ }
-    ensures { λ r. ⌜ Made (r .table) ⌝ }
+    requires { ⌜ Made (s .served .table) ⌝ }
+    ensures { λ r. ⌜ Made (r .served .table) ⌝ }
 {
-    let end = parse::line_end(input, s.at, s.have);
+    let end = command_lines::line_end(input, s.at, s.have);
     if end < s.have || (s.ended && s.at < s.have) {
-        return answered(s, end, input, data, out, store, held, text);
+        let before = s.served;
+        let line = command_lines::line_in(input, s.at, end);
+        let served = answered(before, line, data, out, store, held, text);
+        return State {
+            served,
+            at: std::num::wrapping_add_usize(end, 1),
+            have: s.have,
+            ended: s.ended,
+            done: false,
+        };
     }
     supplied(s, input, text)
 }
@@ -208,12 +211,11 @@ fn serve(
 
 // Nothing read, nothing answered.
 fn start() -> State
-    ensures { λ r. ⌜ Made (r .table) ⌝ }
+    ensures { λ r. ⌜ Made (r .served .table) ⌝ }
 {
-    let t = pushes::made_fresh();
+    let served = table_commands::start();
     State {
-        table: t,
-        used: 0,
+        served,
         at: 0,
         have: 0,
         ended: false,

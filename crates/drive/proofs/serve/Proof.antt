@@ -5,7 +5,7 @@ use Rattle.drive.proofs.serve.Statement.{statement}
 use Rattle.drive.proofs.serve.Tie as tie
 
 abbrev Inv-loop : tie.InvT-loop
-Inv-loop input₀ data₀ out₀ store₀ held₀ text₀ s₀ turns₀ input «data» out store held text s turns = Made (s .table)
+Inv-loop input₀ data₀ out₀ store₀ held₀ text₀ s₀ turns₀ input «data» out store held text s turns = Made (s .served .table)
 
 abbrev μ-loop : tie.MeasureT-loop
 μ-loop input₀ data₀ out₀ store₀ held₀ text₀ s₀ turns₀ input «data» out store held text s turns = turns

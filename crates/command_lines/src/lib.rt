@@ -1,0 +1,267 @@
+// Reading a command: its fields, numbers, and bytes written as hex pairs and repeats. A line that is too long, or gives too many bytes, counts as an empty
+// one, which is no command. What else is none is answered somehow; none is ever generated.
+ghost use mathlib.Core.Path.{_≡_};
+ghost use Prim.Native.Nat.{_+_, _≤_, _<_, _%_};
+ghost use lib.ListN.{length, getD};
+
+// The longest line, without its end.
+const LONGEST: usize = 32768;
+
+// The most bytes that may come out of a line.
+const MOST: usize = 66000;
+
+// Where the first `b` from `from` on stands; the end where there is none.
+fn place_of(s: &[u8], from: usize, b: u8) -> usize
+    ensures { λ r. ⌜ r ≤ length (now (s .entry)) ⌝ }
+{
+    let mut i = from;
+    while i < s.len() {
+        if s[i] == b {
+            return i;
+        }
+        i += 1;
+    }
+    s.len()
+}
+
+// From a to e; nothing where that is no part of s.
+pub fn part(s: &[u8], a: usize, e: usize) -> &[u8]
+    ensures { λ r. ⌜ (length (now r) ≤ e) × (length (now r) ≤ length (now (s .entry))) ⌝ }
+{
+    if e <= s.len() {
+        if a <= e {
+            return &s[a..e];
+        }
+    }
+    &s[..0]
+}
+
+// The lesser of two.
+pub fn least(a: usize, b: usize) -> usize
+    ensures { λ r. ⌜ (r ≤ a) × (r ≤ b) ⌝ }
+{
+    if a < b { a } else { b }
+}
+
+// The byte at i, 0 past the end.
+pub fn byte_at(s: &[u8], i: usize) -> u8
+    ensures { λ r. ⌜ r ≡ getD (now (s .entry)) i 0 ⌝ }
+{
+    if i < s.len() { s[i] } else { 0 }
+}
+
+// After the next separator.
+fn after(s: &[u8], separator: u8, at: usize) -> usize
+    ensures { λ r. ⌜ r ≤ length (now (s .entry)) ⌝ }
+{
+    let end = place_of(s, at, separator);
+    if end < s.len() { end + 1 } else { end }
+}
+
+// Piece number n, from 0, of what is separated so.
+pub fn piece(s: &[u8], separator: u8, n: usize) -> &[u8]
+    ensures { λ r. ⌜ length (now r) ≤ length (now (s .entry)) ⌝ }
+{
+    let mut at = 0;
+    let mut i = 0;
+    while i < n {
+        at = after(s, separator, at);
+        i += 1;
+    }
+    part(s, at, place_of(s, at, separator))
+}
+
+// How many pieces there are; `-` stands for none.
+pub fn pieces(s: &[u8], separator: u8) -> usize
+    ensures { λ r. ⌜ r ≤ length (now (s .entry)) + 1 ⌝ }
+{
+    if byte_at(s, 0) == b'-' {
+        return 0;
+    }
+    let mut separators: usize = 0;
+    let mut i = 0;
+    while i < s.len() {
+        if s[i] == separator {
+            separators += 1;
+        }
+        i += 1;
+    }
+    separators + 1
+}
+
+// Field number n of a line, from 0.
+pub fn field(line: &[u8], n: usize) -> &[u8]
+    ensures { λ r. ⌜ length (now r) ≤ length (now (line .entry)) ⌝ }
+{
+    piece(line, b' ', n)
+}
+
+// A number that does not fit is the greatest that does.
+fn with_digit(n: u64, digit: u8) -> u64 {
+    let last = std::num::wrapping_sub_u8(digit, b'0') as u64;
+    if n <= 1844674407370955161 {
+        if n * 10 <= u64::MAX - last {
+            return n * 10 + last;
+        }
+    }
+    u64::MAX
+}
+
+pub fn number(s: &[u8]) -> u64 {
+    let mut n = 0;
+    let mut i = 0;
+    while i < s.len() {
+        n = with_digit(n, s[i]);
+        i += 1;
+    }
+    n
+}
+
+// The number in field n.
+pub fn number_in(line: &[u8], n: usize) -> u64 {
+    number(field(line, n))
+}
+
+pub fn size_in(line: &[u8], n: usize) -> usize {
+    number_in(line, n) as usize
+}
+
+pub fn byte_of(n: u64) -> u8
+    ensures { λ r. ⌜ r ≡ n % 256 ⌝ }
+{
+    (n % 256) as u8
+}
+
+pub fn u16_of(n: u64) -> u16
+    ensures { λ r. ⌜ r ≡ n % 65536 ⌝ }
+{
+    (n % 65536) as u16
+}
+
+pub fn byte_in(line: &[u8], n: usize) -> u8
+    ensures { λ r. ⌜ r < 256 ⌝ }
+{
+    byte_of(number_in(line, n))
+}
+
+fn digit(c: u8) -> u8
+    ensures { λ r. ⌜ r < 16 ⌝ }
+{
+    if c < b'a' {
+        std::num::wrapping_sub_u8(c, b'0') % 16
+    } else {
+        (c - 87) % 16
+    }
+}
+
+// The byte of two hex digits.
+fn byte_of_pair(high: u8, low: u8) -> u8 {
+    digit(high) * 16 + digit(low)
+}
+
+// The byte of the hex pair number n, from 0; 0 past a line's end.
+pub fn pair(s: &[u8], n: usize) -> u8
+    ensures { λ r. ⌜ r < 256 ⌝ }
+{
+    if n < LONGEST {
+        return byte_of_pair(byte_at(s, n * 2), byte_at(s, n * 2 + 1));
+    }
+    0
+}
+
+// The byte goes in so many times from n on, as far as there is room; where they end.
+fn repeat(buffer: &mut [u8], n: usize, count: usize, b: u8) -> usize
+    requires { ⌜ n ≤ length (now buffer) ⌝ }
+    ensures { λ r. ⌜ r ≤ length (now (buffer .entry)) ⌝ }
+{
+    let more = least(count, buffer.len() - n);
+    let mut i = 0;
+    while i < more {
+        buffer[n + i] = b;
+        i += 1;
+    }
+    n + more
+}
+
+// Puts the bytes of a field at the start of buffer: `-` for none, hex pairs, and repeats `*COUNT:PAIR`. How many there are; bytes that have no room are left out.
+fn decode(s: &[u8], buffer: &mut [u8]) -> usize
+    ensures { λ r. ⌜ r ≤ length (now (buffer .entry)) ⌝ }
+{
+    let mut n = 0;
+    if LONGEST < s.len() {
+        return n;
+    }
+    if byte_at(s, 0) == b'-' {
+        return n;
+    }
+    let mut i = 0;
+    while i < s.len() {
+        if s[i] == b'*' {
+            let colon = place_of(s, i, b':');
+            if colon <= i {
+                return n;
+            }
+            let b = byte_of_pair(byte_at(s, colon + 1), byte_at(s, colon + 2));
+            n = repeat(buffer, n, number(part(s, i + 1, colon)) as usize, b);
+            i = colon + 3;
+        } else {
+            n = repeat(buffer, n, 1, byte_of_pair(s[i], byte_at(s, i + 1)));
+            i += 2;
+        }
+    }
+    n
+}
+
+// Puts the bytes of field n at the start of buffer; how many there are.
+pub fn decode_field(line: &[u8], n: usize, buffer: &mut [u8]) -> usize
+    ensures { λ r. ⌜ r ≤ length (now (buffer .entry)) ⌝ }
+{
+    decode(field(line, n), buffer)
+}
+
+// The line from a to e; an empty one where it is too long.
+pub fn line_in(input: &[u8], a: usize, e: usize) -> &[u8]
+    ensures { λ r. ⌜ length (now r) ≤ 32768 ⌝ }
+{
+    let line = part(input, a, e);
+    if LONGEST < line.len() {
+        return &line[..0];
+    }
+    line
+}
+
+// A line that gives n bytes; an empty one where those are too many.
+pub fn command_of(line: &[u8], n: usize) -> &[u8]
+    ensures { λ r. ⌜ length (now r) ≤ length (now (line .entry)) ⌝ }
+{
+    if MOST < n {
+        return &line[..0];
+    }
+    line
+}
+
+// Where the line ends that starts at `at`, of the first `have` bytes; `have` where its end is not among them.
+pub fn line_end(input: &[u8], at: usize, have: usize) -> usize
+    ensures { λ r. ⌜ r ≤ have ⌝ }
+{
+    place_of(part(input, 0, have), at, b'\n')
+}
+
+// Moves the bytes from a to e to the start, of a line that is too long only so many as show that; how many they are.
+pub fn moved(s: &mut [u8], a: usize, e: usize) -> usize
+    ensures { λ r. ⌜ r ≤ length (now (s .entry)) ⌝ }
+{
+    if s.len() < e {
+        return 0;
+    }
+    if e < a {
+        return 0;
+    }
+    let n = least(LONGEST + 1, e - a);
+    let mut i = 0;
+    while i < n {
+        s[i] = s[a + i];
+        i += 1;
+    }
+    n
+}

@@ -1,0 +1,67 @@
+// The commands that write: w, s and f.
+use answer_lines::Text;
+use framing::Written;
+use kinds::KindRead;
+ghost use Prim.Native.Nat.{_≤_};
+
+// f: no record is of the kind that the line names.
+fn is_unknown(line: &[u8]) -> bool {
+    if command_lines::byte_at(line, 0) == b'f' {
+        return !records::is_record(command_lines::byte_in(line, 1));
+    }
+    false
+}
+
+// s: a value written as it was read, a record from the record, a list from its bytes.
+fn rewrite(code: u8, bytes: &[u8], out: &mut [u8]) -> Written {
+    match kinds::read_kind(code, bytes) {
+        KindRead::Record {
+            record,
+            consumed: _,
+            rest: _,
+        } => record_writing::write_record(record, out),
+        KindRead::Refused(refusal) => Written::Refused(refusal),
+        _ => kinds::write_kind(code, bytes, out),
+    }
+}
+
+// w: a TLV of this type and value. f: a record from its fields.
+fn write(line: &[u8], bytes: &[u8], out: &mut [u8]) -> Written {
+    let code = command_lines::byte_in(line, 1);
+    match command_lines::byte_at(line, 0) {
+        b'w' => framing::write_tlv(code, bytes, out),
+        b's' => rewrite(code, bytes, out),
+        _ => record_writing::write_record(record_lines::record_in(code, line), out),
+    }
+}
+
+// What was written: the bytes at the start of the lent buffer.
+fn put(written: Written, out: &[u8], text: &mut Text, used: usize) -> usize
+    ensures { λ r. ⌜ r ≤ 65536 ⌝ }
+{
+    match written {
+        Written::Bytes(size) => {
+            let a = answer_lines::put_ok(text, used);
+            answer_lines::put_shown(text, a, b' ', command_lines::part(out, 0, size))
+        }
+        Written::Refused(refusal) => answer_lines::put_refused(text, used, refusal),
+    }
+}
+
+// One line answered: what was written, into so much room. A record of no kind is told so.
+pub(crate) fn answer(
+    line: &[u8],
+    bytes: &[u8],
+    out: &mut [u8],
+    text: &mut Text,
+    used: usize,
+) -> usize
+    ensures { λ r. ⌜ r ≤ 65536 ⌝ }
+{
+    if is_unknown(line) {
+        return answer_lines::put(text, used, b"bad");
+    }
+    let room = command_lines::least(command_lines::size_in(line, 2), out.len());
+    let written = write(line, bytes, &mut out[0..room]);
+    put(written, out, text, used)
+}

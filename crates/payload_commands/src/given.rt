@@ -1,0 +1,41 @@
+// The command l: find over a list that the command gives.
+use crate::found;
+use crate::listing;
+use answer_lines::Text;
+use walking::Tlv;
+ghost use Prim.Native.Nat.{_≤_};
+
+fn number_of(record: &[u8], n: usize) -> u64 {
+    command_lines::number(command_lines::piece(record, b':', n))
+}
+
+// The record of `TYPE:OFFSET:LENGTH`.
+fn tlv_of(record: &[u8]) -> Tlv {
+    Tlv {
+        tlv_type: command_lines::byte_of(number_of(record, 0)),
+        length: command_lines::u16_of(number_of(record, 2)),
+        offset: number_of(record, 1) as usize,
+    }
+}
+
+// The records, of which there are 40 at most.
+fn list_of(records: &[u8]) -> [Tlv; 40] {
+    let mut tlvs = listing::empty();
+    let count = command_lines::least(command_lines::pieces(records, b','), 40);
+    let mut i = 0;
+    while i < count {
+        tlvs[i] = tlv_of(command_lines::piece(records, b',', i));
+        i += 1;
+    }
+    tlvs
+}
+
+// l: the first readable record of the kind.
+pub(crate) fn first(records: &[u8], payload: &[u8], code: u8, text: &mut Text, used: usize) -> usize
+    ensures { λ r. ⌜ r ≤ 65536 ⌝ }
+{
+    let list = list_of(records);
+    let listed = listing::walk_and_find(list, &payload[..0], payload, code);
+    let answer = listed.found;
+    found::put_hit(found::hit_of(answer), payload, text, used)
+}

@@ -1,0 +1,33 @@
+// The commands over the TLVs of a payload: k and g, which walk, and d, D and l, which find.
+mod found;
+mod given;
+mod listing;
+mod walked;
+
+use answer_lines::Text;
+ghost use Prim.Native.Nat.{_≤_};
+
+// Which field of a line has the payload of these commands; 0 for a letter that is none of theirs.
+pub fn field_of_bytes(letter: u8) -> usize
+    ensures { λ r. ⌜ r ≤ 3 ⌝ }
+{
+    match letter {
+        b'k' | b'g' => 1,
+        b'd' | b'D' => 2,
+        b'l' => 3,
+        _ => 0,
+    }
+}
+
+// One line answered from the payload that it gives; where the text then ends.
+pub fn answer(line: &[u8], payload: &[u8], text: &mut Text, used: usize) -> usize
+    ensures { λ r. ⌜ r ≤ 65536 ⌝ }
+{
+    let code = command_lines::byte_in(line, 1);
+    match command_lines::byte_at(line, 0) {
+        b'l' => given::first(command_lines::field(line, 2), payload, code, text, used),
+        b'd' => found::first(payload, code, text, used),
+        b'D' => found::every(payload, code, text, used),
+        _ => walked::walk(payload, text, used),
+    }
+}

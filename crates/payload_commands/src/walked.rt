@@ -1,0 +1,126 @@
+// The commands of the walk: k and g.
+use crate::listing;
+use answer_lines::Text;
+use walking::Tlv;
+use walking::Walked;
+ghost use Prim.Native.Nat.{_≤_};
+
+// The TLVs of a payload from one on, 40 at most, and where the next one stands: at the payload's end, padding and all, if there is none.
+struct Part {
+    tlvs: [Tlv; 40],
+    count: usize,
+    end: usize,
+}
+
+// The TLVs of these bytes, of which there are 40 at most.
+fn part_of(bytes: &[u8]) -> Part {
+    let listed = listing::walk_and_find(listing::empty(), bytes, bytes, 0);
+    let tlvs = listed.tlvs;
+    let walked = listed.walked;
+    match walked {
+        Walked::Count { count, padding: _ } => Part {
+            tlvs,
+            count,
+            end: bytes.len(),
+        },
+        Walked::Refused { refusal: _, at } => Part {
+            tlvs,
+            count: 0,
+            end: at,
+        },
+    }
+}
+
+// The first 40 TLVs of these bytes, or all: a list that is too short is refused with the offset of the first TLV without a place.
+fn first_part(bytes: &[u8]) -> Part {
+    let all = part_of(bytes);
+    if all.end < bytes.len() {
+        return part_of(command_lines::part(bytes, 0, all.end));
+    }
+    all
+}
+
+fn put_tlv(t: Tlv, text: &mut Text, used: usize) -> usize
+    ensures { λ r. ⌜ r ≤ 65536 ⌝ }
+{
+    let a = answer_lines::put_next(text, used, t.tlv_type as u64);
+    let b = answer_lines::put_after(text, a, b':', t.offset as u64);
+    answer_lines::put_after(text, b, b':', t.length as u64)
+}
+
+// Each TLV with type, offset and length.
+fn put_part(p: Part, text: &mut Text, used: usize) -> usize
+    requires { ⌜ used ≤ 65536 ⌝ }
+    ensures { λ r. ⌜ r ≤ 65536 ⌝ }
+{
+    let count = command_lines::least(p.count, 40);
+    let mut end = used;
+    let mut i = 0;
+    while i < count {
+        let t = p.tlvs[i];
+        end = put_tlv(t, text, end);
+        i += 1;
+    }
+    end
+}
+
+fn sum_tlv(sum: u64, t: Tlv, from: usize) -> u64 {
+    let offset = std::num::wrapping_add_usize(from, t.offset);
+    answer_lines::sum_two(
+        answer_lines::sum_four(answer_lines::sum_byte(sum, t.tlv_type), offset),
+        t.length as usize,
+    )
+}
+
+// The checksum goes on over the TLVs of a part that starts at `from`.
+fn sum_part(sum: u64, p: Part, from: usize) -> u64 {
+    let count = command_lines::least(p.count, 40);
+    let mut all = sum;
+    let mut i = 0;
+    while i < count {
+        let t = p.tlvs[i];
+        all = sum_tlv(all, t, from);
+        i += 1;
+    }
+    all
+}
+
+// The checksum over all TLVs, of which there are so many.
+fn sum_all(data: &[u8], count: usize) -> u64 {
+    let mut sum = answer_lines::NOTHING;
+    let mut from = 0;
+    let mut i = 0;
+    while i < count {
+        let p = first_part(command_lines::part(data, from, data.len()));
+        sum = sum_part(sum, p, from);
+        from = std::num::wrapping_add_usize(from, p.end);
+        if p.count < 40 {
+            return sum;
+        }
+        i += 1;
+    }
+    sum
+}
+
+// How many TLVs there are, how long the padding is, and each TLV of a few, or the checksum over many.
+fn put_all(data: &[u8], count: usize, padding: usize, text: &mut Text, used: usize) -> usize
+    ensures { λ r. ⌜ r ≤ 65536 ⌝ }
+{
+    let a = answer_lines::put_ok(text, used);
+    let b = answer_lines::put_next(text, a, count as u64);
+    let c = answer_lines::put_next(text, b, padding as u64);
+    if count <= 16 {
+        return put_part(first_part(data), text, c);
+    }
+    answer_lines::put_sum(text, c, b' ', sum_all(data, count))
+}
+
+// k, g: a payload walked to its message's end, counted and listed.
+pub(crate) fn walk(data: &[u8], text: &mut Text, used: usize) -> usize
+    ensures { λ r. ⌜ r ≤ 65536 ⌝ }
+{
+    match walking::walk(data) {
+        Walked::Count { count, padding } => put_all(data, count, padding, text, used),
+        Walked::Refused { refusal, at } => answer_lines::put_refused_at(text, used, refusal, at),
+    }
+}
