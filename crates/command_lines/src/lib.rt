@@ -3,6 +3,7 @@
 ghost use mathlib.Core.Path.{_≡_};
 ghost use Prim.Native.Nat.{_+_, _≤_, _<_, _%_};
 ghost use lib.ListN.{length, getD};
+ghost use Rattle.command_lines.specs.Decimal.{withDigit, numberOf};
 
 // The longest line, without its end.
 const LONGEST: usize = 32768;
@@ -97,7 +98,9 @@ pub fn field(line: &[u8], n: usize) -> &[u8]
 }
 
 // A number that does not fit is the greatest that does.
-fn with_digit(n: u64, digit: u8) -> u64 {
+fn with_digit(n: u64, digit: u8) -> u64
+    ensures { λ r. ⌜ r ≡ withDigit n digit ⌝ }
+{
     let last = std::num::wrapping_sub_u8(digit, b'0') as u64;
     if n <= 1844674407370955161 {
         if n * 10 <= u64::MAX - last {
@@ -107,7 +110,9 @@ fn with_digit(n: u64, digit: u8) -> u64 {
     u64::MAX
 }
 
-pub fn number(s: &[u8]) -> u64 {
+pub fn number(s: &[u8]) -> u64
+    ensures { λ r. ⌜ r ≡ numberOf (now (s .entry)) ⌝ }
+{
     let mut n = 0;
     let mut i = 0;
     while i < s.len() {
