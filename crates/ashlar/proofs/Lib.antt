@@ -1,5 +1,1 @@
-pub mod Measured
-pub mod Parts
-pub mod Shown
-pub mod Stations
 pub mod Claims

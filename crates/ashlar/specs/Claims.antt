@@ -1,72 +1,69 @@
 -- What is claimed of the exported calls; proofs/Claims.antt proves it.
 use mathlib.Core.Path.{_≡_}
-use mathlib.Core.Bool.{Bool, cond}
+use mathlib.Core.Bool.{Bool}
 use mathlib.Core.List.{List, [], _∷_}
 use Prim.Native.Nat.{ℕ}
-use lib.ListN.{length, take, drop}
-use Rattle.numbers.specs.Numbers.{Answer, mapped}
+use lib.ListN.{length}
+use Rattle.numbers.specs.Numbers.{mapped}
 use Rattle.numbers.specs.Firmness.{Firm}
 use Rattle.framing.specs.Cmdu.{readHeader}
 use Rattle.walking.specs.declared.Tlv.{Tlv}
 use Rattle.walking.specs.Walk.{walkOf, counted, listed, filled}
 use Rattle.kinds.specs.Kinds.{readKind, locateTextIn}
 use Rattle.finding.specs.Finding.{findFrom}
-use Rattle.layouts.specs.Access.{Span, partOf}
 use Rattle.texts.specs.Access.{locateRadio, locateRadioText}
 use Rattle.table.specs.declared.Table.{Table}
 use Rattle.table.specs.Rows.{freshTable}
 use Rattle.sweeping.specs.Sweep.{swept, sweptAs}
 use Rattle.pushing.specs.declared.Arrival.{Arrival}
-use Rattle.pushing.specs.Push.{PushAnswer, way}
-use Rattle.pushing.specs.Show.{shown}
-use Rattle.ashlar.specs.declared.AshlarWalk.{AshlarWalk}
-use Rattle.ashlar.specs.declared.AshlarPart.{AshlarPart}
-use Rattle.ashlar.specs.declared.AshlarPushed.{AshlarPushed}
-use Rattle.ashlar.specs.declared.AshlarShown.{AshlarShown}
-use Rattle.ashlar.specs.Numbers.{headerNumbers, walkNumbers, kindNumbers, foundNumbers, partNumbers, pushNumbers, Numbered, shownIn}
+use Rattle.pushing.specs.Push.{way}
+use Rattle.c_answers.specs.declared.AshlarWalk.{AshlarWalk}
+use Rattle.c_answers.specs.declared.AshlarPushed.{AshlarPushed}
+use Rattle.c_answers.specs.Numbers.{headerNumbers, walkNumbers, kindNumbers, foundNumbers, partNumbers, Numbered, shownIn}
 use Rattle.records.specs.declared.MacAddr.{MacAddr}
 use Rattle.stations.specs.Addresses.{numberOf}
+use Rattle.stations.specs.Whereabouts.{eventOf}
 use Rattle.stations.specs.Rows.{Stations, freshStations, whereOf, answerTo, tableAfter, rowAt, countOf, whereShown, rowShown}
 use Rattle.stations.specs.Events.{answerFrom, tableFrom}
-use Rattle.ashlar.specs.declared.AshlarHeard.{AshlarHeard}
-use Rattle.ashlar.specs.declared.AshlarApplied.{AshlarApplied}
-use Rattle.ashlar.specs.Stations.{eventWith, eventNumbers, appliedNumbers, whereNumbers, rowNumbers}
+use Rattle.c_stations.specs.declared.AshlarHeard.{AshlarHeard}
+use Rattle.c_stations.specs.declared.AshlarApplied.{AshlarApplied}
+use Rattle.c_stations.specs.Numbers.{associationWith, eventNumbers, appliedNumbers, whereNumbers, rowNumbers}
 
--- each call by its name: any two answers that its contract allows, with what the call leaves in the list, the tables, the store and the output, are one
+-- each call by its name: any two answers that its contract allows, with what the call leaves in the list, the tables,
+-- the store and the output, are one
 pub record Firmness : Type 0 where
   pub ashlar-read-header : (bytes : List ℕ) → Firm (λ r. r ≡ headerNumbers (readHeader bytes))
   pub ashlar-walk : (payload : List ℕ) → Firm (λ r. r ≡ walkNumbers (counted (walkOf payload)))
   pub ashlar-walk-into : (list : List Tlv) (payload : List ℕ)
-      → Firm {A = AshlarWalk × List Tlv} (λ o. (o .0 ≡ walkNumbers (listed (length list) (walkOf payload))) × (o .1 ≡ filled (listed (length list) (walkOf payload)) (walkOf payload .tlvs) list))
+      → Firm {A = AshlarWalk × List Tlv} (λ o.
+      (o .0 ≡ walkNumbers (listed (length list) (walkOf payload)))
+      × (o .1 ≡ filled (listed (length list) (walkOf payload)) (walkOf payload .tlvs) list))
   pub ashlar-read-kind : (code : ℕ) (value : List ℕ) → Firm (λ r. r ≡ kindNumbers (readKind code value))
-  pub ashlar-find : (list : List Tlv) (payload : List ℕ) (code from : ℕ) → Firm (λ r. r ≡ foundNumbers (mapped (λ h. h .place) (findFrom code list payload from)))
+  pub ashlar-find : (list : List Tlv) (payload : List ℕ) (code from : ℕ)
+      → Firm (λ r. r ≡ foundNumbers (mapped (λ h. h .place) (findFrom code list payload from)))
   pub ashlar-text : (code number : ℕ) (value : List ℕ) → Firm (λ r. r ≡ partNumbers (locateTextIn code number value))
   pub ashlar-radio : (number : ℕ) (value : List ℕ) → Firm (λ r. r ≡ partNumbers (locateRadio 0xD4 (number ∷ []) value))
   pub ashlar-radio-text : (number : ℕ) (value : List ℕ) → Firm (λ r. r ≡ partNumbers (locateRadioText number value))
   pub ashlar-fresh : Firm (λ r. r ≡ freshTable)
   pub ashlar-push : (t : Table) (store out : List ℕ) (a : Arrival) (payload : List ℕ)
-      → Firm {A = AshlarPushed × Table × List ℕ × List ℕ} (λ o. Numbered (way t store a payload (length out)) t store out a payload (o .0) (o .1) (o .2) (o .3))
-  pub ashlar-show : (pushed : AshlarPushed) (payload out : List ℕ) → Firm (λ r. r ≡ shownIn pushed (length payload) (length out))
+      → Firm {A = AshlarPushed × Table × List ℕ × List ℕ} (λ o.
+      Numbered (way t store a payload (length out)) t store out a payload (o .0) (o .1) (o .2) (o .3))
+  pub ashlar-show : (pushed : AshlarPushed) (payload out : List ℕ)
+      → Firm (λ r. r ≡ shownIn pushed (length payload) (length out))
   pub ashlar-sweep : (t : Table) (time : ℕ) → Firm {A = ℕ × Table} (λ o. sweptAs (o .1) (o .0) ≡ swept t time)
   pub ashlar-stations-fresh : Firm {A = Stations} (λ t′. t′ ≡ freshStations)
   pub ashlar-station-event : (t : Stations) (station point : MacAddr) (joined : Bool)
-      → Firm {A = AshlarHeard × Stations} (λ o. (o .0 ≡ eventNumbers (answerTo t (eventWith station point joined))) × (o .1 ≡ tableAfter t (eventWith station point joined)))
+      → Firm {A = AshlarHeard × Stations} (λ o.
+      (o .0 ≡ eventNumbers (answerTo t (eventOf (associationWith station point joined))))
+      × (o .1 ≡ tableAfter t (eventOf (associationWith station point joined))))
   pub ashlar-station-event-from : (t : Stations) (value : List ℕ)
-      → Firm {A = AshlarApplied × Stations} (λ o. (o .0 ≡ appliedNumbers (length value) (answerFrom t value)) × (o .1 ≡ tableFrom t value))
-  pub ashlar-station-at : (t : Stations) (station : MacAddr) → Firm (λ r. r ≡ whereNumbers (whereShown (whereOf t (numberOf station))))
+      → Firm {A = AshlarApplied × Stations} (λ o.
+      (o .0 ≡ appliedNumbers (length value) (answerFrom t value)) × (o .1 ≡ tableFrom t value))
+  pub ashlar-station-at : (t : Stations) (station : MacAddr)
+      → Firm (λ r. r ≡ whereNumbers (whereShown (whereOf t (numberOf station))))
   pub ashlar-station-count : (t : Stations) → Firm (λ r. r ≡ countOf t)
   pub ashlar-station-row : (t : Stations) (n : ℕ) → Firm (λ r. r ≡ rowNumbers (rowShown (rowAt t n)))
 
--- The part that an answer of `ashlar_show` names is the one that the table's own showing call returns.
-abbrev pub messageIn : AshlarShown → List ℕ → List ℕ → List ℕ
-messageIn s payload out = take (s .length) (cond (s .«in_output») out payload)
-
-abbrev pub ShowsTheMessage : Type 0
-ShowsTheMessage = (h : Answer PushAnswer) (payload out : List ℕ) → messageIn (shownIn (pushNumbers h) (length payload) (length out)) payload out ≡ shown h payload out
-
--- The part that an answer of `ashlar_text`, `ashlar_radio` or `ashlar_radio_text` names is the one that the layer's own call returns.
-abbrev pub partIn : AshlarPart → List ℕ → List ℕ
-partIn p value = take (p .length) (drop (p .start) value)
-
-abbrev pub NamesThePart : Type 0
-NamesThePart = (x : Answer Span) (value : List ℕ) → partIn (partNumbers x) value ≡ partOf x value
+-- everything that is claimed of this crate
+pub record Claims : Type 0 where
+  pub firmness : Firmness

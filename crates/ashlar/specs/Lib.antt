@@ -1,4 +1,1 @@
-pub mod Numbers
-pub mod Stations
-pub mod PrivateParts
 pub mod Claims

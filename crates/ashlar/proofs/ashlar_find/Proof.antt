@@ -47,14 +47,14 @@ use Rattle.finding.proofs.find_place as callee
 use Rattle.finding.proofs.find_place.Symbol as callee-def
 use Rattle.finding.proofs.find_place.Symbol.{name as #callee}
 use Rattle.finding.proofs.find_place.Met as callee-thm
-use Rattle.ashlar.specs.declared.AshlarFound.{AshlarFound}
-use Rattle.ashlar.specs.Numbers.{foundNumbers}
-use Rattle.ashlar.proofs.AshlarFound as N
-use Rattle.ashlar.proofs.AshlarFound.Laws as N′
-use Rattle.ashlar.proofs.found_numbers as num
-use Rattle.ashlar.proofs.found_numbers.Symbol as num-def
-use Rattle.ashlar.proofs.found_numbers.Symbol.{name as #num}
-use Rattle.ashlar.proofs.found_numbers.Met as num-thm
+use Rattle.c_answers.specs.declared.AshlarFound.{AshlarFound}
+use Rattle.c_answers.specs.Numbers.{foundNumbers}
+use Rattle.c_answers.proofs.AshlarFound as N
+use Rattle.c_answers.proofs.AshlarFound.Laws as N′
+use Rattle.c_answers.proofs.found_numbers as num
+use Rattle.c_answers.proofs.found_numbers.Symbol as num-def
+use Rattle.c_answers.proofs.found_numbers.Symbol.{name as #num}
+use Rattle.c_answers.proofs.found_numbers.Met as num-thm
 use Rattle.ashlar.proofs.ashlar_find.Key.{name as #f}
 use Rattle.ashlar.proofs.ashlar_find as f
 use Rattle.ashlar.proofs.ashlar_find.Statement as stated
@@ -173,4 +173,4 @@ ashlar-find-spec 𝓤 H 𝓜 𝓖 𝓡 =
     (tables 𝓤 H 𝓜 𝓡 code.env .C) (tables 𝓤 H 𝓜 𝓡 code.env .Λ) #f code.function (code.unfolded 𝓤 H 𝓜 𝓡)
     (f-meets 𝓤 H (𝓖 .A) (givenOf 𝓤 H 𝓜 𝓖) (𝓜 .mem) (𝓡 .run) (tablesOf 𝓤 H 𝓜 (tables 𝓤 H 𝓜 𝓡 code.env))
     (cited 𝓤 H (Callee 𝓤 H (𝓖 .A) (𝓜 .mem) (𝓡 .run)) 𝓜 𝓡 code.env #callee callee-def.routine code.calls-finding·find-place (callee-thm.met 𝓤 H 𝓜 𝓖 𝓡))
-    (cited 𝓤 H (Num 𝓤 H (𝓖 .A) (𝓜 .mem) (𝓡 .run)) 𝓜 𝓡 code.env #num num-def.routine code.calls-ashlar·found-numbers (num-thm.met 𝓤 H 𝓜 𝓖 𝓡)))
+    (cited 𝓤 H (Num 𝓤 H (𝓖 .A) (𝓜 .mem) (𝓡 .run)) 𝓜 𝓡 code.env #num num-def.routine code.calls-c-answers·found-numbers (num-thm.met 𝓤 H 𝓜 𝓖 𝓡)))

@@ -51,14 +51,14 @@ use Rattle.reassembler.proofs.push as callee
 use Rattle.reassembler.proofs.push.Symbol as callee-def
 use Rattle.reassembler.proofs.push.Symbol.{name as #callee}
 use Rattle.reassembler.proofs.push.Met as callee-thm
-use Rattle.ashlar.specs.declared.AshlarPushed.{AshlarPushed}
-use Rattle.ashlar.specs.Numbers.{pushNumbers}
-use Rattle.ashlar.proofs.AshlarPushed as N
-use Rattle.ashlar.proofs.AshlarPushed.Laws as N′
-use Rattle.ashlar.proofs.push_numbers as num
-use Rattle.ashlar.proofs.push_numbers.Symbol as num-def
-use Rattle.ashlar.proofs.push_numbers.Symbol.{name as #num}
-use Rattle.ashlar.proofs.push_numbers.Met as num-thm
+use Rattle.c_answers.specs.declared.AshlarPushed.{AshlarPushed}
+use Rattle.c_answers.specs.Numbers.{pushNumbers}
+use Rattle.c_answers.proofs.AshlarPushed as N
+use Rattle.c_answers.proofs.AshlarPushed.Laws as N′
+use Rattle.c_answers.proofs.push_numbers as num
+use Rattle.c_answers.proofs.push_numbers.Symbol as num-def
+use Rattle.c_answers.proofs.push_numbers.Symbol.{name as #num}
+use Rattle.c_answers.proofs.push_numbers.Met as num-thm
 use Rattle.ashlar.proofs.ashlar_push.Key.{name as #f}
 use Rattle.ashlar.proofs.ashlar_push as f
 use Rattle.ashlar.proofs.ashlar_push.Statement as stated
@@ -131,7 +131,7 @@ module _ {M : Type 1} (𝓤 : URA M) (H : Heap 𝓤) (A : Atoms 𝓤) (W : Given
   exits r z w h′ zs ys e e′ l m =
       qed W ((‵ (flft κ₀ q₀) ⊛ ‵ (flft κ₁ q₁) ⊛ ‵ (flft κ₂ q₂) ⊛ ‵ (flft κ₃ q₃) ⊛ ‵ ftrue) ∷ ‵ (fres γ (T.the-row .coded .code h′)) ∷ ‵ (finally u8 (x .name) zs) ∷ ‵ (finally u8 (y .name) ys) ∷ ‵ (N.the-row .own z (w ∷ [])) ∷ []) ∵
       suffices ! _ (ends-at 𝓤 H A f.ended stayed (f.clauses 𝓤 H A mem run) W ((κs, (q₀, (q₁, (q₂, (q₃, tt)))), tt, a, at), tt) w z (h′, (zs, (ys, (tt, (tt, tt))))) (tt, (l, (m, (tt, (tt, tt)))))) $
-      says ! (record { pushed = r; tells = e′; goes = e }) $ frame ! $
+      says ! (record { pushed = r; crosses = e′; goes = e }) $ frame ! $
       -- [the table's last value; the store's; the output's; the result]
       nothing ! $ nothing ! $ fjoin ! $ nothing ! $ fjoin ! $ move ! (3 ∷ 0 ∷ []) $ fjoin ! $ move ! (2 ∷ 0 ∷ []) $ fjoin ! $ move ! (1 ∷ 0 ∷ []) $ fjoin ! $ frame ! $ done !
 
@@ -191,4 +191,4 @@ ashlar-push-spec 𝓤 H 𝓜 𝓖 𝓡 =
     (tables 𝓤 H 𝓜 𝓡 code.env .C) (tables 𝓤 H 𝓜 𝓡 code.env .Λ) #f code.function (code.unfolded 𝓤 H 𝓜 𝓡)
     (f-meets 𝓤 H (𝓖 .A) (givenOf 𝓤 H 𝓜 𝓖) (𝓜 .mem) (𝓡 .run) (tablesOf 𝓤 H 𝓜 (tables 𝓤 H 𝓜 𝓡 code.env))
     (cited 𝓤 H (Callee 𝓤 H (𝓖 .A) (𝓜 .mem) (𝓡 .run)) 𝓜 𝓡 code.env #callee callee-def.routine code.calls-reassembler·push (callee-thm.met 𝓤 H 𝓜 𝓖 𝓡))
-    (cited 𝓤 H (Num 𝓤 H (𝓖 .A) (𝓜 .mem) (𝓡 .run)) 𝓜 𝓡 code.env #num num-def.routine code.calls-ashlar·push-numbers (num-thm.met 𝓤 H 𝓜 𝓖 𝓡)))
+    (cited 𝓤 H (Num 𝓤 H (𝓖 .A) (𝓜 .mem) (𝓡 .run)) 𝓜 𝓡 code.env #num num-def.routine code.calls-c-answers·push-numbers (num-thm.met 𝓤 H 𝓜 𝓖 𝓡)))

@@ -1,7 +1,7 @@
 -- `ashlar_walk` meets its contract: the numbers of what `walk` answers.
 use mathlib.Core.Path.{ap, _∙_}
-use Rattle.ashlar.specs.Numbers.{walkNumbers}
 use borrow.Author.Needs.{needs}
+use Rattle.c_answers.specs.Numbers.{walkNumbers}
 use Rattle.ashlar.proofs.ashlar_walk.Statement.{statement}
 use Rattle.ashlar.proofs.ashlar_walk.Tie as tie
 

@@ -46,14 +46,14 @@ use Rattle.walking.proofs.walk_into as callee
 use Rattle.walking.proofs.walk_into.Symbol as callee-def
 use Rattle.walking.proofs.walk_into.Symbol.{name as #callee}
 use Rattle.walking.proofs.walk_into.Met as callee-thm
-use Rattle.ashlar.specs.declared.AshlarWalk.{AshlarWalk}
-use Rattle.ashlar.specs.Numbers.{walkNumbers}
-use Rattle.ashlar.proofs.AshlarWalk as N
-use Rattle.ashlar.proofs.AshlarWalk.Laws as N′
-use Rattle.ashlar.proofs.walk_numbers as num
-use Rattle.ashlar.proofs.walk_numbers.Symbol as num-def
-use Rattle.ashlar.proofs.walk_numbers.Symbol.{name as #num}
-use Rattle.ashlar.proofs.walk_numbers.Met as num-thm
+use Rattle.c_answers.specs.declared.AshlarWalk.{AshlarWalk}
+use Rattle.c_answers.specs.Numbers.{walkNumbers}
+use Rattle.c_answers.proofs.AshlarWalk as N
+use Rattle.c_answers.proofs.AshlarWalk.Laws as N′
+use Rattle.c_answers.proofs.walk_numbers as num
+use Rattle.c_answers.proofs.walk_numbers.Symbol as num-def
+use Rattle.c_answers.proofs.walk_numbers.Symbol.{name as #num}
+use Rattle.c_answers.proofs.walk_numbers.Met as num-thm
 use Rattle.ashlar.proofs.ashlar_walk_into.Key.{name as #f}
 use Rattle.ashlar.proofs.ashlar_walk_into as f
 use Rattle.ashlar.proofs.ashlar_walk_into.Statement as stated
@@ -178,4 +178,4 @@ ashlar-walk-into-spec 𝓤 H 𝓜 𝓖 𝓡 =
     (tables 𝓤 H 𝓜 𝓡 code.env .C) (tables 𝓤 H 𝓜 𝓡 code.env .Λ) #f code.function (code.unfolded 𝓤 H 𝓜 𝓡)
     (f-meets 𝓤 H (𝓖 .A) (givenOf 𝓤 H 𝓜 𝓖) (𝓜 .mem) (𝓡 .run) (tablesOf 𝓤 H 𝓜 (tables 𝓤 H 𝓜 𝓡 code.env))
     (cited 𝓤 H (Callee 𝓤 H (𝓖 .A) (𝓜 .mem) (𝓡 .run)) 𝓜 𝓡 code.env #callee callee-def.routine code.calls-walking·walk-into (callee-thm.met 𝓤 H 𝓜 𝓖 𝓡))
-    (cited 𝓤 H (Num 𝓤 H (𝓖 .A) (𝓜 .mem) (𝓡 .run)) 𝓜 𝓡 code.env #num num-def.routine code.calls-ashlar·walk-numbers (num-thm.met 𝓤 H 𝓜 𝓖 𝓡)))
+    (cited 𝓤 H (Num 𝓤 H (𝓖 .A) (𝓜 .mem) (𝓡 .run)) 𝓜 𝓡 code.env #num num-def.routine code.calls-c-answers·walk-numbers (num-thm.met 𝓤 H 𝓜 𝓖 𝓡)))

@@ -1,0 +1,262 @@
+// What the calls about TLVs, kinds and fragments answer, as it crosses to C: plain structs, in document 01's numbers.
+// `refusal` is 0 where nothing is refused.
+use finding::Placed;
+use framing::HeaderRead;
+use kinds::KindSize;
+use layouts::Located;
+use pushing::Pushed;
+use walking::Walked;
+ghost use mathlib.Core.Path.{_≡_};
+ghost use Rattle.framing.specs.Cmdu.{headerOf};
+ghost use Rattle.walking.specs.Walk.{walkedOf};
+ghost use Rattle.kinds.specs.Kinds.{kindSizeOf};
+ghost use Rattle.finding.specs.Finding.{placedOf};
+ghost use Rattle.layouts.specs.Access.{locatedOf};
+ghost use Rattle.pushing.specs.Push.{pushedOf};
+ghost use Rattle.c_answers.specs.Numbers.{headerNumbers, walkNumbers, kindNumbers, foundNumbers, partNumbers, namedAs, pushNumbers, withinOf, shownIn};
+
+// The header of a CMDU, its fields in their order, but for the shortfall: how many bytes are missing, where it is
+// refused. `last` is bit 7 of `flags`.
+#[repr(C)]
+pub struct AshlarHeader {
+    pub shortfall: usize,
+    pub version: u8,
+    pub reserved: u8,
+    pub message_type: u16,
+    pub message_id: u16,
+    pub number: u8,
+    pub flags: u8,
+    pub last: bool,
+    pub refusal: u8,
+}
+
+// How many TLVs a payload has, and how many bytes of padding follow them; where one is refused, its offset, and how
+// many bytes are missing.
+#[repr(C)]
+pub struct AshlarWalk {
+    pub count: usize,
+    pub padding: usize,
+    pub at: usize,
+    pub shortfall: usize,
+    pub refusal: u8,
+}
+
+// How many entries the value's own list has, if its kind is a list's or holds text, whose radios are its list; a record
+// is the first `consumed` bytes of its value.
+#[repr(C)]
+pub struct AshlarKind {
+    pub entries: usize,
+    pub consumed: usize,
+    pub rest: usize,
+    pub is_list: bool,
+    pub refusal: u8,
+}
+
+// The place of the record that was found. What its value reads as is `ashlar_read_kind`'s to say, so that this answer
+// fits two registers.
+#[repr(C)]
+pub struct AshlarFound {
+    pub place: usize,
+    pub refusal: u8,
+}
+
+// Where a part of a value lies, a text or a radio: the bytes from `start` on, so many.
+#[repr(C)]
+pub struct AshlarPart {
+    pub start: usize,
+    pub length: usize,
+    pub refusal: u8,
+}
+
+// What push answers: 1 waiting, 2 duplicated, 3 inconsistent metadata, 4 missing fragments, 5 missing last fragment, 6
+// a message that is the payload itself, 7 a message in the output; 0 where it is refused. `length` is the message's, or
+// the one that refusal 13 gives.
+#[repr(C)]
+pub struct AshlarPushed {
+    pub length: usize,
+    pub answer: u8,
+    pub refusal: u8,
+}
+
+// Where a message lies: in the output, or in the payload that was pushed; its first bytes, so many.
+#[repr(C)]
+pub struct AshlarShown {
+    pub length: usize,
+    pub in_output: bool,
+}
+
+// A CMDU header.
+pub fn header_numbers(read: HeaderRead) -> AshlarHeader
+    ensures { λ r. ⌜ r ≡ headerNumbers (headerOf read) ⌝ }
+{
+    match read {
+        HeaderRead::Header(h) => AshlarHeader {
+            shortfall: 0,
+            version: h.message_version,
+            reserved: h.reserved,
+            message_type: h.message_type,
+            message_id: h.message_id,
+            number: h.fragment,
+            flags: h.flags,
+            last: h.last_fragment,
+            refusal: 0,
+        },
+        HeaderRead::Refused(short) => AshlarHeader {
+            shortfall: numbers::carried_by(short),
+            version: 0,
+            reserved: 0,
+            message_type: 0,
+            message_id: 0,
+            number: 0,
+            flags: 0,
+            last: false,
+            refusal: numbers::number_of(short),
+        },
+    }
+}
+
+// What a walk found, counted or listed.
+pub fn walk_numbers(walked: Walked) -> AshlarWalk
+    ensures { λ r. ⌜ r ≡ walkNumbers (walkedOf walked) ⌝ }
+{
+    match walked {
+        Walked::Count { count, padding } => AshlarWalk {
+            count,
+            padding,
+            at: 0,
+            shortfall: 0,
+            refusal: 0,
+        },
+        Walked::Refused { refusal, at } => AshlarWalk {
+            count: 0,
+            padding: 0,
+            at,
+            shortfall: numbers::carried_by(refusal),
+            refusal: numbers::number_of(refusal),
+        },
+    }
+}
+
+// A typed value, measured alone: its record doesn't cross to C.
+pub fn kind_numbers(size: KindSize) -> AshlarKind
+    ensures { λ r. ⌜ r ≡ kindNumbers (kindSizeOf size) ⌝ }
+{
+    match size {
+        KindSize::Record { consumed, rest } => AshlarKind {
+            entries: 0,
+            consumed,
+            rest,
+            is_list: false,
+            refusal: 0,
+        },
+        KindSize::List {
+            entries,
+            consumed,
+            rest,
+        } => AshlarKind {
+            entries,
+            consumed,
+            rest,
+            is_list: true,
+            refusal: 0,
+        },
+        KindSize::Refused(refusal) => AshlarKind {
+            entries: 0,
+            consumed: 0,
+            rest: 0,
+            is_list: false,
+            refusal: numbers::number_of(refusal),
+        },
+    }
+}
+
+// The place of a record that was looked for.
+pub fn found_numbers(placed: Placed) -> AshlarFound
+    ensures { λ r. ⌜ r ≡ foundNumbers (placedOf placed) ⌝ }
+{
+    match placed {
+        Placed::At(place) => AshlarFound { place, refusal: 0 },
+        Placed::Refused(refusal) => AshlarFound {
+            place: 0,
+            refusal: numbers::number_of(refusal),
+        },
+    }
+}
+
+// A part of a value. One that ended before it starts would have no byte: no call gives such a part.
+pub fn part_numbers(located: Located) -> AshlarPart
+    ensures { λ r. ⌜ r ≡ partNumbers (locatedOf located) ⌝ }
+{
+    match located {
+        Located::Entry { start, end } => AshlarPart {
+            start,
+            length: if start <= end { end - start } else { 0 },
+            refusal: 0,
+        },
+        Located::Refused(refusal) => AshlarPart {
+            start: 0,
+            length: 0,
+            refusal: numbers::number_of(refusal),
+        },
+    }
+}
+
+// An answer of push that is no refusal.
+fn named(answer: u8, length: usize) -> AshlarPushed
+    ensures { λ r. ⌜ r ≡ namedAs answer «length» ⌝ }
+{
+    AshlarPushed {
+        length,
+        answer,
+        refusal: 0,
+    }
+}
+
+// What push answers.
+pub fn push_numbers(pushed: Pushed) -> AshlarPushed
+    ensures { λ r. ⌜ r ≡ pushNumbers (pushedOf pushed) ⌝ }
+{
+    match pushed {
+        Pushed::WaitingForMoreFragments => named(1, 0),
+        Pushed::DuplicatedFragment => named(2, 0),
+        Pushed::InconsistentMetadata => named(3, 0),
+        Pushed::MissingFragments => named(4, 0),
+        Pushed::MissingLastFragment => named(5, 0),
+        Pushed::Single(length) => named(6, length),
+        Pushed::Joined(length) => named(7, length),
+        Pushed::Refused(refusal) => AshlarPushed {
+            length: numbers::carried_by(refusal),
+            answer: 0,
+            refusal: numbers::number_of(refusal),
+        },
+    }
+}
+
+// So many bytes of a slice that has at least these, none of a shorter one.
+fn within(n: usize, room: usize) -> usize
+    ensures { λ r. ⌜ r ≡ withinOf n room ⌝ }
+{
+    if n <= room { n } else { 0 }
+}
+
+// Where the message of an answer lies, in one of the two slices that push was given: they have so many bytes.
+pub fn shown_in(pushed: AshlarPushed, payload_size: usize, out_size: usize) -> AshlarShown
+    ensures { λ r. ⌜ r ≡ shownIn pushed «payload_size» «out_size» ⌝ }
+{
+    if pushed.answer == 7 {
+        return AshlarShown {
+            length: within(pushed.length, out_size),
+            in_output: true,
+        };
+    }
+    if pushed.answer == 6 {
+        return AshlarShown {
+            length: within(pushed.length, payload_size),
+            in_output: false,
+        };
+    }
+    AshlarShown {
+        length: 0,
+        in_output: false,
+    }
+}
