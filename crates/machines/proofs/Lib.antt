@@ -1,4 +1,6 @@
 pub mod Lists
 pub mod Story
 pub mod TwoRuns
+pub mod Happened
 pub mod Both
+pub mod Claims

@@ -1,6 +1,6 @@
--- Two machines side by side: each call is one's or the other's.
-use mathlib.Core.Bool.{Bool}
+-- Two machines side by side: each call is one's or the other's, and leaves the other's state as it was.
 use mathlib.Core.List.{List, [], _∷_}
+use Rattle.machines.specs.Happened.{Outcome}
 
 pub data Either (A B : Type 0) : Type 0 where
   left : A → Either A B
@@ -17,15 +17,10 @@ rights [] = []
 rights (left a ∷ cs) = rights cs
 rights (right b ∷ cs) = b ∷ rights cs
 
--- both machines' states, of which a call alters its own; what it says, and whether it passes its own test
-abbrev pub stepBoth : {S T E F : Type 0} → (S → E → S) → (T → F → T) → S × T → Either E F → S × T
-stepBoth step step′ z (left e) = (step (z .0) e, z .1)
-stepBoth step step′ z (right f) = (z .0, step′ (z .1) f)
-
-abbrev pub sayBoth : {S T E F A B : Type 0} → (S → E → A) → (T → F → B) → S × T → Either E F → Either A B
-sayBoth says says′ z (left e) = left (says (z .0) e)
-sayBoth says says′ z (right f) = right (says′ (z .1) f)
-
-abbrev pub testBoth : {S T E F : Type 0} → (S → E → Bool) → (T → F → Bool) → S × T → Either E F → Bool
-testBoth test test′ z (left e) = test (z .0) e
-testBoth test test′ z (right f) = test′ (z .1) f
+-- calls of both that happened, one after the other, from a state of each to a state of each
+pub data BothHappened {S T C D A B : Type 0} (contract : Outcome S C A → Type 0) (contract′ : Outcome T D B → Type 0) : S × T → List (Either (Outcome S C A) (Outcome T D B)) → S × T → Type 0 where
+  neither : {z : S × T} → BothHappened contract contract′ z [] z
+  one's : {o : Outcome S C A} {t : T} {os : List (Either (Outcome S C A) (Outcome T D B))} {end : S × T} → contract o → BothHappened contract contract′ (o .became, t) os end
+      → BothHappened contract contract′ (o .was, t) (left o ∷ os) end
+  other's : {o : Outcome T D B} {s : S} {os : List (Either (Outcome S C A) (Outcome T D B))} {end : S × T} → contract′ o → BothHappened contract contract′ (s, o .became) os end
+      → BothHappened contract contract′ (s, o .was) (right o ∷ os) end

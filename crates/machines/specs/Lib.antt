@@ -1,2 +1,5 @@
 pub mod Machine
+pub mod Story
+pub mod Happened
 pub mod Both
+pub mod Claims

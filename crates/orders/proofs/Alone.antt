@@ -25,7 +25,7 @@ use Rattle.orders.proofs.Pushing.{Good, Full, no-place, no-row, Outcome
 use Rattle.orders.proofs.Count.{count-all, count-less}
 use Rattle.orders.proofs.Found.{owns, count-held}
 use Rattle.orders.proofs.Locality.{has-room, accepted-room, untouched, own-sweep, local-accepted}
-use Rattle.machines.proofs.Story as Y
+use Rattle.machines.specs.Story.{Echo}
 
 -- a push that was kept found a free place
 kept-free : (t : Table) (store : List ℕ) (p : Push) {w : Way} → Went t store (p .arrival) (p .payload) (p .room) w → shape w ≡ keepAt 0 → lowestFree t < 32
@@ -109,8 +109,8 @@ module _ (long : ℕ) (c : ℕ) where
   stays-lone z (push p) g lone h k ne = untouched long z g k p (λ q. ne (q ∙ eqb-true _ _ (sym (or-false (eqb (p .arrival .key) c)) ∙ h))) ∙ lone k ne
   stays-lone z (sweep time) g lone h k ne = own-sweep long z g k time ∙ ap (λ (v : Holding). cond (due time (v .first)) holdsNothing v) (lone k ne)
 
-  pub echo : Y.Echo (acts long) isAccepted (Good long) (local-accepted long) c (Lone c)
-  echo = record { stays = stays-lone; echoed = echoed }
+  pub echo : Echo (acts long) isAccepted (Good long) c (Lone c)
+  echo = record { stays-lone = stays-lone; echoed = echoed }
 
 -- a fresh table holds nothing
 pub fresh-holds : (store : List ℕ) → Sound freshTable → (k : ℕ) → holding k (start store) ≡ holdsNothing

@@ -2,8 +2,7 @@
 use Rattle.orders.specs.Claims.{Claims}
 use Rattle.orders.proofs.Unfinished.{kept-as-pushed, dropped-unfinished}
 use Rattle.orders.proofs.Orders.{local, sweep-drops, alike, shares-add-up, run-made, told-alone, sweeps-add-up, order-across-keys, swapped}
-use Rattle.orders.proofs.Together.{order-together}
-use Rattle.orders.proofs.Happened.{finished-shown, is-run, order-across-senders, sender-alone, duplicate-untouched}
+use Rattle.orders.proofs.Happened.{finished-shown, is-run, order-across-senders, sender-alone, order-together, duplicate-untouched}
 use Rattle.orders.proofs.Completes.{completes, fresh-completes, completes-among}
 
 pub claims : Claims

@@ -33,6 +33,7 @@ use Rattle.orders.proofs.Alone.{fresh-holds}
 use Rattle.orders.proofs.Count.{count-none, one-fewer, at-most}
 use Rattle.orders.proofs.Completion.{Has, waits, added, completes-as}
 use Rattle.orders.proofs.Orders.{told-alone}
+use Rattle.machines.specs.Story.{viewAfter, answers}
 use Rattle.machines.proofs.Story as Y
 
 -- none is free before the lowest
@@ -97,26 +98,26 @@ module _ (m : Message) (long : ℕ) (store : 47744 ≤ long) (bring : ℕ → Pu
 
   -- the story of the key alone
   abbrev answersOf : Holding → List Call → List Reply
-  answersOf = Y.answers (acts long) (m .key)
+  answersOf = answers (acts long) (m .key)
 
   abbrev viewBehind : Holding → List Call → Holding
-  viewBehind = Y.viewAfter (acts long)
+  viewBehind = viewAfter (acts long)
 
   module _ (room : 1 ≤ m .final → length (whole m) ≤ bring (m .final) .room) where
     gathered-one : (v : Holding) (p : Push) (es : List Call) → p .arrival .key ≡ m .key → answersOf v (push p ∷ es) ≡ answer long v (push p) ∷ answersOf (tell long v (push p)) es
-    unfolding Y.answers
+    unfolding answers
     gathered-one v p es e = rw (eq-eqb (p .arrival .key) (m .key) e)
 
     gathered-none : (v : Holding) → answersOf v [] ≡ []
-    unfolding Y.answers
+    unfolding answers
     gathered-none v = refl
 
     view-one : (v : Holding) (e : Call) (es : List Call) → viewBehind v (e ∷ es) ≡ viewBehind (tell long v e) es
-    unfolding Y.viewAfter
+    unfolding viewAfter
     view-one v e es = refl
 
     view-none : (v : Holding) → viewBehind v [] ≡ v
-    unfolding Y.viewAfter
+    unfolding viewAfter
     view-none v = refl
 
     as-story : (ks : List ℕ) (done : ℕ → Bool) (v : Holding) → Due done ks → Has m done v → (answersOf v (come ks) ≡ completing m ks) × (viewBehind v (come ks) ≡ holdsNothing)

@@ -1,13 +1,14 @@
--- Calls that happened are a run of the table: what is claimed of runs holds for them.
+-- Calls that happened are a run of the table: what is claimed of runs holds for them, and with a station table beside it.
 use mathlib.Core.Path.{_≡_, refl, sym, ap, _∙_, subst}
 use mathlib.Core.List.{List, [], _∷_, _++_, map}
-use mathlib.Core.Bool.{Bool, true, false, cond, not, _&&_, _||_, false≢true}
+use mathlib.Core.Bool.{Bool, true, false, cond, _&&_, _||_, false≢true}
 use Prim.Native.Nat.{ℕ}
 use native.Mathlib.Omega.{arith}
 use lib.Dec.{eqb}
 use lib.ListN.{length, drop, replicate, take-append-drop}
 use borrow.Author.Tests.{eqb-true, eqb-false, eq-eqb}
 use Rattle.sweeping.specs.declared.Swept.{Swept}
+use Rattle.pushing.specs.declared.Pushed.{Pushed}
 use Rattle.pushing.specs.declared.Pushed.the-variants.{DuplicatedFragment}
 use Rattle.pushing.specs.Push.{pushedOf, Goes, outputBy, answerBy}
 use Rattle.pushing.specs.Show.{shown}
@@ -18,11 +19,18 @@ use Rattle.pushing.proofs.Claims as P
 use Rattle.table.proofs.Places.{all-same}
 use Rattle.keys.specs.Keys.{Origin, keyFor}
 use Rattle.keys.proofs.Claims as K
+use Rattle.stations.specs.Rows.{Stations, freshStations}
+use Rattle.stations.specs.Runs.{stationContract}
+use Rattle.stations.proofs.Orders.{order-across-stations}
 use Rattle.machines.specs.Machine.{those, run, remaining, gathered, every}
-use Rattle.orders.specs.Runs.{State, Push, Call, push, sweep, pushed, dropped, finishedBy, part, wayOf, after, tells, isAccepted, hasRoom, isOwn, isSweep, mine, start, holding, ends, crossed, repliesTo}
-use Rattle.orders.specs.Happened.{Happening, push-event, sweep-event, Happens, by-push, by-sweep, Happened, none, more, callOf, Got, from-push, from-sweep, gotBy, replyOf, isRefused, isFull, sameBytes, isFrom, isSweepEvent, isAbout}
-use Rattle.orders.specs.Claims.{Reordered, IsRun, AskedReordered, NoneFull, SameGot, AskedAlone, GotAlone}
+use Rattle.machines.specs.Happened.{Happened, asks-nothing, Leads, stepsOf, Tied, Tests}
+use Rattle.machines.specs.Both.{lefts, rights, BothHappened}
 use Rattle.machines.proofs.Lists.{left-true, right-true, those-both}
+use Rattle.machines.proofs.Happened as H
+use Rattle.machines.proofs.Both.{of-left, of-right}
+use Rattle.orders.specs.Runs.{State, Push, Call, push, sweep, Reply, pushed, dropped, finishedBy, part, wayOf, after, tells, isAccepted, hasRoom, isOwn, isSweep, mine, start, holding, ends, crossed, repliesTo}
+use Rattle.orders.specs.Happened.{TableAsked, push-asked, sweep-asked, TableGot, push-got, sweep-got, TableCall, PushMeets, tableMeets, tableContract, callOf, asksCall, callsOf, Got, from-push, from-sweep, gotFrom, gotBy, replyOf, wasAccepted, hadRoom, sameBytes, asksFrom, isFrom, isSweepCall, isAbout}
+use Rattle.orders.specs.Claims.{Reordered, IsRun, AskedReordered, NoneFull, SameGot, AskedAlone, GotAlone, MixedCall, ReorderedTogether, RoomTogether, SameTogether}
 use Rattle.orders.proofs.Orders.{run-made, told-alone, order-across-keys}
 
 -- no two answers are told alike
@@ -35,7 +43,7 @@ one-got (from-push p bytes) (from-sweep c) e = let no : _≡_ {A = ℕ} 0 1 = cc
 one-got (from-sweep c) (from-push q bytes) e = let no : _≡_ {A = ℕ} 0 1 = cc in absurd (omega arith)
 one-got (from-sweep c) (from-sweep d) e = cc
 
-all-got : (xs ys : List Happening) → map (λ e. replyOf (gotBy e)) xs ≡ map (λ e. replyOf (gotBy e)) ys → map gotBy xs ≡ map gotBy ys
+all-got : (xs ys : List TableCall) → map (λ e. replyOf (gotBy e)) xs ≡ map (λ e. replyOf (gotBy e)) ys → map gotBy xs ≡ map gotBy ys
 all-got [] [] h = refl
 all-got [] (y ∷ ys) h = let no : _≡_ {A = ℕ} 0 1 = cc in absurd (omega arith)
 all-got (x ∷ xs) [] h = let no : _≡_ {A = ℕ} 0 1 = cc in absurd (omega arith)
@@ -45,61 +53,30 @@ all-got (x ∷ xs) (y ∷ ys) h = rw (one-got (gotBy x) (gotBy y) (cc), all-got 
 pub finished-shown : (z : State) (p : Push) (out : List ℕ) → shown (answerBy (wayOf z p)) (p .payload) (outputBy (wayOf z p) out) ≡ finishedBy (wayOf z p) (p .payload)
 finished-shown z p out = shown-same (z .table) (part z p) (p .arrival) (p .payload) (p .room) out
 
--- one call that happened is a call of the run
-happens : {z z′ : State} {e : Happening} → Happens z e z′ → (after z (callOf e) ≡ z′) × (tells z (callOf e) ≡ replyOf (gotBy e))
-happens {z = z} (by-push {p = p} {answer = answer} {table′ = table′} {part′ = part′} {out = out} {out′ = out′} long goes) =
+-- what a call that happened asked is a step of the run
+push-leads : (z z′ : State) (p : Push) (out out′ : List ℕ) (answer : Pushed) → PushMeets z p out answer out′ z′ → (after z (push p) ≡ z′) × (tells z (push p) ≡ pushed (pushedOf answer) (shown (pushedOf answer) (p .payload) out′))
+push-leads z z′ p out out′ answer m =
     let w = wayOf z p in
-    let met : Goes w (z .table) (part z p) out (p .arrival) (p .payload) answer table′ part′ out′ = rw long at goes in
-    let bytes : shown (pushedOf answer) (p .payload) out′ ≡ finishedBy w (p .payload) = rw (met .answers, met .puts) (finished-shown z p out) in
-    ((λ i. record { table = sym (met .keeps) i; store = sym (met .stores) i ++ drop (p .lent) (z .store) }), (λ i. pushed (sym (met .answers) i) (sym bytes i)))
-happens {z = z} (by-sweep e) = (ap (λ (r : Swept). record { table = r .table; store = z .store }) (sym e), ap (λ (r : Swept). dropped (r .dropped)) (sym e))
+    let met : Goes w (z .table) (part z p) out (p .arrival) (p .payload) answer (z′ .table) (part z′ p) out′ = rw (m .long) at (m .goes) in
+    let bytes : shown (pushedOf answer) (p .payload) out′ ≡ finishedBy w (p .payload) = rw (met .answers, met .puts) (finished-shown z p out) in (
+      (λ i. record { table = sym (met .keeps) i; store = (ap (λ (l : List ℕ). l ++ drop (p .lent) (z .store)) (sym (met .stores)) ∙ ap (λ (l : List ℕ). part z′ p ++ l) (sym (m .rest)) ∙ take-append-drop (p .lent) (z′ .store)) i }),
+      (λ i. pushed (sym (met .answers) i) (sym bytes i)),
+    )
 
--- what a run gathers from the calls that pass a test is what the events that pass it have
-module _ (test : State → Call → Bool) (passes : Happening → Bool) (agree : (z z′ : State) (e : Happening) → Happens z e z′ → test z (callOf e) ≡ passes e) where
-  remains : {z z′ : State} {es : List Happening} → Happened z es z′ → remaining after test z (map callOf es) ≡ map callOf (those passes es)
-  unfolding remaining those
-  remains none = refl
-  remains (more {z = z} {z′ = z′} {e = e} {es = es} h hs) = rw (agree z z′ e h, happens h .0) (by-test (passes e) (remains hs))
-    where
-      by-test : (b : Bool) → remaining after test z′ (map callOf es) ≡ map callOf (those passes es)
-          → cond b (callOf e ∷ remaining after test z′ (map callOf es)) (remaining after test z′ (map callOf es)) ≡ map callOf (cond b (e ∷ those passes es) (those passes es))
-      by-test true ih = rw ih
-      by-test false ih = ih
+leads : (z : State) (a : TableAsked) (g : TableGot) (z′ : State) → tableMeets z a g z′ → Leads after tells z (asksCall a) (replyOf (gotFrom a g)) z′
+leads z (push-asked o p key out) (push-got answer out′) z′ m = push-leads z z′ p out out′ answer m
+leads z (sweep-asked time) (sweep-got many) z′ m = ((λ i. record { table = sym (m .0) i .table; store = sym (m .1) i }), ap (λ (r : Swept). dropped (r .dropped)) (sym (m .0)))
+leads z (push-asked o p key out) (sweep-got many) z′ m = absurd m
+leads z (sweep-asked time) (push-got answer out′) z′ m = absurd m
 
-  gathers : {z z′ : State} {es : List Happening} → Happened z es z′ → gathered after test tells z (map callOf es) ≡ map (λ e. replyOf (gotBy e)) (those passes es)
-  unfolding gathered those
-  gathers none = refl
-  gathers (more {z = z} {z′ = z′} {e = e} {es = es} h hs) = rw (agree z z′ e h, happens h .0, happens h .1) (by-test (passes e) (gathers hs))
-    where
-      by-test : (b : Bool) → gathered after test tells z′ (map callOf es) ≡ map (λ e. replyOf (gotBy e)) (those passes es)
-          → cond b (replyOf (gotBy e) ∷ gathered after test tells z′ (map callOf es)) (gathered after test tells z′ (map callOf es)) ≡ map (λ e. replyOf (gotBy e)) (cond b (e ∷ those passes es) (those passes es))
-      by-test true ih = rw ih
-      by-test false ih = ih
+tied : Tied tableContract after tells asksCall (λ c. replyOf (gotBy c))
+tied c m = leads (c .was) (c .asked) (c .got) (c .became) m
 
--- no event fails where each call passes
-module _ (test : State → Call → Bool) (fails : Happening → Bool) (agree : (z z′ : State) (e : Happening) → Happens z e z′ → test z (callOf e) ≡ not (fails e)) where
-  all-pass : {z z′ : State} {es : List Happening} → Happened z es z′ → those fails es ≡ [] → every after test z (map callOf es) ≡ true
-  unfolding every those
-  all-pass none n = refl
-  all-pass (more {z = z} {z′ = z′} {e = e} {es = es} h hs) n = rw (agree z z′ e h, happens h .0) (by-test (fails e) n (all-pass hs))
-    where
-      by-test : (b : Bool) → cond b (e ∷ those fails es) (those fails es) ≡ [] → (those fails es ≡ [] → every after test z′ (map callOf es) ≡ true) → (not b && every after test z′ (map callOf es)) ≡ true
-      by-test true n ih = let no : _≡_ {A = ℕ} 0 1 = cc in absurd (omega arith)
-      by-test false n ih = ih n
+accepted : Tests tableContract asksCall isAccepted wasAccepted
+accepted c m = rw (tied c m .1)
 
-  none-fails : {z z′ : State} {es : List Happening} → Happened z es z′ → every after test z (map callOf es) ≡ true → those fails es ≡ []
-  unfolding every those
-  none-fails none n = refl
-  none-fails (more {z = z} {z′ = z′} {e = e} {es = es} h hs) n = by-test (fails e) (rw (agree z z′ e h, happens h .0) at n) (none-fails hs)
-    where
-      by-test : (b : Bool) → (not b && every after test z′ (map callOf es)) ≡ true → (every after test z′ (map callOf es) ≡ true → those fails es ≡ []) → cond b (e ∷ those fails es) (those fails es) ≡ []
-      by-test true n ih = absurd (false≢true n)
-      by-test false n ih = ih n
-
-ends-at : {z z′ : State} {es : List Happening} → Happened z es z′ → ends z (map callOf es) ≡ z′
-unfolding run
-ends-at none = refl
-ends-at (more {e = e} {es = es} h hs) = ap (λ (z : State). ends z (map callOf es)) (happens h .0) ∙ ends-at hs
+roomy : Tests tableContract asksCall hasRoom hadRoom
+roomy c m = rw (tied c m .1)
 
 -- by sender and message id, or by key
 same-true : (bs cs : List ℕ) → sameBytes bs cs ≡ true → bs ≡ cs
@@ -128,17 +105,20 @@ one-key a o = by-key (eqb (keyFor a) (keyFor o)) refl
             absurd (eqb-false (keyFor a) (keyFor o) e (rw (sender, id)))
         by-both false h = refl
 
-own-from : (o : Origin) (e : Happening) → isOwn (keyFor o) (callOf e) ≡ isFrom o e
-own-from o (push-event a p key out answer out′) = ap (λ (k : ℕ). eqb k (keyFor o)) key ∙ sym (one-key a o)
-own-from o (sweep-event time many) = refl
+asks-own : (o : Origin) (a : TableAsked) → isOwn (keyFor o) (callOf a) ≡ asksFrom o a
+asks-own o (push-asked a p key out) = ap (λ (k : ℕ). eqb k (keyFor o)) key ∙ sym (one-key a o)
+asks-own o (sweep-asked time) = refl
 
-about : (o : Origin) (es : List Happening) → mine (keyFor o) (map callOf es) ≡ map callOf (those (isAbout o) es)
-unfolding those
+own-from : (o : Origin) (c : TableCall) → isOwn (keyFor o) (callOf (c .asked)) ≡ isFrom o c
+own-from o c = asks-own o (c .asked)
+
+about : (o : Origin) (cs : List TableCall) → mine (keyFor o) (callsOf cs) ≡ callsOf (those (isAbout o) cs)
+unfolding those stepsOf
 about o [] = refl
-about o (e ∷ es) = rw (own-from o e) (by-test (isAbout o e) (about o es))
+about o (c ∷ cs) = rw (own-from o c) (by-test (isAbout o c) (about o cs))
   where
-    by-test : (b : Bool) → mine (keyFor o) (map callOf es) ≡ map callOf (those (isAbout o) es)
-        → cond b (callOf e ∷ mine (keyFor o) (map callOf es)) (mine (keyFor o) (map callOf es)) ≡ map callOf (cond b (e ∷ those (isAbout o) es) (those (isAbout o) es))
+    by-test : (b : Bool) → mine (keyFor o) (callsOf cs) ≡ callsOf (those (isAbout o) cs)
+        → cond b (callOf (c .asked) ∷ mine (keyFor o) (callsOf cs)) (mine (keyFor o) (callsOf cs)) ≡ callsOf (cond b (c ∷ those (isAbout o) cs) (those (isAbout o) cs))
     by-test true ih = rw ih
     by-test false ih = ih
 
@@ -147,20 +127,20 @@ data Known (c : ℕ) (calls : List Call) : Type 0 where
   someone's : (o : Origin) → keyFor o ≡ c → Known c calls
   nobody's : mine c calls ≡ those isSweep calls → Known c calls
 
-known : (c : ℕ) (es : List Happening) → Known c (map callOf es)
-unfolding those
+known : (c : ℕ) (cs : List TableCall) → Known c (callsOf cs)
+unfolding those stepsOf
 known c [] = nobody's refl
-known c (push-event o p key out answer out′ ∷ es) = by-key (eqb (p .arrival .key) c) refl (known c es)
+known c (x ∷ cs) = by-call (x .asked) (known c cs)
   where
-    by-key : (b : Bool) → eqb (p .arrival .key) c ≡ b → Known c (map callOf es) → Known c (push p ∷ map callOf es)
-    by-key true e k = someone's o (sym key ∙ eqb-true _ _ e)
-    by-key false e (someone's o′ e′) = someone's o′ e′
-    by-key false e (nobody's h) = nobody's (rw (e, h))
-known c (sweep-event time many ∷ es) = by-rest (known c es)
-  where
-    by-rest : Known c (map callOf es) → Known c (sweep time ∷ map callOf es)
-    by-rest (someone's o e) = someone's o e
-    by-rest (nobody's h) = nobody's (rw h)
+    by-key : (o : Origin) (p : Push) → p .arrival .key ≡ keyFor o → (b : Bool) → eqb (p .arrival .key) c ≡ b → Known c (callsOf cs) → Known c (push p ∷ callsOf cs)
+    by-key o p key true e k = someone's o (sym key ∙ eqb-true _ _ e)
+    by-key o p key false e (someone's o′ e′) = someone's o′ e′
+    by-key o p key false e (nobody's h) = nobody's (rw (e, h))
+
+    by-call : (a : TableAsked) → Known c (callsOf cs) → Known c (callOf a ∷ callsOf cs)
+    by-call (push-asked o p key out) k = by-key o p key (eqb (p .arrival .key) c) refl k
+    by-call (sweep-asked time) (someone's o e) = someone's o e
+    by-call (sweep-asked time) (nobody's h) = nobody's (rw h)
 
 sweeps-among : (c : ℕ) (calls : List Call) → those isSweep (mine c calls) ≡ those isSweep calls
 unfolding those
@@ -175,66 +155,82 @@ sweeps-among c (sweep time ∷ calls) = rw (sweeps-among c calls)
 nobody : Origin
 nobody = record { sender = replicate 6 0; message-id = 0; six = refl; bytes = λ i. omega (arith, all-same {A = ℕ} 6 i 0); two = omega arith }
 
-reordered : (es fs : List Happening) → AskedReordered es fs → Reordered (map callOf es) (map callOf fs)
+reordered : (es fs : List TableCall) → AskedReordered es fs → Reordered (callsOf es) (callsOf fs)
 reordered es fs same c = by-key (known c es) (known c fs)
   where
-    at : (o : Origin) → mine (keyFor o) (map callOf es) ≡ mine (keyFor o) (map callOf fs)
+    at : (o : Origin) → mine (keyFor o) (callsOf es) ≡ mine (keyFor o) (callsOf fs)
     at o = about o es ∙ same o ∙ sym (about o fs)
 
-    by-key : Known c (map callOf es) → Known c (map callOf fs) → mine c (map callOf es) ≡ mine c (map callOf fs)
-    by-key (someone's o e) k = subst (λ (key : ℕ). mine key (map callOf es) ≡ mine key (map callOf fs)) e (at o)
-    by-key (nobody's h) (someone's o e) = subst (λ (key : ℕ). mine key (map callOf es) ≡ mine key (map callOf fs)) e (at o)
-    by-key (nobody's h) (nobody's k) = h ∙ sym (sweeps-among (keyFor nobody) (map callOf es)) ∙ ap (those isSweep) (at nobody) ∙ sweeps-among (keyFor nobody) (map callOf fs) ∙ sym k
+    by-key : Known c (callsOf es) → Known c (callsOf fs) → mine c (callsOf es) ≡ mine c (callsOf fs)
+    by-key (someone's o e) k = subst (λ (key : ℕ). mine key (callsOf es) ≡ mine key (callsOf fs)) e (at o)
+    by-key (nobody's h) (someone's o e) = subst (λ (key : ℕ). mine key (callsOf es) ≡ mine key (callsOf fs)) e (at o)
+    by-key (nobody's h) (nobody's k) = h ∙ sym (sweeps-among (keyFor nobody) (callsOf es)) ∙ ap (those isSweep) (at nobody) ∙ sweeps-among (keyFor nobody) (callsOf fs) ∙ sym k
 
 -- what is told of a key's own pushes
-own : (o : Origin) {z z′ : State} {es : List Happening} → Happened z es z′ → repliesTo (keyFor o) z (map callOf es) ≡ map (λ e. replyOf (gotBy e)) (those (isFrom o) es)
-own o = gathers (λ s e. isOwn (keyFor o) e) (isFrom o) (λ z z′ e h. own-from o e)
+module _ {z z′ : State} {cs : List TableCall} (h : Happened tableContract z cs z′) where
+  gathers : (test : State → Call → Bool) (passes : TableCall → Bool) → Tests tableContract asksCall test passes → gathered after test tells z (callsOf cs) ≡ map (λ c. replyOf (gotBy c)) (those passes cs)
+  gathers test passes agree = H.gathers tableContract after tells asksCall (λ c. replyOf (gotBy c)) tied test passes agree h
 
--- what a call's answer says of it
-accepted : (z z′ : State) (e : Happening) → Happens z e z′ → isAccepted z (callOf e) ≡ not (isRefused e)
-accepted z z′ e h = rw (happens h .1)
+  own : (o : Origin) → repliesTo (keyFor o) z (callsOf cs) ≡ map (λ c. replyOf (gotBy c)) (those (isFrom o) cs)
+  own o = gathers (λ s e. isOwn (keyFor o) e) (isFrom o) (λ c m. own-from o c)
 
-roomy : (z z′ : State) (e : Happening) → Happens z e z′ → hasRoom z (callOf e) ≡ not (isFull e)
-roomy z z′ e h = rw (happens h .1)
+  ends-at : ends z (callsOf cs) ≡ z′
+  ends-at = H.ends-at tableContract after tells asksCall (λ c. replyOf (gotBy c)) tied h
 
-all-those : (es : List Happening) → those (λ e. true) es ≡ es
+  all-room : NoneFull cs → every after hasRoom z (callsOf cs) ≡ true
+  all-room = H.all-pass tableContract after tells asksCall (λ c. replyOf (gotBy c)) tied hasRoom hadRoom roomy h
+
+asked : (c : TableCall) → tableContract c → asksCall (c .asked) ≡ asks-nothing → ⊥
+asked c m e = let no : _≡_ {A = ℕ} 0 1 = cc in omega arith
+
+all-those : (cs : List TableCall) → those (λ c. true) cs ≡ cs
 unfolding those
 all-those [] = refl
-all-those (e ∷ es) = rw (all-those es)
+all-those (c ∷ cs) = rw (all-those cs)
 
-module _ (store : List ℕ) (es : List Happening) (z : State) (h : Happened (start store) es z) where
-  pub is-run : IsRun store es z
-  is-run = record { replies = gathers (λ s e. true) (λ e. true) (λ s s′ e g. refl) h ∙ ap (map (λ e. replyOf (gotBy e))) (all-those es); end = ends-at h; made = subst (λ (s : State). Made (s .table)) (ends-at h) (run-made store (map callOf es)) }
+module _ (store : List ℕ) (cs : List TableCall) (z : State) (h : Happened tableContract (start store) cs z) where
+  pub is-run : IsRun store cs z
+  is-run = record { replies = gathers h (λ s e. true) (λ c. true) (λ c m. refl) ∙ ap (map (λ c. replyOf (gotBy c))) (all-those cs); end = ends-at h; made = subst (λ (s : State). Made (s .table)) (ends-at h) (run-made store (callsOf cs)) }
 
-  module _ (store′ : List ℕ) (fs : List Happening) (z′ : State) (h′ : Happened (start store′) fs z′) (long : length store′ ≡ length store) where
+  module _ (store′ : List ℕ) (ds : List TableCall) (z′ : State) (h′ : Happened tableContract (start store′) ds z′) (long : length store′ ≡ length store) where
     -- demand 3
-    pub order-across-senders : AskedReordered es fs → NoneFull es → NoneFull fs → SameGot es fs z z′
+    pub order-across-senders : AskedReordered cs ds → NoneFull cs → NoneFull ds → SameGot cs ds z z′
     order-across-senders same room room′ =
-        let story = order-across-keys store store′ long (map callOf es) (map callOf fs) (reordered es fs same) (all-pass hasRoom isFull roomy h room) (all-pass hasRoom isFull roomy h′ room′) in
+        let story = order-across-keys store store′ long (callsOf cs) (callsOf ds) (reordered cs ds same) (all-room h room) (all-room h′ room′) in
         record {
-          pushes = λ o. all-got (those (isFrom o) es) (those (isFrom o) fs) (sym (own o h) ∙ story .pushes (keyFor o) ∙ own o h′);
-          sweeps = all-got (those isSweepEvent es) (those isSweepEvent fs)
-              (sym (gathers (λ s e. isSweep e) isSweepEvent (λ s s′ e g. refl) h) ∙ story .sweeps ∙ gathers (λ s e. isSweep e) isSweepEvent (λ s s′ e g. refl) h′);
+          pushes = λ o. all-got (those (isFrom o) cs) (those (isFrom o) ds) (sym (own h o) ∙ story .pushes (keyFor o) ∙ own h′ o);
+          sweeps = all-got (those isSweepCall cs) (those isSweepCall ds)
+              (sym (gathers h (λ s e. isSweep e) isSweepCall (λ c m. refl)) ∙ story .sweeps ∙ gathers h′ (λ s e. isSweep e) isSweepCall (λ c m. refl));
           holds = λ o. ap (holding (keyFor o)) (sym (ends-at h)) ∙ story .holds (keyFor o) ∙ ap (holding (keyFor o)) (ends-at h′);
         }
 
     -- request 2026-09
-    pub sender-alone : (o : Origin) → AskedAlone o es fs → GotAlone o es fs z z′
-    sender-alone o asked =
-        let alone = told-alone store store′ long (keyFor o) (map callOf es) in
-        let hers : mine (keyFor o) (crossed (start store) (map callOf es)) ≡ map callOf fs
-        = ap (mine (keyFor o)) (remains isAccepted (λ e. not (isRefused e)) accepted h) ∙ about o (those (λ e. not (isRefused e)) es) ∙ sym asked in
+    pub sender-alone : (o : Origin) → AskedAlone o cs ds → GotAlone o cs ds z z′
+    sender-alone o asks =
+        let alone = told-alone store store′ long (keyFor o) (callsOf cs) in
+        let hers : mine (keyFor o) (crossed (start store) (callsOf cs)) ≡ callsOf ds
+        = ap (mine (keyFor o)) (H.remains tableContract after tells asksCall (λ c. replyOf (gotBy c)) tied isAccepted wasAccepted accepted h) ∙ about o (those wasAccepted cs) ∙ sym asks in
         record {
-          answers = all-got (those (isFrom o) (those (λ e. not (isRefused e)) es)) (those (isFrom o) fs)
-              (ap (map (λ e. replyOf (gotBy e))) (those-both (isFrom o) (λ e. not (isRefused e)) es)
-              ∙ sym (gathers (λ s e. isOwn (keyFor o) e && isAccepted s e) (λ e. isFrom o e && not (isRefused e)) (λ s s′ e g. rw (own-from o e, accepted s s′ e g)) h)
-              ∙ alone .answers ∙ ap (repliesTo (keyFor o) (start store′)) hers ∙ own o h′);
+          answers = all-got (those (isFrom o) (those wasAccepted cs)) (those (isFrom o) ds)
+              (ap (map (λ c. replyOf (gotBy c))) (those-both (isFrom o) wasAccepted cs)
+              ∙ sym (gathers h (λ s e. isOwn (keyFor o) e && isAccepted s e) (λ c. isFrom o c && wasAccepted c) (λ c m. rw (own-from o c, accepted c m)))
+              ∙ alone .answers ∙ ap (repliesTo (keyFor o) (start store′)) hers ∙ own h′ o);
           holds = ap (holding (keyFor o)) (sym (ends-at h)) ∙ alone .holds ∙ ap (λ (calls : List Call). holding (keyFor o) (ends (start store′) calls)) hers ∙ ap (holding (keyFor o)) (ends-at h′);
-          none-refused = none-fails isAccepted isRefused accepted h′ (subst (λ (calls : List Call). every after isAccepted (start store′) calls ≡ true) hers (alone .none-refused));
+          none-refused = H.none-fails tableContract after tells asksCall (λ c. replyOf (gotBy c)) tied isAccepted wasAccepted accepted asked h′
+              (subst (λ (calls : List Call). every after isAccepted (start store′) calls ≡ true) hers (alone .none-refused));
         }
 
+-- with a station table beside it
+module _ (store : List ℕ) (cs : List MixedCall) (z : State × Stations) (h : BothHappened tableContract stationContract (start store, freshStations) cs z)
+    (store′ : List ℕ) (ds : List MixedCall) (z′ : State × Stations) (h′ : BothHappened tableContract stationContract (start store′, freshStations) ds z′) where
+  pub order-together : length store′ ≡ length store → ReorderedTogether cs ds → RoomTogether cs → RoomTogether ds → SameTogether cs ds z z′
+  order-together long same room room′ = record {
+    messages = order-across-senders store (lefts cs) (z .0) (of-left tableContract stationContract h) store′ (lefts ds) (z′ .0) (of-left tableContract stationContract h′) long (same .messages) (room .messages) (room′ .messages);
+    stations = order-across-stations (rights cs) (z .1) (of-right tableContract stationContract h) (rights ds) (z′ .1) (of-right tableContract stationContract h′) (same .events) (room .events) (room′ .events);
+  }
+
 -- a duplicate leaves everything as it was
-pub duplicate-untouched : (z z′ : State) (o : Origin) (p : Push) (key : p .arrival .key ≡ keyFor o) (out out′ : List ℕ) → Happens z (push-event o p key out DuplicatedFragment out′) z′ → (z′ ≡ z) × (out′ ≡ out)
-duplicate-untouched z z′ o p key out out′ (by-push {table′ = table′} {part′ = part′} long goes) =
-    let same = P.claims .duplicate-untouched (z .table) (part z p) out (p .arrival) (p .payload) table′ part′ out′ goes in
-    ((λ i. record { table = same .0 i; store = same .1 i ++ drop (p .lent) (z .store) }) ∙ ap (λ (l : List ℕ). record { table = z .table; store = l }) (take-append-drop (p .lent) (z .store)), same .2)
+pub duplicate-untouched : (z z′ : State) (p : Push) (out out′ : List ℕ) → PushMeets z p out DuplicatedFragment out′ z′ → (z′ ≡ z) × (out′ ≡ out)
+duplicate-untouched z z′ p out out′ m =
+    let same = P.claims .duplicate-untouched (z .table) (part z p) out (p .arrival) (p .payload) (z′ .table) (part z′ p) out′ (m .goes) in
+    ((λ i. record { table = same .0 i; store = (sym (take-append-drop (p .lent) (z′ .store)) ∙ ap (λ (l : List ℕ). l ++ drop (p .lent) (z′ .store)) (same .1) ∙ ap (λ (l : List ℕ). part z p ++ l) (m .rest) ∙ take-append-drop (p .lent) (z .store)) i }), same .2)

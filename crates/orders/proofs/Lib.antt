@@ -18,5 +18,4 @@ pub mod Completion
 pub mod Completes
 pub mod Happened
 pub mod Examples
-pub mod Together
 pub mod Claims

@@ -16,7 +16,7 @@ use Rattle.orders.proofs.Telling.{acts, refusedWay, refused-is, ownWay,
 use Rattle.orders.proofs.Pushing.{Good, roomBy, same-answer, same-finished, way-shape}
 use Rattle.orders.proofs.Effects.{stored-long, others-same, own-same}
 use Rattle.orders.proofs.Sweeps.{sweep-holding}
-use Rattle.machines.proofs.Story as Y
+use Rattle.machines.specs.Story.{ActsByKey}
 
 -- a refused push changes nothing
 refused-same : (z : State) (p : Push) (test : ℕ → Bool) (w : Way) → refusedWay test w ≡ true → afterWay w z p ≡ z
@@ -91,7 +91,7 @@ module _ (long : ℕ) (passes : State → Call → Bool) (room : (z : State) (e 
   said c z (push p) g h k = subst (λ (d : ℕ). tells z (push p) ≡ answer long (holding d z) (push p)) (eqb-true _ _ k) (own-reply long z g p (room z (push p) h))
   said c z (sweep time) g h k = absurd (false≢true k)
 
-  pub local : Y.Local (acts long) passes (Good long)
+  pub local : ActsByKey (acts long) passes (Good long)
   local = record {
     stays = good-after long;
     crossed = λ z e g. stops z e;
@@ -102,7 +102,7 @@ module _ (long : ℕ) (passes : State → Call → Bool) (room : (z : State) (e 
   }
 
 -- two such tests: not refused for room, and not refused
-pub local-room : (long : ℕ) → Y.Local (acts long) hasRoom (Good long)
+pub local-room : (long : ℕ) → ActsByKey (acts long) hasRoom (Good long)
 local-room long = local long hasRoom (λ z e h. h) (refused-nothing forRoom) (λ z time. refl)
 
 pub accepted-room : (z : State) (e : Call) → isAccepted z e ≡ true → hasRoom z e ≡ true
@@ -116,5 +116,5 @@ accepted-room z (push p) h = has-room z p ∙ by-way (wayOf z p) (sym (ap not (r
     by-way (openAt i row) k = refl
     by-way (end x bytes) k = refl
 
-pub local-accepted : (long : ℕ) → Y.Local (acts long) isAccepted (Good long)
+pub local-accepted : (long : ℕ) → ActsByKey (acts long) isAccepted (Good long)
 local-accepted long = local long isAccepted accepted-room (refused-nothing (λ n. true)) (λ z time. refl)

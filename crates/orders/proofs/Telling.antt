@@ -8,7 +8,7 @@ use lib.ListN.{length}
 use borrow.Author.Tests.{lt-ltb, le-ltb}
 use Rattle.pushing.specs.Joining.{Since, never, since, isKept, heldOf, andNew, due}
 use Rattle.pushing.specs.Push.{Way, refuse, duplicate, keepAt, openAt, end, joinWay, answerBy}
-use Rattle.machines.proofs.Story.{Machine}
+use Rattle.machines.specs.Story.{Machine}
 use Rattle.orders.specs.Runs.{State, Push, Call, push, sweep, Reply, pushed, dropped, finishedBy, refusedBy, Holding, holdsNothing, after, tells, isOwn, isSweep, holding}
 
 -- a way, but for the places and rows that it names

@@ -14,15 +14,15 @@ use Rattle.pushing.specs.Show.{shown}
 use Rattle.pushing.specs.Made.{Made}
 use Rattle.keys.specs.Keys.{Origin, keyFor}
 use Rattle.machines.specs.Machine.{those, gathered, every}
-use Rattle.machines.specs.Both.{lefts, rights}
-use Rattle.stations.specs.Rows.{whereOf}
-use Rattle.stations.specs.Runs.{isOwn as isStations}
-use Rattle.stations.specs.Claims.{Reordered as EventsReordered}
+use Rattle.machines.specs.Happened.{Happened}
+use Rattle.machines.specs.Both.{Either, lefts, rights, BothHappened}
+use Rattle.stations.specs.Rows.{Stations, freshStations}
+use Rattle.stations.specs.Runs.{StationCall, stationContract, eventsOf, NoneRefused}
+use Rattle.stations.specs.Claims.{EventsReordered, SameStations}
 use Rattle.orders.specs.Shares.{share, total, isIn, distinct}
 use Rattle.orders.specs.Messages.{Message, Room, Sent, calls, completing}
-use Rattle.orders.specs.Together.{Mixed, noCall, noEvent, endsTogether, toldTogether, roomForAll}
 use Rattle.orders.specs.Runs.{State, Push, Call, push, sweep, pushed, finishedBy, wayOf, isAccepted, isOwn, isSweep, neverFull, hasRoom, after, tells, mine, start, Holding, holding, holdsNothing, ends, crossed, repliesTo, repliesToAccepted, repliesToSweeps}
-use Rattle.orders.specs.Happened.{Happening, push-event, Happens, Happened, callOf, gotBy, replyOf, isRefused, isFull, isFrom, isSweepEvent, isAbout}
+use Rattle.orders.specs.Happened.{TableCall, PushMeets, tableContract, callsOf, gotBy, replyOf, wasAccepted, hadRoom, isFrom, isSweepCall, isAbout}
 
 -- What a key holds is untouched by every push under another key, refused or not; a refused call changes nothing.
 pub record Local (z : State) : Type 0 where
@@ -77,44 +77,50 @@ pub record Completes (m : Message) (bring : ℕ → Push) (order : List ℕ) (z 
   pub holds : holding (m .key) (ends z (calls m bring order)) ≡ holdsNothing
 
 -- Calls that happened are a run: what is told of each is what its caller got, and the table at their end is the run's, and one that push asks for.
-pub record IsRun (store : List ℕ) (events : List Happening) (z : State) : Type 0 where
-  pub replies : gathered after (λ s e. true) tells (start store) (map callOf events) ≡ map (λ e. replyOf (gotBy e)) events
-  pub end : ends (start store) (map callOf events) ≡ z
+pub record IsRun (store : List ℕ) (calls : List TableCall) (z : State) : Type 0 where
+  pub replies : gathered after (λ s e. true) tells (start store) (callsOf calls) ≡ map (λ c. replyOf (gotBy c)) calls
+  pub end : ends (start store) (callsOf calls) ≡ z
   pub made : Made (z .table)
 
 -- Demand 3 for them: for each sender's message the same pushes, with all the sweeps between them, were asked in both
-abbrev pub AskedReordered : List Happening → List Happening → Type 0
-AskedReordered events events′ = (o : Origin) → map callOf (those (isAbout o) events) ≡ map callOf (those (isAbout o) events′)
+abbrev pub AskedReordered : List TableCall → List TableCall → Type 0
+AskedReordered calls calls′ = (o : Origin) → callsOf (those (isAbout o) calls) ≡ callsOf (those (isAbout o) calls′)
 
-abbrev pub NoneFull : List Happening → Type 0
-NoneFull events = those isFull events ≡ []
+abbrev pub NoneFull : List TableCall → Type 0
+NoneFull calls = those (λ c. not (hadRoom c)) calls ≡ []
 
 -- and its callers got the same: the call's own answers, the bytes that show shows, the numbers of sweeps; and the tables hold the same
-pub record SameGot (events events′ : List Happening) (z z′ : State) : Type 0 where
-  pub pushes : (o : Origin) → map gotBy (those (isFrom o) events) ≡ map gotBy (those (isFrom o) events′)
-  pub sweeps : map gotBy (those isSweepEvent events) ≡ map gotBy (those isSweepEvent events′)
+pub record SameGot (calls calls′ : List TableCall) (z z′ : State) : Type 0 where
+  pub pushes : (o : Origin) → map gotBy (those (isFrom o) calls) ≡ map gotBy (those (isFrom o) calls′)
+  pub sweeps : map gotBy (those isSweepCall calls) ≡ map gotBy (those isSweepCall calls′)
   pub holds : (o : Origin) → holding (keyFor o) z ≡ holding (keyFor o) z′
 
 -- Request 2026-09 for them: the second calls ask for one sender's message what was not refused in the first, and the sweeps
-abbrev pub AskedAlone : Origin → List Happening → List Happening → Type 0
-AskedAlone o events events′ = map callOf events′ ≡ map callOf (those (isAbout o) (those (λ e. not (isRefused e)) events))
+abbrev pub AskedAlone : Origin → List TableCall → List TableCall → Type 0
+AskedAlone o calls calls′ = callsOf calls′ ≡ callsOf (those (isAbout o) (those wasAccepted calls))
 
-pub record GotAlone (o : Origin) (events events′ : List Happening) (z z′ : State) : Type 0 where
-  pub answers : map gotBy (those (isFrom o) (those (λ e. not (isRefused e)) events)) ≡ map gotBy (those (isFrom o) events′)
+pub record GotAlone (o : Origin) (calls calls′ : List TableCall) (z z′ : State) : Type 0 where
+  pub answers : map gotBy (those (isFrom o) (those wasAccepted calls)) ≡ map gotBy (those (isFrom o) calls′)
   pub holds : holding (keyFor o) z ≡ holding (keyFor o) z′
-  pub none-refused : those isRefused events′ ≡ []
+  pub none-refused : those (λ c. not (wasAccepted c)) calls′ ≡ []
 
--- Request 2026-02: "From here demand 3 also covers events of different stations, if no event is refused: those of one station keep their order". Events stand between pushes and sweeps wherever they like.
-pub record ReorderedTogether (calls calls′ : List Mixed) : Type 0 where
-  pub messages : Reordered (lefts calls) (lefts calls′)
-  pub events : EventsReordered (rights calls) (rights calls′)
+-- Request 2026-02: "From here demand 3 also covers events of different stations, if no event is refused: those of one station keep their order". A fragment table and a station table stand
+-- side by side; events come between pushes and sweeps wherever they like.
+abbrev pub MixedCall : Type 0
+MixedCall = Either TableCall StationCall
 
-pub record SameTogether (store store′ : List ℕ) (calls calls′ : List Mixed) : Type 0 where
-  pub pushes : (key : ℕ) → toldTogether (isOwn key) noEvent store calls ≡ toldTogether (isOwn key) noEvent store′ calls′
-  pub sweeps : toldTogether isSweep noEvent store calls ≡ toldTogether isSweep noEvent store′ calls′
-  pub events : (station : ℕ) → toldTogether noCall (isStations station) store calls ≡ toldTogether noCall (isStations station) store′ calls′
-  pub holds : (key : ℕ) → holding key (endsTogether store calls .0) ≡ holding key (endsTogether store′ calls′ .0)
-  pub places : (station : ℕ) → whereOf (endsTogether store calls .1) station ≡ whereOf (endsTogether store′ calls′ .1) station
+pub record ReorderedTogether (calls calls′ : List MixedCall) : Type 0 where
+  pub messages : AskedReordered (lefts calls) (lefts calls′)
+  pub events : EventsReordered (eventsOf (rights calls)) (eventsOf (rights calls′))
+
+-- no push is refused for table room, and no event at all
+pub record RoomTogether (calls : List MixedCall) : Type 0 where
+  pub messages : NoneFull (lefts calls)
+  pub events : NoneRefused (rights calls)
+
+pub record SameTogether (calls calls′ : List MixedCall) (z z′ : State × Stations) : Type 0 where
+  pub messages : SameGot (lefts calls) (lefts calls′) (z .0) (z′ .0)
+  pub stations : SameStations (rights calls) (rights calls′) (z .1) (z′ .1)
 
 pub record Claims : Type 0 where
   -- what one call does, at every table that the calls made
@@ -132,17 +138,19 @@ pub record Claims : Type 0 where
   pub order-across-keys : (store store′ : List ℕ) → length store′ ≡ length store → (calls calls′ : List Call) → Reordered calls calls′
       → neverFull (start store) calls ≡ true → neverFull (start store′) calls′ ≡ true → SameStory store store′ calls calls′
   pub swapped : (before behind : List Call) (p q : Push) → (p .arrival .key ≡ q .arrival .key → ⊥) → Reordered (before ++ push p ∷ push q ∷ behind) (before ++ push q ∷ push p ∷ behind)
-  -- and with the events of stations between them
-  pub order-together : (store store′ : List ℕ) → length store′ ≡ length store → (calls calls′ : List Mixed) → ReorderedTogether calls calls′
-      → roomForAll store calls ≡ true → roomForAll store′ calls′ ≡ true → SameTogether store store′ calls calls′
-  -- the same for calls that happened
-  pub is-run : (store : List ℕ) (events : List Happening) (z : State) → Happened (start store) events z → IsRun store events z
-  pub order-across-senders : (store : List ℕ) (events : List Happening) (z : State) → Happened (start store) events z → (store′ : List ℕ) (events′ : List Happening) (z′ : State) → Happened (start store′) events′ z′
-      → length store′ ≡ length store → AskedReordered events events′ → NoneFull events → NoneFull events′ → SameGot events events′ z z′
-  pub sender-alone : (store : List ℕ) (events : List Happening) (z : State) → Happened (start store) events z → (store′ : List ℕ) (events′ : List Happening) (z′ : State) → Happened (start store′) events′ z′
-      → length store′ ≡ length store → (o : Origin) → AskedAlone o events events′ → GotAlone o events events′ z z′
+  -- the same for calls that happened, and with the events of stations between them
+  pub is-run : (store : List ℕ) (calls : List TableCall) (z : State) → Happened tableContract (start store) calls z → IsRun store calls z
+  pub order-across-senders : (store : List ℕ) (calls : List TableCall) (z : State) → Happened tableContract (start store) calls z
+      → (store′ : List ℕ) (calls′ : List TableCall) (z′ : State) → Happened tableContract (start store′) calls′ z′
+      → length store′ ≡ length store → AskedReordered calls calls′ → NoneFull calls → NoneFull calls′ → SameGot calls calls′ z z′
+  pub sender-alone : (store : List ℕ) (calls : List TableCall) (z : State) → Happened tableContract (start store) calls z
+      → (store′ : List ℕ) (calls′ : List TableCall) (z′ : State) → Happened tableContract (start store′) calls′ z′
+      → length store′ ≡ length store → (o : Origin) → AskedAlone o calls calls′ → GotAlone o calls calls′ z z′
+  pub order-together : (store : List ℕ) (calls : List MixedCall) (z : State × Stations) → BothHappened tableContract stationContract (start store, freshStations) calls z
+      → (store′ : List ℕ) (calls′ : List MixedCall) (z′ : State × Stations) → BothHappened tableContract stationContract (start store′, freshStations) calls′ z′
+      → length store′ ≡ length store → ReorderedTogether calls calls′ → RoomTogether calls → RoomTogether calls′ → SameTogether calls calls′ z z′
   -- document 02, 2026-05: "From now on a duplicate leaves the kept fragment untouched": what its caller lent comes back as it was
-  pub duplicate-untouched : (z z′ : State) (o : Origin) (p : Push) (key : p .arrival .key ≡ keyFor o) (out out′ : List ℕ) → Happens z (push-event o p key out DuplicatedFragment out′) z′ → (z′ ≡ z) × (out′ ≡ out)
+  pub duplicate-untouched : (z z′ : State) (p : Push) (out out′ : List ℕ) → PushMeets z p out DuplicatedFragment out′ z′ → (z′ ≡ z) × (out′ ≡ out)
   -- "A fragment is its version, type, number, last mark and payload": one that waits is held as it came, its mark included
   pub kept-as-pushed : (z : State) → Made (z .table) → (p : Push) (bytes : List ℕ) → tells z (push p) ≡ pushed (gives waiting) bytes
       → holding (p .arrival .key) (after z (push p)) .fragments (p .arrival .fragment .number) ≡ kept (heldOf (p .arrival .fragment) (p .payload))

@@ -1,11 +1,11 @@
--- Calls that happened: pushes and sweeps of the code, each related to the one before by the contracts of push and sweep, with keys made by key_of.
+-- Calls of push and sweep that happened, by their contracts, with keys made by key_of.
 use mathlib.Core.Path.{_≡_}
-use mathlib.Core.List.{List, [], _∷_, _++_}
-use mathlib.Core.Bool.{Bool, true, false, _&&_, _||_}
+use mathlib.Core.List.{List, [], _∷_}
+use mathlib.Core.Bool.{Bool, true, false, not, _&&_, _||_}
 use Prim.Native.Nat.{ℕ}
 use lib.Dec.{eqb}
 use lib.ListN.{length, drop}
-use Rattle.table.specs.declared.Table.{Table}
+use Rattle.machines.specs.Happened.{Outcome, Asks, asks-for, stepsOf}
 use Rattle.pushing.specs.declared.Pushed.{Pushed}
 use Rattle.pushing.specs.Push.{pushedOf, way, Goes}
 use Rattle.pushing.specs.Show.{shown}
@@ -13,48 +13,67 @@ use Rattle.sweeping.specs.Sweep.{swept, sweptAs}
 use Rattle.keys.specs.Keys.{Origin, keyFor}
 use Rattle.orders.specs.Runs.{State, Push, Call, push, sweep, Reply, pushed, dropped, part, refusedBy, forRoom, isSweep}
 
--- a call as it happened: a push under the key that key_of makes, with the output as it was lent, the answer, and the output as it came back; a sweep with its time and its answer
-pub data Happening : Type 0 where
-  push-event : (o : Origin) (p : Push) → p .arrival .key ≡ keyFor o → (out : List ℕ) → Pushed → (out′ : List ℕ) → Happening
-  sweep-event : ℕ → ℕ → Happening
+-- what is asked: a push under the key that key_of makes, with the output as it is lent, or a sweep at a time; and what comes back: the answer of a push and the output, or the number of a sweep
+pub data TableAsked : Type 0 where
+  push-asked : (o : Origin) (p : Push) → p .arrival .key ≡ keyFor o → (out : List ℕ) → TableAsked
+  sweep-asked : ℕ → TableAsked
 
--- one call, by its contract: push is lent the first bytes of the store, and the rest stays
-pub data Happens : State → Happening → State → Type 0 where
-  by-push : {z : State} {o : Origin} {p : Push} {answer : Pushed} {table′ : Table} {part′ out out′ : List ℕ} {key : p .arrival .key ≡ keyFor o} → length out ≡ p .room
-      → Goes (way (z .table) (part z p) (p .arrival) (p .payload) (length out)) (z .table) (part z p) out (p .arrival) (p .payload) answer table′ part′ out′
-      → Happens z (push-event o p key out answer out′) (record { table = table′; store = part′ ++ drop (p .lent) (z .store) })
-  by-sweep : {z : State} {time : ℕ} {many : ℕ} {table′ : Table} → sweptAs table′ many ≡ swept (z .table) time
-      → Happens z (sweep-event time many) (record { table = table′; store = z .store })
+pub data TableGot : Type 0 where
+  push-got : Pushed → (out′ : List ℕ) → TableGot
+  sweep-got : ℕ → TableGot
 
--- calls one after the other
-pub data Happened : State → List Happening → State → Type 0 where
-  none : {z : State} → Happened z [] z
-  more : {z z′ z″ : State} {e : Happening} {es : List Happening} → Happens z e z′ → Happened z′ es z″ → Happened z (e ∷ es) z″
+abbrev pub TableCall : Type 0
+TableCall = Outcome State TableAsked TableGot
 
--- what was asked, as a call of a run
-abbrev pub callOf : Happening → Call
-callOf (push-event o p key out answer out′) = push p
-callOf (sweep-event time many) = sweep time
+-- the contract of push, which is lent the first bytes of the store: the rest of them stays
+pub record PushMeets (z : State) (p : Push) (out : List ℕ) (answer : Pushed) (out′ : List ℕ) (z′ : State) : Type 0 where
+  pub long : length out ≡ p .room
+  pub goes : Goes (way (z .table) (part z p) (p .arrival) (p .payload) (length out)) (z .table) (part z p) out (p .arrival) (p .payload) answer (z′ .table) (part z′ p) out′
+  pub rest : drop (p .lent) (z′ .store) ≡ drop (p .lent) (z .store)
+
+abbrev pub tableMeets : State → TableAsked → TableGot → State → Type 0
+tableMeets z (push-asked o p key out) (push-got answer out′) z′ = PushMeets z p out answer out′ z′
+tableMeets z (sweep-asked time) (sweep-got many) z′ = (sweptAs (z′ .table) many ≡ swept (z .table) time) × (z′ .store ≡ z .store)
+tableMeets z (push-asked o p key out) (sweep-got many) z′ = ⊥
+tableMeets z (sweep-asked time) (push-got answer out′) z′ = ⊥
+
+abbrev pub tableContract : TableCall → Type 0
+tableContract c = tableMeets (c .was) (c .asked) (c .got) (c .became)
+
+-- what was asked, as calls of a run
+abbrev pub callOf : TableAsked → Call
+callOf (push-asked o p key out) = push p
+callOf (sweep-asked time) = sweep time
+
+abbrev pub asksCall : TableAsked → Asks Call
+asksCall a = asks-for (callOf a)
+
+abbrev pub callsOf : List TableCall → List Call
+callsOf = stepsOf asksCall
 
 -- what the caller got: the answer of a push and the bytes that show shows then, or the number of a sweep
 pub data Got : Type 0 where
   from-push : Pushed → List ℕ → Got
   from-sweep : ℕ → Got
 
-abbrev pub gotBy : Happening → Got
-gotBy (push-event o p key out answer out′) = from-push answer (shown (pushedOf answer) (p .payload) out′)
-gotBy (sweep-event time many) = from-sweep many
+abbrev pub gotFrom : TableAsked → TableGot → Got
+gotFrom (push-asked o p key out) (push-got answer out′) = from-push answer (shown (pushedOf answer) (p .payload) out′)
+gotFrom (sweep-asked time) (push-got answer out′) = from-push answer []
+gotFrom a (sweep-got many) = from-sweep many
 
--- the same in a run's words, and whether it is a refusal, or one for table room
+abbrev pub gotBy : TableCall → Got
+gotBy c = gotFrom (c .asked) (c .got)
+
+-- the same in a run's words; and whether it is no refusal, or none for table room
 abbrev pub replyOf : Got → Reply
 replyOf (from-push answer bytes) = pushed (pushedOf answer) bytes
 replyOf (from-sweep many) = dropped many
 
-abbrev pub isRefused : Happening → Bool
-isRefused e = refusedBy (λ n. true) (replyOf (gotBy e))
+abbrev pub wasAccepted : TableCall → Bool
+wasAccepted c = not (refusedBy (λ n. true) (replyOf (gotBy c)))
 
-abbrev pub isFull : Happening → Bool
-isFull e = refusedBy forRoom (replyOf (gotBy e))
+abbrev pub hadRoom : TableCall → Bool
+hadRoom c = not (refusedBy forRoom (replyOf (gotBy c)))
 
 -- the pushes of one sender's message, the sweeps, and both
 unfoldable pub sameBytes : List ℕ → List ℕ → Bool
@@ -63,12 +82,15 @@ sameBytes [] (c ∷ cs) = false
 sameBytes (b ∷ bs) [] = false
 sameBytes (b ∷ bs) (c ∷ cs) = eqb b c && sameBytes bs cs
 
-abbrev pub isFrom : Origin → Happening → Bool
-isFrom o (push-event o′ p key out answer out′) = sameBytes (o′ .sender) (o .sender) && eqb (o′ .message-id) (o .message-id)
-isFrom o (sweep-event time many) = false
+abbrev pub asksFrom : Origin → TableAsked → Bool
+asksFrom o (push-asked o′ p key out) = sameBytes (o′ .sender) (o .sender) && eqb (o′ .message-id) (o .message-id)
+asksFrom o (sweep-asked time) = false
 
-abbrev pub isSweepEvent : Happening → Bool
-isSweepEvent e = isSweep (callOf e)
+abbrev pub isFrom : Origin → TableCall → Bool
+isFrom o c = asksFrom o (c .asked)
 
-abbrev pub isAbout : Origin → Happening → Bool
-isAbout o e = isFrom o e || isSweepEvent e
+abbrev pub isSweepCall : TableCall → Bool
+isSweepCall c = isSweep (callOf (c .asked))
+
+abbrev pub isAbout : Origin → TableCall → Bool
+isAbout o c = isFrom o c || isSweepCall c

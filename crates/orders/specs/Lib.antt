@@ -2,5 +2,4 @@ pub mod Runs
 pub mod Shares
 pub mod Messages
 pub mod Happened
-pub mod Together
 pub mod Claims

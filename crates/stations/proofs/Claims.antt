@@ -1,27 +1,29 @@
 -- The claims of specs/Claims.antt, proved.
 use mathlib.Core.Path.{_≡_, refl, sym, ap}
-use mathlib.Core.Bool.{Bool, true, false, cond, true≢false}
-use mathlib.Core.List.{List, [], _∷_}
+use mathlib.Core.Bool.{false, true≢false}
+use mathlib.Core.List.{List, []}
 use Prim.Native.Nat.{ℕ, _<_, _/_, _%_}
 use native.Mathlib.Omega.{arith}
 use lib.ListN.{getD}
-use Rattle.numbers.specs.Numbers.{Answer, gives, refuses, andThen, mapped, isGiven}
+use Rattle.numbers.specs.Numbers.{Answer, gives, refuses, mapped, isGiven}
 use Rattle.numbers.proofs.Answers.{given}
 use Rattle.numbers.proofs.Firm.{firm, never, by-equation, by-telling, both}
 use Rattle.machines.specs.Machine.{run}
+use Rattle.machines.specs.Happened.{andSteps}
 use Rattle.records.specs.declared.MacAddr.{MacAddr}
-use Rattle.records.specs.Reading.{RecordRead, readRecord}
 use Rattle.records.specs.Values.{octets}
 use Rattle.stations.specs.declared.Heard.{Heard}
 use Rattle.stations.specs.declared.Answered.{Answered}
 use Rattle.stations.specs.declared.Applied.{Applied}
 use Rattle.stations.specs.Addresses.{numberOf, addressOf}
-use Rattle.stations.specs.Whereabouts.{eventOf}
+use Rattle.stations.specs.Whereabouts.{Event, eventOf}
 use Rattle.stations.specs.Rows.{Stations, freshStations, answerTo, tableAfter}
-use Rattle.stations.specs.Events.{answeredOf, Taken, appliedOf, eventIn, associationCode, answerFrom, tableFrom}
-use Rattle.stations.specs.Runs.{ends}
+use Rattle.stations.specs.Events.{answeredOf, Taken, appliedOf, AssociationRead, associationRead, answerToRead, tableAfterRead, answerFrom, tableFrom}
+use Rattle.stations.specs.Runs.{of-value, eventRead, eventBy}
 use Rattle.stations.specs.Claims.{Firmness, Claims}
 use Rattle.stations.proofs.Sound.{moves, why-refused, full-is-128, sound}
+use Rattle.stations.proofs.Associations.{reads-association}
+use Rattle.stations.proofs.Answers.{answered-when, stale-unaltered}
 use Rattle.stations.proofs.Orders.{exactly-when, order-across-stations, swapped}
 
 answered-one : (a b : Answered) → answeredOf a ≡ answeredOf b → a ≡ b
@@ -36,7 +38,7 @@ applied-one (Applied.Heard h n) (Applied.Refused g) e = never _ _ _ e
 applied-one (Applied.Refused f) (Applied.Heard k m) e = never _ _ _ (sym e)
 applied-one (Applied.Refused f) (Applied.Refused g) e = ap Applied.Refused (firm Taken f g e)
 
-pub firmness : Firmness
+firmness : Firmness
 firmness = record {
   fresh = by-equation freshStations;
   event = λ t e. both (λ (a : Answered). answeredOf a ≡ answerTo t (eventOf e)) (λ (x : Stations). x ≡ tableAfter t (eventOf e)) (by-telling answeredOf answered-one _) (by-equation _);
@@ -47,21 +49,23 @@ firmness = record {
 }
 
 value-refused : (t : Stations) (value : List ℕ) → isGiven (answerFrom t value) ≡ false → tableFrom t value ≡ t
-value-refused t value h = by-reading (readRecord associationCode value) (answerTo t (eventIn value)) refl h
+value-refused t value h = by-read (associationRead value) h
   where
-    by-reading : (x : Answer RecordRead) (a : Answer Heard) → answerTo t (eventIn value) ≡ a → isGiven {A = Taken} (andThen x (λ y. mapped (λ k. record { heard = k; consumed = y .consumed }) a)) ≡ false
-        → cond (isGiven x) (tableAfter t (eventIn value)) t ≡ t
-    by-reading (gives x) (gives k) e h = absurd (true≢false h)
-    by-reading (gives x) (refuses n vs) e h = why-refused t (eventIn value) (ap isGiven e) .unaltered
-    by-reading (refuses n vs) a e h = refl
+    by-answer : (e : Event) (n : ℕ) (a : Answer Heard) → answerTo t e ≡ a → isGiven {A = Taken} (mapped (λ k. record { heard = k; consumed = n }) a) ≡ false → tableAfter t e ≡ t
+    by-answer e n (gives k) q h = absurd (true≢false h)
+    by-answer e n (refuses m vs) q h = why-refused t e (ap isGiven q) .unaltered
 
-from-value : (t : Stations) (value : List ℕ) → tableFrom t value ≡ ends t (cond (isGiven (readRecord associationCode value)) (eventIn value ∷ []) [])
+    by-read : (x : Answer AssociationRead) → isGiven (answerToRead t x) ≡ false → tableAfterRead t x ≡ t
+    by-read (gives x) h = by-answer (eventOf (x .association)) (x .consumed) (answerTo t (eventOf (x .association))) refl h
+    by-read (refuses n vs) h = refl
+
+event-in-value : (t : Stations) (value : List ℕ) → tableFrom t value ≡ run tableAfter t (andSteps (eventBy (of-value value)) [])
 unfolding run
-from-value t value = by-test (isGiven (readRecord associationCode value))
+event-in-value t value = by-read (associationRead value)
   where
-    by-test : (b : Bool) → cond b (tableAfter t (eventIn value)) t ≡ ends t (cond b (eventIn value ∷ []) [])
-    by-test true = refl
-    by-test false = refl
+    by-read : (x : Answer AssociationRead) → tableAfterRead t x ≡ run tableAfter t (andSteps (eventRead x) [])
+    by-read (gives x) = refl
+    by-read (refuses n vs) = refl
 
 address-kept : (m : MacAddr) → ((i : ℕ) → getD (octets m) i 0 < 256) → addressOf (numberOf m) ≡ m
 unfolding addressOf
@@ -94,14 +98,18 @@ address-kept m h = λ i. record {
 
 pub claims : Claims
 claims = record {
+  firmness = firmness;
   moves = moves;
   why-refused = why-refused;
+  answered-when = answered-when;
+  stale-unaltered = stale-unaltered;
   full-is-128 = full-is-128;
   sound = sound;
   exactly-when = exactly-when;
   order-across-stations = order-across-stations;
   swapped = swapped;
+  reads-association = reads-association;
   value-refused = value-refused;
-  from-value = from-value;
+  event-in-value = event-in-value;
   address-kept = address-kept;
 }

@@ -11,7 +11,7 @@ use Rattle.numbers.specs.Numbers.{gives, isGiven}
 use Rattle.stations.specs.declared.Heard.{Heard}
 use Rattle.stations.specs.Whereabouts.{Whereabouts, nowhere, at, Event, whereAfter, answerAt}
 use Rattle.stations.specs.Rows.{Stations, freshStations, pointAt, rowWith, withRow, whereOf, answerTo, tableAfter}
-use Rattle.stations.specs.Runs.{isAccepted}
+use Rattle.stations.specs.Runs.{takesEvent}
 use Rattle.stations.proofs.Ways.{known-place, unknown-place, known, new, full, removed, late, not-held}
 use Rattle.stations.proofs.Written.{Kept, has-code, no-code, row-written, point-written, stays, goes, gone, keeps}
 
@@ -64,17 +64,17 @@ module _ (t : Stations) (k : Kept t) (station : ℕ) where
 -- what an event does and answers
 pub record Acts (t : Stations) (e : Event) : Type 0 where
   pub kept : Kept (tableAfter t e)
-  pub own : isAccepted t e ≡ true → whereOf (tableAfter t e) (e .station) ≡ whereAfter e (whereOf t (e .station))
+  pub own : takesEvent t e ≡ true → whereOf (tableAfter t e) (e .station) ≡ whereAfter e (whereOf t (e .station))
   pub others : (s : ℕ) → (s ≡ e .station → ⊥) → whereOf (tableAfter t e) s ≡ whereOf t s
-  pub refused : isAccepted t e ≡ false → tableAfter t e ≡ t
-  pub said : isAccepted t e ≡ true → answerTo t e ≡ answerAt false e (whereOf t (e .station))
+  pub refused : takesEvent t e ≡ false → tableAfter t e ≡ t
+  pub said : takesEvent t e ≡ true → answerTo t e ≡ answerAt false e (whereOf t (e .station))
 
 module _ (t : Stations) (k : Kept t) (station point : ℕ) where
   abbrev join : Event
-  join = record { station = station; point = point; joined = true }
+  join = record { station = station; point = point; is-join = true }
 
   abbrev leave : Event
-  leave = record { station = station; point = point; joined = false }
+  leave = record { station = station; point = point; is-join = false }
 
   -- by its effect, where it is accepted
   by-effect : (e : Event) (t′ : Stations) (given : Heard) → t′ ≡ tableAfter t e → gives given ≡ answerTo t e → gives given ≡ answerAt false e (whereOf t (e .station))
@@ -101,7 +101,7 @@ module _ (t : Stations) (k : Kept t) (station point : ℕ) where
   join-acts false false p q =
       let none = ltb-false _ _ p in
       let x = full t station point (rowWith t (station + 1)) (rowWith t 0) refl none refl (ltb-false _ _ q) in
-      let no : isAccepted t join ≡ true → ⊥ = λ h. false≢true (ap isGiven (x .0) ∙ h) in
+      let no : takesEvent t join ≡ true → ⊥ = λ h. false≢true (ap isGiven (x .0) ∙ h) in
       record {
         kept = subst Kept (x .1) k;
         own = λ h. absurd (no h);
@@ -125,11 +125,11 @@ module _ (t : Stations) (k : Kept t) (station point : ℕ) where
       by-effect leave _ _ (x .1) (x .0) (x .0) (subst (Effect t _ station) (rw (unknown-place t station _ refl none)) (same-effect t k station))
 
 pub acts : (t : Stations) → Kept t → (e : Event) → Acts t e
-acts t k e = by-state (e .joined) refl
+acts t k e = by-state (e .is-join) refl
   where
-    by-state : (b : Bool) → e .joined ≡ b → Acts t e
-    by-state true q = subst (Acts t) (λ i. record { station = e .station; point = e .point; joined = sym q i }) (join-acts t k (e .station) (e .point) _ _ refl refl)
-    by-state false q = subst (Acts t) (λ i. record { station = e .station; point = e .point; joined = sym q i }) (leave-acts t k (e .station) (e .point) _ _ refl refl)
+    by-state : (b : Bool) → e .is-join ≡ b → Acts t e
+    by-state true q = subst (Acts t) (λ i. record { station = e .station; point = e .point; is-join = sym q i }) (join-acts t k (e .station) (e .point) _ _ refl refl)
+    by-state false q = subst (Acts t) (λ i. record { station = e .station; point = e .point; is-join = sym q i }) (leave-acts t k (e .station) (e .point) _ _ refl refl)
 
 -- a fresh table is kept, and no station is anywhere in it
 fresh-zero : (i : ℕ) → i < 256 → getD freshStations i 0 ≡ 0

@@ -20,7 +20,7 @@ module _ (point : ℕ) where
 
   -- no join, and no leave that named the access point
   record Quiet (es : List Event) : Type 0 where
-    pub no-join : those (λ e. e .joined) es ≡ []
+    pub no-join : those (λ e. e .is-join) es ≡ []
     pub no-leave : those named es ≡ []
 
   -- either the latest join did it, or the station was there all the time
@@ -32,22 +32,22 @@ module _ (point : ℕ) where
   nothing-left e es h = let z : _≡_ {A = ℕ} 0 1 = cc in absurd (omega arith)
 
   -- the first event of quiet ones is a leave of another access point
-  first-quiet : (e : Event) (es : List Event) → Quiet (e ∷ es) → (e .joined ≡ false) × (named e ≡ false) × Quiet es
+  first-quiet : (e : Event) (es : List Event) → Quiet (e ∷ es) → (e .is-join ≡ false) × (named e ≡ false) × Quiet es
   unfolding those
-  first-quiet e es q = by-tests (e .joined) (named e) refl refl (q .no-join) (q .no-leave)
+  first-quiet e es q = by-tests (e .is-join) (named e) refl refl (q .no-join) (q .no-leave)
     where
-      by-tests : (a b : Bool) → e .joined ≡ a → named e ≡ b → cond a (e ∷ those (λ x. x .joined) es) (those (λ x. x .joined) es) ≡ [] → cond b (e ∷ those named es) (those named es) ≡ []
-          → (e .joined ≡ false) × (named e ≡ false) × Quiet es
+      by-tests : (a b : Bool) → e .is-join ≡ a → named e ≡ b → cond a (e ∷ those (λ x. x .is-join) es) (those (λ x. x .is-join) es) ≡ [] → cond b (e ∷ those named es) (those named es) ≡ []
+          → (e .is-join ≡ false) × (named e ≡ false) × Quiet es
       by-tests true b f g h h′ = nothing-left e _ h
       by-tests false true f g h h′ = nothing-left e _ h′
       by-tests false false f g h h′ = (f, g, record { no-join = h; no-leave = h′ })
 
-  one-more : (e : Event) (es : List Event) → e .joined ≡ false → named e ≡ false → Quiet es → Quiet (e ∷ es)
+  one-more : (e : Event) (es : List Event) → e .is-join ≡ false → named e ≡ false → Quiet es → Quiet (e ∷ es)
   unfolding those
   one-more e es f g q = record { no-join = rw f (q .no-join); no-leave = rw g (q .no-leave) }
 
   -- a leave of another access point leaves the station there
-  not-moved : (e : Event) → e .joined ≡ false → named e ≡ false → whereAfter e (at point) ≡ at point
+  not-moved : (e : Event) → e .is-join ≡ false → named e ≡ false → whereAfter e (at point) ≡ at point
   not-moved e f g = rw (f, ne-eqb point (e .point) (λ q. eqb-false (e .point) point g (sym q)))
 
   stays-there : (es : List Event) → Quiet es → led (at point) es ≡ at point
@@ -74,7 +74,7 @@ module _ (point : ℕ) where
       joined-there x = rw (l .joins) (ap at (l .named))
 
   -- the way back
-  back : (e : Event) (es : List Event) (p : Whereabouts) → Because (whereAfter e p) es → (b : Bool) → e .joined ≡ b → (c : Bool) → isAt (e .point) p ≡ c → Because p (e ∷ es)
+  back : (e : Event) (es : List Event) (p : Whereabouts) → Because (whereAfter e p) es → (b : Bool) → e .is-join ≡ b → (c : Bool) → isAt (e .point) p ≡ c → Because p (e ∷ es)
   back e es p (joined-it l) b f c g = joined-it (record {
     before = e ∷ l .before;
     join = l .join;
@@ -100,7 +100,7 @@ module _ (point : ℕ) where
   because : (es : List Event) (p : Whereabouts) → led p es ≡ at point → Because p es
   unfolding led those
   because [] p h = was-there h (record { no-join = refl; no-leave = refl })
-  because (e ∷ es) p h = back e es p (because es (whereAfter e p) h) (e .joined) refl (isAt (e .point) p) refl
+  because (e ∷ es) p h = back e es p (because es (whereAfter e p) h) (e .is-join) refl (isAt (e .point) p) refl
 
   pub led-only : (es : List Event) → led nowhere es ≡ at point → LatestJoin point es
   led-only es h = by-case (because es nowhere h)

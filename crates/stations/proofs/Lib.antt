@@ -4,5 +4,6 @@ pub mod Written
 pub mod Effects
 pub mod Latest
 pub mod Orders
+pub mod Answers
 pub mod Sound
 pub mod Claims

@@ -11,12 +11,12 @@ use Rattle.numbers.specs.Numbers.{isGiven, gives, refuses}
 use Rattle.stations.specs.declared.Heard.{Heard}
 use Rattle.stations.specs.Whereabouts.{Whereabouts, nowhere, at, Event, isNowhere, heardOf}
 use Rattle.stations.specs.Rows.{Stations, pointAt, rowWith, whereOf, allHeld, afterJoin, free, holds, rowFrom, rowAt, oneIf, countBelow, countOf}
-use Rattle.stations.specs.Runs.{isAccepted}
-use Rattle.stations.specs.Claims.{Made, Moves, WhyRefused, FullIs128, InRow, Sound}
+use Rattle.stations.specs.Runs.{takesEvent}
+use Rattle.stations.specs.Claims.{StationsMade, Moves, WhyRefused, FullIs128, InRow, SoundStations}
 use Rattle.stations.proofs.Ways.{known-place, unknown-place}
 use Rattle.stations.proofs.Written.{Kept, has-code, no-code}
 use Rattle.stations.proofs.Effects.{acts}
-use Rattle.stations.proofs.Orders.{run-kept}
+use Rattle.stations.proofs.Orders.{made-kept}
 
 -- a row that holds a station: its number, its code and its access point
 record Has (t : Stations) (i station point : ℕ) : Type 0 where
@@ -95,10 +95,7 @@ full-is-128 t = record { only = full-all t; if = λ h. by-end (ltb (rowWith t 0)
     by-end true q h = let l = ltb-true (rowWith t 0) 128 q in absurd (omega (arith, one-free t (rowWith t 0) 128 l (has-code t 0 l)))
     by-end false q h = refl
 
-pub made-kept : (t : Stations) → Made t → Kept t
-made-kept t m = subst Kept (m .is) (run-kept (m .events))
-
-pub moves : (t : Stations) → Made t → (e : Event) → Moves t e
+pub moves : (t : Stations) → StationsMade t → (e : Event) → Moves t e
 moves t m e = let a = acts t (made-kept t m) e in record { own = a .own; others = a .others }
 
 -- a join that finds no room alters nothing
@@ -110,17 +107,17 @@ no-room t station point none full = by-end (ltb (rowWith t (station + 1)) 128) r
     by-end true q = let no = sym (known-place t station (rowWith t (station + 1)) refl (ltb-true (rowWith t (station + 1)) 128 q)) ∙ none in let z : _≡_ {A = ℕ} 0 1 = cc in absurd (omega arith)
     by-end false q = rw (q, full)
 
-pub why-refused : (t : Stations) (e : Event) → isAccepted t e ≡ false → WhyRefused t e
-why-refused t e h = by-tests (e .joined) refl (whereOf t (e .station)) refl (allHeld t) refl h
+pub why-refused : (t : Stations) (e : Event) → takesEvent t e ≡ false → WhyRefused t e
+why-refused t e h = by-tests (e .is-join) refl (whereOf t (e .station)) refl (allHeld t) refl h
   where
-    by-tests : (a : Bool) → e .joined ≡ a → (p : Whereabouts) → whereOf t (e .station) ≡ p → (b : Bool) → allHeld t ≡ b
+    by-tests : (a : Bool) → e .is-join ≡ a → (p : Whereabouts) → whereOf t (e .station) ≡ p → (b : Bool) → allHeld t ≡ b
         → isGiven {A = Heard} (cond (a && (isNowhere p && b)) (refuses 17 []) (gives (heardOf e p))) ≡ false → WhyRefused t e
-    by-tests true f nowhere g true k h = record { join = f; unknown = g; full = full-all t k; unaltered = rw f (no-room t (e .station) (e .point) g k) }
+    by-tests true f nowhere g true k h = record { number = rw (f, g, k); join = f; unknown = g; full = full-all t k; unaltered = rw f (no-room t (e .station) (e .point) g k) }
     by-tests true f nowhere g false k h = absurd (true≢false h)
     by-tests true f (at p) g b k h = absurd (true≢false h)
     by-tests false f p g b k h = absurd (true≢false h)
 
-pub sound : (t : Stations) → Made t → Sound t
+pub sound : (t : Stations) → StationsMade t → SoundStations t
 sound t m = record {
   at-most = few t 128;
   once = λ station i p j q a b.

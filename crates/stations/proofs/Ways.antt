@@ -36,10 +36,10 @@ room-is t n e h = rw (sym e, lt-ltb n 128 h)
 -- a join and a leave, by their ways
 module _ (t : Stations) (station point : ℕ) where
   abbrev join : Event
-  join = record { station = station; point = point; joined = true }
+  join = record { station = station; point = point; is-join = true }
 
   abbrev leave : Event
-  leave = record { station = station; point = point; joined = false }
+  leave = record { station = station; point = point; is-join = false }
 
   abbrev pub Joined : Answer Heard → Stations → Type 0
   Joined answer after = (answer ≡ answerTo t join) × (after ≡ afterJoin t station point)

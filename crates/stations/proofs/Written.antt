@@ -31,7 +31,7 @@ pub record Written (t t′ : Stations) (r c p : ℕ) : Type 0 where
   pub long : length t′ ≡ length t
   pub code : getD t′ r 0 ≡ c
   pub point : pointAt t′ r ≡ p
-  pub codes : (i : ℕ) → i < 128 → (i ≡ r → ⊥) → getD t′ i 0 ≡ getD t i 0
+  pub marks : (i : ℕ) → i < 128 → (i ≡ r → ⊥) → getD t′ i 0 ≡ getD t i 0
   pub points : (i : ℕ) → i < 128 → (i ≡ r → ⊥) → pointAt t′ i ≡ pointAt t i
 
 pub row-written : (t : Stations) (r c p : ℕ) → length t ≡ 256 → r < 128 → Written t (withRow t r c p) r c p
@@ -40,7 +40,7 @@ row-written t r c p long h = record {
   long = length-set (set t r c) (128 + r) p ∙ length-set t r c;
   code = getD-set-other (set t r c) (128 + r) r p 0 (λ e. absurd (omega arith)) ∙ getD-set-same t r c 0 (omega arith);
   point = getD-set-same (set t r c) (128 + r) p 0 (omega (arith, length-set t r c));
-  codes = λ i l ne. getD-set-other (set t r c) (128 + r) i p 0 (λ e. absurd (omega arith)) ∙ getD-set-other t r i c 0 ne;
+  marks = λ i l ne. getD-set-other (set t r c) (128 + r) i p 0 (λ e. absurd (omega arith)) ∙ getD-set-other t r i c 0 ne;
   points = λ i l ne. getD-set-other (set t r c) (128 + r) (128 + i) p 0 (λ e. ne (omega arith)) ∙ getD-set-other t r (128 + i) c 0 (λ e. absurd (omega arith));
 }
 
@@ -50,7 +50,7 @@ point-written t r p long h = record {
   long = length-set t (128 + r) p;
   code = getD-set-other t (128 + r) r p 0 (λ e. absurd (omega arith));
   point = getD-set-same t (128 + r) p 0 (omega arith);
-  codes = λ i l ne. getD-set-other t (128 + r) i p 0 (λ e. absurd (omega arith));
+  marks = λ i l ne. getD-set-other t (128 + r) i p 0 (λ e. absurd (omega arith));
   points = λ i l ne. getD-set-other t (128 + r) (128 + i) p 0 (λ e. ne (omega arith));
 }
 
@@ -61,7 +61,7 @@ module _ (t t′ : Stations) (r c p : ℕ) (w : Written t t′ r c p) where
     same-test i l true e =
         let same : i ≡ r = eqb-true i r e in
         ne-eqb _ _ (λ q. is (sym (w .code) ∙ ap (λ (k : ℕ). getD t′ k 0) (sym same) ∙ q)) ∙ sym (ne-eqb _ _ (λ q. was (ap (λ (k : ℕ). getD t k 0) (sym same) ∙ q)))
-    same-test i l false e = ap (λ (x : ℕ). eqb x (station + 1)) (w .codes i l (eqb-false i r e))
+    same-test i l false e = ap (λ (x : ℕ). eqb x (station + 1)) (w .marks i l (eqb-false i r e))
 
     same-row : rowWith t′ (station + 1) ≡ rowWith t (station + 1)
     same-row = lowest-same (λ i. eqb (getD t′ i 0) (station + 1)) (λ i. eqb (getD t i 0) (station + 1)) 128 (λ i l. same-test i l (eqb i r) refl)
@@ -87,14 +87,14 @@ module _ (t t′ : Stations) (r c p : ℕ) (w : Written t t′ r c p) where
     where
       here : r ≡ rowWith t′ (station + 1)
       here = lowest-is (λ i. eqb (getD t′ i 0) (station + 1)) 128 r (w .within) (eq-eqb _ _ (w .code ∙ is))
-          (λ j l. ne-eqb _ _ (λ q. none j (omega (arith, w .within)) (λ e. absurd (omega arith)) (sym (w .codes j (omega (arith, w .within)) (λ e. absurd (omega arith))) ∙ q)))
+          (λ j l. ne-eqb _ _ (λ q. none j (omega (arith, w .within)) (λ e. absurd (omega arith)) (sym (w .marks j (omega (arith, w .within)) (λ e. absurd (omega arith))) ∙ q)))
 
   pub gone : (station : ℕ) → (c ≡ station + 1 → ⊥) → Alone (station + 1) → whereOf t′ station ≡ nowhere
   gone station is none = unknown-place t′ station 128 here (omega arith)
     where
       not-there : (j : ℕ) → j < 128 → (b : Bool) → eqb j r ≡ b → eqb (getD t′ j 0) (station + 1) ≡ false
       not-there j l true e = ne-eqb _ _ (λ q. is (sym (w .code) ∙ ap (λ (k : ℕ). getD t′ k 0) (sym (eqb-true j r e)) ∙ q))
-      not-there j l false e = ne-eqb _ _ (λ q. none j l (eqb-false j r e) (sym (w .codes j l (eqb-false j r e)) ∙ q))
+      not-there j l false e = ne-eqb _ _ (λ q. none j l (eqb-false j r e) (sym (w .marks j l (eqb-false j r e)) ∙ q))
 
       here : 128 ≡ rowWith t′ (station + 1)
       here = lowest-none (λ i. eqb (getD t′ i 0) (station + 1)) 128 (λ j l. not-there j l (eqb j r) refl)
@@ -107,21 +107,21 @@ module _ (t t′ : Stations) (r c p : ℕ) (w : Written t t′ r c p) where
       bare i l e true q =
           let same : i ≡ r = eqb-true i r q in
           ap (pointAt t′) same ∙ w .point ∙ clean (sym (w .code) ∙ ap (λ (n : ℕ). getD t′ n 0) (sym same) ∙ e)
-      bare i l e false q = let ne = eqb-false i r q in w .points i l ne ∙ k .bare i l (sym (w .codes i l ne) ∙ e)
+      bare i l e false q = let ne = eqb-false i r q in w .points i l ne ∙ k .bare i l (sym (w .marks i l ne) ∙ e)
 
       by-rows : (i j : ℕ) → i < 128 → j < 128 → getD t′ i 0 ≡ getD t′ j 0 → (getD t′ i 0 ≡ 0 → ⊥) → (a : Bool) → eqb i r ≡ a → (b : Bool) → eqb j r ≡ b → i ≡ j
       by-rows i j l m e used true q true q′ = eqb-true i r q ∙ sym (eqb-true j r q′)
       by-rows i j l m e used true q false q′ =
           let ne = eqb-false j r q′ in
           let is : getD t′ i 0 ≡ c = ap (λ (n : ℕ). getD t′ n 0) (eqb-true i r q) ∙ w .code in
-          absurd (none (λ z. used (is ∙ z)) j m ne (sym (w .codes j m ne) ∙ sym e ∙ is))
+          absurd (none (λ z. used (is ∙ z)) j m ne (sym (w .marks j m ne) ∙ sym e ∙ is))
       by-rows i j l m e used false q true q′ =
           let ne = eqb-false i r q in
           let is : getD t′ j 0 ≡ c = ap (λ (n : ℕ). getD t′ n 0) (eqb-true j r q′) ∙ w .code in
-          absurd (none (λ z. used (e ∙ is ∙ z)) i l ne (sym (w .codes i l ne) ∙ e ∙ is))
+          absurd (none (λ z. used (e ∙ is ∙ z)) i l ne (sym (w .marks i l ne) ∙ e ∙ is))
       by-rows i j l m e used false q false q′ =
-          let was = w .codes i l (eqb-false i r q) in
-          k .once i j l m (sym was ∙ e ∙ w .codes j m (eqb-false j r q′)) (λ z. used (was ∙ z))
+          let was = w .marks i l (eqb-false i r q) in
+          k .once i j l m (sym was ∙ e ∙ w .marks j m (eqb-false j r q′)) (λ z. used (was ∙ z))
 
       once : (i j : ℕ) → i < 128 → j < 128 → getD t′ i 0 ≡ getD t′ j 0 → (getD t′ i 0 ≡ 0 → ⊥) → i ≡ j
       once i j l m e used = by-rows i j l m e used (eqb i r) refl (eqb j r) refl

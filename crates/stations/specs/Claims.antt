@@ -1,25 +1,28 @@
--- What is claimed of this crate's calls, and of runs of them: the records Firmness and Claims, which proofs/Claims.antt proves.
+-- What is claimed of this crate's calls, and of calls that happened: the records Firmness and Claims, which proofs/Claims.antt proves.
 use mathlib.Core.Path.{_≡_}
-use mathlib.Core.Bool.{true, false, cond}
-use mathlib.Core.List.{List, [], _∷_, _++_}
+use mathlib.Core.Bool.{true, false}
+use mathlib.Core.List.{List, [], _∷_, _++_, map}
 use Prim.Native.Nat.{ℕ, _<_, _≤_}
 use lib.ListN.{getD}
-use Rattle.numbers.specs.Numbers.{isGiven}
+use Rattle.numbers.specs.Numbers.{gives, refuses, isGiven}
 use Rattle.numbers.specs.Firmness.{Firm}
-use Rattle.machines.specs.Machine.{those}
+use Rattle.machines.specs.Machine.{those, run}
+use Rattle.machines.specs.Happened.{Happened, andSteps}
 use Rattle.records.specs.declared.MacAddr.{MacAddr}
 use Rattle.records.specs.declared.ClientAssociation.{ClientAssociation}
-use Rattle.records.specs.Reading.{readRecord}
-use Rattle.records.specs.Values.{octets}
+use Rattle.records.specs.declared.Record.{Record}
+use Rattle.records.specs.Reading.{RecordRead, readRecord}
+use Rattle.records.specs.Values.{octets, associationIn}
+use Rattle.stations.specs.declared.Heard.{Heard}
 use Rattle.stations.specs.declared.Answered.{Answered}
 use Rattle.stations.specs.declared.Applied.{Applied}
 use Rattle.stations.specs.declared.Where.{Where}
 use Rattle.stations.specs.declared.Listed.{Listed}
 use Rattle.stations.specs.Addresses.{numberOf, addressOf}
-use Rattle.stations.specs.Whereabouts.{nowhere, at, Event, eventOf, whereAfter}
+use Rattle.stations.specs.Whereabouts.{Whereabouts, nowhere, at, Event, eventOf, whereAfter}
 use Rattle.stations.specs.Rows.{Stations, freshStations, rows, pointAt, whereOf, allHeld, answerTo, tableAfter, free, holds, rowAt, countOf, whereShown, rowShown}
-use Rattle.stations.specs.Events.{answeredOf, appliedOf, eventIn, associationCode, answerFrom, tableFrom}
-use Rattle.stations.specs.Runs.{isOwn, isAccepted, ends, accepted, answersTo, noneRefused, LatestJoin}
+use Rattle.stations.specs.Events.{answeredOf, appliedOf, associationCode, answerFrom, tableFrom}
+use Rattle.stations.specs.Runs.{StationCall, stationContract, of-value, eventBy, eventsOf, heardBy, wasHeard, NoneRefused, isOfStation, broughtFor, takesEvent, LatestJoin}
 
 -- each public call by its name: any two answers, with the table that was lent, that its contract allows are one
 pub record Firmness : Type 0 where
@@ -30,22 +33,42 @@ pub record Firmness : Type 0 where
   pub count : (t : Stations) → Firm (λ r. r ≡ countOf t)
   pub row : (t : Stations) (n : ℕ) → Firm {A = Listed} (λ r. r ≡ rowShown (rowAt t n))
 
--- a table that events made of a fresh one
-pub record Made (t : Stations) : Type 0 where
-  pub events : List Event
-  pub is : ends freshStations events ≡ t
+-- a table that calls made of a fresh one
+pub record StationsMade (t : Stations) : Type 0 where
+  pub calls : List StationCall
+  pub happened : Happened stationContract freshStations calls t
 
 -- What one event does: its own station goes where the event says, and every other one stays where it was.
 pub record Moves (t : Stations) (e : Event) : Type 0 where
-  pub own : isAccepted t e ≡ true → whereOf (tableAfter t e) (e .station) ≡ whereAfter e (whereOf t (e .station))
+  pub own : takesEvent t e ≡ true → whereOf (tableAfter t e) (e .station) ≡ whereAfter e (whereOf t (e .station))
   pub others : (station : ℕ) → (station ≡ e .station → ⊥) → whereOf (tableAfter t e) station ≡ whereOf t station
 
--- Refused is a join of a station that is not held, with 128 held, and nothing else; it alters nothing.
+-- Refused, with 17, is a join of a station that is not held, with 128 held, and nothing else; it alters nothing.
 pub record WhyRefused (t : Stations) (e : Event) : Type 0 where
-  pub join : e .joined ≡ true
+  pub number : answerTo t e ≡ refuses 17 []
+  pub join : e .is-join ≡ true
   pub unknown : whereOf t (e .station) ≡ nowhere
   pub full : countOf t ≡ 128
   pub unaltered : tableAfter t e ≡ t
+
+-- When each answer is given to an event whose station was somewhere: a join says if the station is new, has moved and from where, or was there already; a leave removes it
+-- from the access point that it names, and "such a late leave, or a leave of a station not held, changes nothing and answers "stale""
+pub record MovedFrom (from : MacAddr) (point : ℕ) (was : Whereabouts) : Type 0 where
+  pub old : ℕ
+  pub there : was ≡ at old
+  pub elsewhere : old ≡ point → ⊥
+  pub shown-as : from ≡ addressOf old
+
+abbrev pub HeardWhen : Event → Whereabouts → Heard → Type 0
+HeardWhen e was Heard.Placed = (e .is-join ≡ true) × (was ≡ nowhere)
+HeardWhen e was (Heard.Moved from) = (e .is-join ≡ true) × MovedFrom from (e .point) was
+HeardWhen e was Heard.Same = (e .is-join ≡ true) × (was ≡ at (e .point))
+HeardWhen e was Heard.Removed = (e .is-join ≡ false) × (was ≡ at (e .point))
+HeardWhen e was Heard.Stale = (e .is-join ≡ false) × (was ≡ at (e .point) → ⊥)
+
+pub record AnsweredWhen (t : Stations) (e : Event) (h : Heard) : Type 0 where
+  pub only : answerTo t e ≡ gives h → HeardWhen e (whereOf t (e .station)) h
+  pub if : takesEvent t e ≡ true → HeardWhen e (whereOf t (e .station)) h → answerTo t e ≡ gives h
 
 -- a table is full where 128 are held
 pub record FullIs128 (t : Stations) : Type 0 where
@@ -57,39 +80,44 @@ pub record InRow (t : Stations) (station point : ℕ) : Type 0 where
   pub row : ℕ
   pub is : rowAt t row ≡ holds station point
 
--- A table that events made: at most 128 stations, none of them twice; a free row is as a fresh one; and the rows list the stations where they are.
-pub record Sound (t : Stations) : Type 0 where
+-- A table that calls made: at most 128 stations, none of them twice; a free row is as a fresh one; and the rows list the stations where they are.
+pub record SoundStations (t : Stations) : Type 0 where
   pub at-most : countOf t ≤ 128
   pub once : (station i p j q : ℕ) → rowAt t i ≡ holds station p → rowAt t j ≡ holds station q → i ≡ j
   pub free-is-fresh : (i : ℕ) → i < rows → rowAt t i ≡ free → (getD t i 0 ≡ 0) × (pointAt t i ≡ 0)
   pub rows-list : (station point i : ℕ) → rowAt t i ≡ holds station point → whereOf t station ≡ at point
   pub in-a-row : (station point : ℕ) → whereOf t station ≡ at point → InRow t station point
 
--- "A station is at A exactly when its latest accepted join named A and no later leave named A": over any events from a fresh table, with no premise about room
-pub record ExactlyWhen (station point : ℕ) (events : List Event) : Type 0 where
-  pub only : whereOf (ends freshStations events) station ≡ at point → LatestJoin point (those (isOwn station) (accepted freshStations events))
-  pub if : LatestJoin point (those (isOwn station) (accepted freshStations events)) → whereOf (ends freshStations events) station ≡ at point
+-- "A station is at A exactly when its latest accepted join named A and no later leave named A": over any calls that happened from a fresh table to the table t, with no premise about room
+pub record ExactlyWhen (station point : ℕ) (calls : List StationCall) (t : Stations) : Type 0 where
+  pub only : whereOf t station ≡ at point → LatestJoin point (those (isOfStation station) (eventsOf (those wasHeard calls)))
+  pub if : LatestJoin point (those (isOfStation station) (eventsOf (those wasHeard calls))) → whereOf t station ≡ at point
 
 -- "events of different stations, if no event is refused: those of one station keep their order"
-abbrev pub Reordered : List Event → List Event → Type 0
-Reordered events events′ = (station : ℕ) → those (isOwn station) events ≡ those (isOwn station) events′
+abbrev pub EventsReordered : List Event → List Event → Type 0
+EventsReordered events events′ = (station : ℕ) → those (isOfStation station) events ≡ those (isOfStation station) events′
 
--- each event gets the same answer, "and both tables end with the same stations at the same access points"
-pub record SameStations (events events′ : List Event) : Type 0 where
-  pub answers : (station : ℕ) → answersTo station freshStations events ≡ answersTo station freshStations events′
-  pub places : (station : ℕ) → whereOf (ends freshStations events) station ≡ whereOf (ends freshStations events′) station
+-- each call gets the same answer, "and both tables end with the same stations at the same access points"
+pub record SameStations (calls calls′ : List StationCall) (t t′ : Stations) : Type 0 where
+  pub heard : (station : ℕ) → map heardBy (those (broughtFor station) calls) ≡ map heardBy (those (broughtFor station) calls′)
+  pub places : (station : ℕ) → whereOf t station ≡ whereOf t′ station
 
 pub record Claims : Type 0 where
-  pub moves : (t : Stations) → Made t → (e : Event) → Moves t e
-  pub why-refused : (t : Stations) (e : Event) → isAccepted t e ≡ false → WhyRefused t e
+  pub firmness : Firmness
+  pub moves : (t : Stations) → StationsMade t → (e : Event) → Moves t e
+  pub why-refused : (t : Stations) (e : Event) → takesEvent t e ≡ false → WhyRefused t e
+  pub answered-when : (t : Stations) (e : Event) (h : Heard) → AnsweredWhen t e h
+  pub stale-unaltered : (t : Stations) (e : Event) → answerTo t e ≡ gives Heard.Stale → tableAfter t e ≡ t
   pub full-is-128 : (t : Stations) → FullIs128 t
-  pub sound : (t : Stations) → Made t → Sound t
-  pub exactly-when : (station point : ℕ) (events : List Event) → ExactlyWhen station point events
+  pub sound : (t : Stations) → StationsMade t → SoundStations t
+  pub exactly-when : (calls : List StationCall) (t : Stations) → Happened stationContract freshStations calls t → (station point : ℕ) → ExactlyWhen station point calls t
   -- demand 3; two neighbouring events of different stations that change places are such an order
-  pub order-across-stations : (events events′ : List Event) → Reordered events events′ → noneRefused freshStations events ≡ true → noneRefused freshStations events′ ≡ true → SameStations events events′
-  pub swapped : (before behind : List Event) (e f : Event) → (e .station ≡ f .station → ⊥) → Reordered (before ++ e ∷ f ∷ behind) (before ++ f ∷ e ∷ behind)
-  -- an event in a value is that event, and none where the value doesn't read; refused, by whatever number, it alters nothing
+  pub order-across-stations : (calls : List StationCall) (t : Stations) → Happened stationContract freshStations calls t → (calls′ : List StationCall) (t′ : Stations) → Happened stationContract freshStations calls′ t′
+      → EventsReordered (eventsOf calls) (eventsOf calls′) → NoneRefused calls → NoneRefused calls′ → SameStations calls calls′ t t′
+  pub swapped : (before behind : List Event) (e f : Event) → (e .station ≡ f .station → ⊥) → EventsReordered (before ++ e ∷ f ∷ behind) (before ++ f ∷ e ∷ behind)
+  -- a value of kind 0x92 that reads gives an association; an event in it is that event, and none where the value doesn't read; refused, by whatever number, it alters nothing
+  pub reads-association : (value : List ℕ) (x : RecordRead) → readRecord associationCode value ≡ gives x → x .value ≡ Record.ClientAssociation (associationIn value)
   pub value-refused : (t : Stations) (value : List ℕ) → isGiven (answerFrom t value) ≡ false → tableFrom t value ≡ t
-  pub from-value : (t : Stations) (value : List ℕ) → tableFrom t value ≡ ends t (cond (isGiven (readRecord associationCode value)) (eventIn value ∷ []) [])
+  pub event-in-value : (t : Stations) (value : List ℕ) → tableFrom t value ≡ run tableAfter t (andSteps (eventBy (of-value value)) [])
   -- an address of six octets is what its number is shown as
   pub address-kept : (m : MacAddr) → ((i : ℕ) → getD (octets m) i 0 < 256) → addressOf (numberOf m) ≡ m

@@ -1,16 +1,16 @@
 -- What the calls answer to an event, and to an event in a value.
-use mathlib.Core.Bool.{cond}
-use mathlib.Core.List.{List}
+use mathlib.Core.List.{List, []}
 use Prim.Native.Nat.{ℕ}
-use Rattle.numbers.specs.Numbers.{Answer, gives, told, andThen, mapped, isGiven}
+use Rattle.numbers.specs.Numbers.{Answer, gives, refuses, told, andThen, mapped}
+use Rattle.records.specs.declared.ClientAssociation.{ClientAssociation}
 use Rattle.records.specs.declared.Kind.{Kind}
+use Rattle.records.specs.declared.Record.{Record}
 use Rattle.records.specs.Kinds.{codeOf}
 use Rattle.records.specs.Reading.{readRecord}
-use Rattle.records.specs.Values.{associationIn}
 use Rattle.stations.specs.declared.Heard.{Heard}
 use Rattle.stations.specs.declared.Answered.{Answered}
 use Rattle.stations.specs.declared.Applied.{Applied}
-use Rattle.stations.specs.Whereabouts.{Event, eventOf}
+use Rattle.stations.specs.Whereabouts.{eventOf}
 use Rattle.stations.specs.Rows.{Stations, answerTo, tableAfter}
 
 abbrev pub answeredOf : Answered → Answer Heard
@@ -26,15 +26,42 @@ abbrev pub appliedOf : Applied → Answer Taken
 appliedOf (Applied.Heard h n) = gives (record { heard = h; consumed = n })
 appliedOf (Applied.Refused r) = told r
 
--- the event in a value of kind 0x92, which the existing reader reads: its 3 and 5, then 17
-abbrev pub eventIn : List ℕ → Event
-eventIn value = eventOf (associationIn value)
+-- the association in a record that was read; any other record is of a kind that is not asked for, 16, and reading 0x92 gives none (see `reads-association`)
+abbrev pub associationOf : Record → Answer ClientAssociation
+associationOf (Record.ClientAssociation a) = gives a
+associationOf Record.EndOfMessage = refuses 16 []
+associationOf (Record.AlMacAddress m) = refuses 16 []
+associationOf (Record.MacAddress m) = refuses 16 []
+associationOf (Record.SearchedRole r) = refuses 16 []
+associationOf (Record.SupportedRole r) = refuses 16 []
+associationOf (Record.SupportedFreqBand b) = refuses 16 []
+associationOf (Record.Ieee1905ProfileVersion v) = refuses 16 []
+associationOf (Record.LinkMetricResultCode c) = refuses 16 []
+associationOf (Record.LinkMetricQuery q) = refuses 16 []
+associationOf (Record.MultiApProfile p) = refuses 16 []
+associationOf (Record.Profile2ApCapability c) = refuses 16 []
 
 abbrev pub associationCode : ℕ
 associationCode = codeOf Kind.ClientAssociation
 
+-- the association in a value of kind 0x92, as the existing reader gives it: its 3 and 5; and how many bytes it took
+pub record AssociationRead : Type 0 where
+  pub association : ClientAssociation
+  pub consumed : ℕ
+
+abbrev pub associationRead : List ℕ → Answer AssociationRead
+associationRead value = andThen (readRecord associationCode value) (λ x. mapped (λ a. record { association = a; consumed = x .consumed }) (associationOf (x .value)))
+
+-- the event that was read, then 17
+abbrev pub answerToRead : Stations → Answer AssociationRead → Answer Taken
+answerToRead t read = andThen read (λ x. mapped (λ h. record { heard = h; consumed = x .consumed }) (answerTo t (eventOf (x .association))))
+
+abbrev pub tableAfterRead : Stations → Answer AssociationRead → Stations
+tableAfterRead t (gives x) = tableAfter t (eventOf (x .association))
+tableAfterRead t (refuses n vs) = t
+
 abbrev pub answerFrom : Stations → List ℕ → Answer Taken
-answerFrom t value = andThen (readRecord associationCode value) (λ x. mapped (λ h. record { heard = h; consumed = x .consumed }) (answerTo t (eventIn value)))
+answerFrom t value = answerToRead t (associationRead value)
 
 abbrev pub tableFrom : Stations → List ℕ → Stations
-tableFrom t value = cond (isGiven (readRecord associationCode value)) (tableAfter t (eventIn value)) t
+tableFrom t value = tableAfterRead t (associationRead value)

@@ -62,7 +62,7 @@ unfoldable pub afterLeave : Stations → (station point : ℕ) → Stations
 afterLeave t station point = cond (isAt point (whereOf t station)) (withRow t (rowWith t (markOf station)) 0 0) t
 
 abbrev pub tableAfter : Stations → Event → Stations
-tableAfter t e = cond (e .joined) (afterJoin t (e .station) (e .point)) (afterLeave t (e .station) (e .point))
+tableAfter t e = cond (e .is-join) (afterJoin t (e .station) (e .point)) (afterLeave t (e .station) (e .point))
 
 -- what a row holds
 pub data Row : Type 0 where

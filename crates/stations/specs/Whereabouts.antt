@@ -17,14 +17,14 @@ pub data Whereabouts : Type 0 where
 pub record Event : Type 0 where
   pub station : ℕ
   pub point : ℕ
-  pub joined : Bool
+  pub is-join : Bool
 
 abbrev pub isJoined : AssociationState → Bool
 isJoined AssociationState.JoinedBss = true
 isJoined AssociationState.LeftBss = false
 
 abbrev pub eventOf : ClientAssociation → Event
-eventOf a = record { station = numberOf (a .«sta_mac»); point = numberOf (a .«ap_mac»); joined = isJoined (a .«association_state») }
+eventOf a = record { station = numberOf (a .«sta_mac»); point = numberOf (a .«ap_mac»); is-join = isJoined (a .«association_state») }
 
 abbrev pub isAt : ℕ → Whereabouts → Bool
 isAt point nowhere = false
@@ -36,7 +36,7 @@ isNowhere (at p) = false
 
 -- where the station of an event that is not refused is after it: "A joined event puts the station at that access point; a left event removes it only if it names the access point the table holds."
 abbrev pub whereAfter : Event → Whereabouts → Whereabouts
-whereAfter e was = cond (e .joined) (at (e .point)) (cond (isAt (e .point) was) nowhere was)
+whereAfter e was = cond (e .is-join) (at (e .point)) (cond (isAt (e .point) was) nowhere was)
 
 -- what is answered: a join says if the station is new, has moved, or was there already; "such a late leave, or a leave of a station not held, changes nothing and answers "stale""
 abbrev pub heardOfJoin : ℕ → Whereabouts → Heard
@@ -44,8 +44,8 @@ heardOfJoin point nowhere = Heard.Placed
 heardOfJoin point (at p) = cond (eqb p point) Heard.Same (Heard.Moved (addressOf p))
 
 abbrev pub heardOf : Event → Whereabouts → Heard
-heardOf e was = cond (e .joined) (heardOfJoin (e .point) was) (cond (isAt (e .point) was) Heard.Removed Heard.Stale)
+heardOf e was = cond (e .is-join) (heardOfJoin (e .point) was) (cond (isAt (e .point) was) Heard.Removed Heard.Stale)
 
 -- "Refusals: 17, a join of an unknown station with 128 held"
 abbrev pub answerAt : (full : Bool) → Event → Whereabouts → Answer Heard
-answerAt full e was = cond (e .joined && (isNowhere was && full)) (refuses 17 []) (gives (heardOf e was))
+answerAt full e was = cond (e .is-join && (isNowhere was && full)) (refuses 17 []) (gives (heardOf e was))

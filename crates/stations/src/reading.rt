@@ -7,10 +7,8 @@ use records::Read;
 use records::Record;
 ghost use mathlib.Core.Path.{_≡_};
 ghost use Rattle.numbers.specs.Numbers.{mapped};
-ghost use Rattle.records.specs.Reading.{readRecord};
-ghost use Rattle.records.specs.Values.{associationIn};
-ghost use Rattle.stations.specs.Events.{answeredOf, appliedOf};
-ghost use Rattle.stations.specs.PrivateEvents.{associationOf};
+ghost use Rattle.stations.specs.Events.{answeredOf, appliedOf, associationRead};
+ghost use Rattle.stations.specs.PrivateEvents.{associationGot};
 
 // The event in a value, and how many bytes it took.
 pub(crate) enum Association {
@@ -22,7 +20,7 @@ pub(crate) enum Association {
 }
 
 pub(crate) fn association_in(value: &[u8]) -> Association
-    ensures { λ r. ⌜ associationOf r ≡ mapped (λ x. record { association = associationIn (now (value .entry)); consumed = x .consumed }) (readRecord 146 (now (value .entry))) ⌝ }
+    ensures { λ r. ⌜ associationGot r ≡ associationRead (now (value .entry)) ⌝ }
 {
     match records::read_client_association(value) {
         Read::Got { record, consumed } => {

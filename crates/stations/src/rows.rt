@@ -65,7 +65,7 @@ fn heard_of_held(from: u64, point: u64) -> Heard
 // A join: a station that is held changes its access point, another one takes the lowest free row.
 pub(crate) fn join(t: &mut Stations, station: u64, point: u64) -> Answered
     requires { ⌜ station < 2 ^ 48 ⌝ }
-    ensures { λ r. ⌜ (answeredOf r ≡ answerTo (now (t .entry)) (record { station = station; point = point; joined = true }))
+    ensures { λ r. ⌜ (answeredOf r ≡ answerTo (now (t .entry)) (record { station = station; point = point; is-join = true }))
         × (now (t .exit) ≡ afterJoin (now (t .entry)) station point) ⌝ }
 {
     let known = row_with(t, station + 1);
@@ -86,7 +86,7 @@ pub(crate) fn join(t: &mut Stations, station: u64, point: u64) -> Answered
 // A leave: a row whose access point it names is freed.
 pub(crate) fn leave(t: &mut Stations, station: u64, point: u64) -> Heard
     requires { ⌜ station < 2 ^ 48 ⌝ }
-    ensures { λ r. ⌜ (gives r ≡ answerTo (now (t .entry)) (record { station = station; point = point; joined = false }))
+    ensures { λ r. ⌜ (gives r ≡ answerTo (now (t .entry)) (record { station = station; point = point; is-join = false }))
         × (now (t .exit) ≡ afterLeave (now (t .entry)) station point) ⌝ }
 {
     let row = row_with(t, station + 1);

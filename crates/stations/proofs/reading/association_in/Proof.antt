@@ -19,18 +19,18 @@ others = 0 ∷ 1 ∷ 2 ∷ 3 ∷ 4 ∷ 5 ∷ 6 ∷ 7 ∷ 8 ∷ 10 ∷ 11 ∷ []
 returns : tie.Need-returns
 returns c =
     let b = c .before .before .before .before in
-    absurd (miss others 9 tt (subst (λ (x : Record). OneOf others (tagOf R.the-type x)) (is-association (now (b .before .before .args .value)) (b .read-client-association .result) _ _ (b .read-client-association .ensures) (c .before .before .«record» .given .1)) (c .match2 .keys2)))
+    absurd (miss others 9 tt (subst (λ (x : Record). OneOf others (tagOf R.the-type x)) (is-association (now (b .before .before .args .value)) (b .read-client-association .result) (b .read-client-association .ensures) _ _ (c .before .before .«record» .given .1)) (c .match2 .keys2)))
 
 returns-2 : tie.Need-returns-2
 returns-2 c =
     let k = c .before .before .before .before in
     let b = k .before .before in
-    got (now (b .before .before .args .value)) (b .read-client-association .result) _ _ _ (b .read-client-association .ensures) (k .«record» .given .1) (c .before .record2 .given .1)
+    got (now (b .before .before .args .value)) (b .read-client-association .result) (b .read-client-association .ensures) _ _ _ (k .«record» .given .1) (c .before .record2 .given .1)
 
 returns-3 : tie.Need-returns-3
 returns-3 c =
     let b = c .before .before .before in
-    refused (now (b .before .before .args .value)) (b .read-client-association .result) _ (b .read-client-association .ensures) (c .before .refusal .given .1)
+    refused (now (b .before .before .args .value)) (b .read-client-association .result) (b .read-client-association .ensures) _ (c .before .refusal .given .1)
 
 pub association-in-spec : {M : Type 1} → statement M
 association-in-spec = tie.close (tie.spec (λ c κs. search needs) (λ c. search needs) (λ c. search needs) returns (λ c. search needs) returns-2 returns-3)

@@ -1,0 +1,63 @@
+-- A machine whose calls act key by key, and one key's story: the calls that concern the key, and what it sees and is answered as they come.
+use mathlib.Core.Path.{_≡_}
+use mathlib.Core.List.{List, [], _∷_}
+use mathlib.Core.Bool.{Bool, true, false, cond, _&&_, _||_}
+use Prim.Native.Nat.{ℕ}
+use Rattle.machines.specs.Machine.{those, remaining}
+
+pub record Machine (S E A Vw : Type 0) : Type 0 where
+  pub step : S → E → S
+  pub says : S → E → A
+  -- what is seen of a key, which calls are its own, and which are everyone's
+  pub view : ℕ → S → Vw
+  pub own : ℕ → E → Bool
+  pub common : E → Bool
+  -- what a call makes of what is seen, and says then
+  pub tell : Vw → E → Vw
+  pub answer : Vw → E → A
+
+module _ {S E A Vw : Type 0} (m : Machine S E A Vw) where
+  abbrev pub concernsKey : ℕ → E → Bool
+  concernsKey c e = m .own c e || m .common e
+
+  -- a key's own calls that pass a test, and everyone's
+  abbrev pub hers : (S → E → Bool) → ℕ → S → E → Bool
+  hers passes c s e = m .own c e && passes s e
+
+  abbrev pub everyone's : S → E → Bool
+  everyone's s e = m .common e
+
+  -- the calls that pass and concern a key
+  abbrev pub story : (S → E → Bool) → ℕ → S → List E → List E
+  story passes c s es = those (concernsKey c) (remaining (m .step) passes s es)
+
+  -- what is seen after a story, what is answered to the key's own calls, and what is seen at everyone's
+  unfoldable pub viewAfter : Vw → List E → Vw
+  viewAfter v [] = v
+  viewAfter v (e ∷ es) = viewAfter (m .tell v e) es
+
+  unfoldable pub answers : ℕ → Vw → List E → List A
+  answers c v [] = []
+  answers c v (e ∷ es) = cond (m .own c e) (m .answer v e ∷ answers c (m .tell v e) es) (answers c (m .tell v e) es)
+
+  unfoldable pub seenAt : Vw → List E → List (Vw × E)
+  seenAt v [] = []
+  seenAt v (e ∷ es) = cond (m .common e) ((v, e) ∷ seenAt (m .tell v e) es) (seenAt (m .tell v e) es)
+
+  -- what one call does in a good state: one that passes acts on what is seen of the keys that it concerns, and one that does not pass on nothing
+  pub record ActsByKey (passes : S → E → Bool) (Good : S → Type 0) : Type 0 where
+    pub stays : (s : S) (e : E) → Good s → Good (m .step s e)
+    pub crossed : (s : S) (e : E) → Good s → passes s e ≡ false → m .step s e ≡ s
+    pub always : (s : S) (e : E) → m .common e ≡ true → passes s e ≡ true
+    pub same : (c : ℕ) (s : S) (e : E) → Good s → passes s e ≡ true → concernsKey c e ≡ true → m .view c (m .step s e) ≡ m .tell (m .view c s) e
+    pub other : (c : ℕ) (s : S) (e : E) → Good s → concernsKey c e ≡ false → m .view c (m .step s e) ≡ m .view c s
+    pub said : (c : ℕ) (s : S) (e : E) → Good s → passes s e ≡ true → m .own c e ≡ true → m .says s e ≡ m .answer (m .view c s) e
+
+  -- a state that hears only this key: what passed among others passes there
+  pub record Echo (passes : S → E → Bool) (Good : S → Type 0) (c : ℕ) (Lone : S → Type 0) : Type 0 where
+    pub stays-lone : (s : S) (e : E) → Good s → Lone s → concernsKey c e ≡ true → Lone (m .step s e)
+    pub echoed : (s s′ : S) (e : E) → Good s → Good s′ → Lone s′ → m .view c s ≡ m .view c s′ → concernsKey c e ≡ true → passes s e ≡ true → passes s′ e ≡ true
+
+  -- what a call of everyone's says goes by what is seen of all the keys
+  abbrev pub SaysByViews : (S → Type 0) → Type 0
+  SaysByViews Good = (s s′ : S) (e : E) → Good s → Good s′ → m .common e ≡ true → ((c : ℕ) → m .view c s ≡ m .view c s′) → m .says s e ≡ m .says s′ e
