@@ -21,10 +21,10 @@ use Rattle.orders.proofs.Rows.{isUsed, codeAt, firstAt}
 use Rattle.orders.proofs.Lookups.{row-none, row-is}
 use Rattle.orders.proofs.Holdings.{absent, present}
 use Rattle.orders.proofs.Telling.{acts, shape, refusedWay, refused-is, ownWay}
-use Rattle.orders.proofs.Pushing.{Good, Full, no-place, no-row, Outcome, as-told, full, outcome, way-shape}
+use Rattle.orders.proofs.Pushing.{Good, Full, no-place, no-row, Turn, as-told, full, turn, way-shape}
 use Rattle.orders.proofs.Count.{count-all, count-less}
 use Rattle.orders.proofs.Found.{owns, count-held}
-use Rattle.orders.proofs.Locality.{has-room, accepted-room, untouched, own-sweep, local-accepted}
+use Rattle.orders.proofs.Locality.{has-room, accepted-room, untouched, own-sweep}
 use Rattle.machines.specs.Story.{Echo}
 
 -- a push that was kept found a free place
@@ -87,7 +87,7 @@ module _ (long : ℕ) (c : ℕ) where
       by-way (end h bytes) = refl
 
   push-echoed : (z z′ : State) (p : Push) → p .arrival .key ≡ c → Good long z → Good long z′ → Lone c z′ → holding c z ≡ holding c z′ → isAccepted z (push p) ≡ true → isAccepted z′ (push p) ≡ true
-  push-echoed z z′ p is g g′ lone same acc = by-outcome (outcome long z′ p g′)
+  push-echoed z z′ p is g g′ lone same acc = by-turn (turn long z′ p g′)
     where
       told : shape (wayOf z p) ≡ ownWay long (holding (p .arrival .key) z) p
       told = way-shape long z p g (sym (has-room z p) ∙ accepted-room z (push p) acc)
@@ -95,9 +95,9 @@ module _ (long : ℕ) (c : ℕ) where
       alike : ownWay long (holding (p .arrival .key) z) p ≡ ownWay long (holding (p .arrival .key) z′) p
       alike = ap (λ (v : Holding). ownWay long v p) (subst (λ (k : ℕ). holding k z ≡ holding k z′) (sym is) same)
 
-      by-outcome : Outcome long z′ p → isAccepted z′ (push p) ≡ true
-      by-outcome (as-told e) = accepted-by z′ p ∙ ap (λ (w : Way). not (refusedWay (λ n. true) w)) (e ∙ sym alike ∙ sym told) ∙ sym (accepted-by z p) ∙ acc
-      by-outcome (full e own l f) =
+      by-turn : Turn long z′ p → isAccepted z′ (push p) ≡ true
+      by-turn (as-told e) = accepted-by z′ p ∙ ap (λ (w : Way). not (refusedWay (λ n. true) w)) (e ∙ sym alike ∙ sym told) ∙ sym (accepted-by z p) ∙ acc
+      by-turn (full e own l f) =
           let free = kept-free (z .table) (part z p) p (went (z .table) (part z p) (p .arrival) (p .payload) (p .room)) (told ∙ alike ∙ own) in
           absurd (never-full z z′ (sound (g .made)) (sound (g′ .made)) lone same free (subst (Full (z′ .table)) is f))
 

@@ -1,6 +1,6 @@
 -- The claims of specs/Claims.antt, proved.
 use Rattle.orders.specs.Claims.{Claims}
-use Rattle.orders.proofs.Unfinished.{kept-as-pushed, dropped-unfinished}
+use Rattle.orders.proofs.Unfinished.{kept-as-pushed, dropped-unfinished, held-from}
 use Rattle.orders.proofs.Orders.{local, sweep-drops, alike, shares-add-up, run-made, told-alone, sweeps-add-up, order-across-keys, swapped}
 use Rattle.orders.proofs.Happened.{finished-shown, is-run, order-across-senders, sender-alone, order-together, duplicate-untouched}
 use Rattle.orders.proofs.Completes.{completes, fresh-completes, completes-among}
@@ -24,6 +24,7 @@ claims = record {
   kept-as-pushed = kept-as-pushed;
   sweep-drops = sweep-drops;
   dropped-unfinished = dropped-unfinished;
+  held-from = held-from;
   completes = completes;
   fresh-completes = fresh-completes;
   completes-among = completes-among;

@@ -1,7 +1,7 @@
 -- Over a run: the fragments of a message find room one after the other, wait, and complete with the last.
 use mathlib.Core.Path.{_≡_, refl, sym, ap, _∙_, subst}
 use mathlib.Core.List.{List, [], _∷_}
-use mathlib.Core.Bool.{Bool, true, false, cond, not, _||_, false≢true, true≢false, or-assoc, or-true, or-false}
+use mathlib.Core.Bool.{Bool, true, false, cond, not, _&&_, _||_, false≢true, true≢false, or-assoc, or-true, or-false}
 use Prim.Native.Nat.{ℕ, _+_, _≤_, _<_}
 use native.Mathlib.Omega.{arith}
 use lib.Dec.{eqb, ltb, leb}
@@ -11,29 +11,28 @@ use Rattle.numbers.specs.Numbers.{gives}
 use Rattle.table.specs.declared.Table.{Table}
 use Rattle.searching.specs.Search.{lowest}
 use Rattle.table.specs.Rows.{places, freshTable, placeAt, isFree, rowOf, spareRow, lowestFree, withKey, withPlace}
-use Rattle.pushing.specs.Joining.{Held, nothing, kept, Since, never, since}
+use Rattle.pushing.specs.Joining.{Held, nothing, kept, Since, never, since, due}
 use Rattle.pushing.specs.Push.{Way, keepAt, waiting, placeFor, tableBy, answerBy}
 use Rattle.pushing.specs.Made.{Made, byFresh}
 use Rattle.pushing.proofs.Ways.{Went, went, went-refuse, went-duplicate, went-keep, went-open, went-end}
 use Rattle.table.proofs.Sound.{Sound, fresh-sound}
 use Rattle.pushing.proofs.Sound.{sound}
 use Rattle.machines.specs.Machine.{those, remaining, every}
-use Rattle.orders.specs.Runs.{State, Push, Call, push, Reply, pushed, finishedBy, part, wayOf, after, tells, hasRoom, isOwn, concerns, start, Holding, holding, holdsNothing, mine, crossed, repliesTo, repliesToAccepted}
+use Rattle.orders.specs.Runs.{State, Push, Call, push, sweep, Reply, pushed, finishedBy, part, wayOf, after, tells, isAccepted, hasRoom, isOwn, isSweep, concerns, start, Holding, holding, holdsNothing, crossed}
 use Rattle.orders.specs.Shares.{isIn, distinct}
-use Rattle.orders.specs.Messages.{Message, heldAt, whole, Brings, Sent, calls, countIn, freeIn, Room, completing}
-use Rattle.orders.specs.Claims.{Completes}
+use Rattle.orders.specs.Messages.{Message, heldAt, whole, Brings, Sent, calls, countIn, freeIn, Room, spares, completing}
+use Rattle.orders.specs.Claims.{Completes, CompletesAmong}
 use Rattle.searching.proofs.Search.{lowest-before}
 use Rattle.table.proofs.Places.{put-elsewhere}
-use Rattle.machines.proofs.Lists.{left-true, right-true, every-remains, every-gathered}
+use Rattle.machines.proofs.Lists.{left-true, right-true, those-both, every-remains, every-gathered}
 use Rattle.orders.proofs.Holdings.{absent}
 use Rattle.orders.proofs.Telling.{acts, shape, ownWay, sinceOr, byOwn, withNew, tell, answer}
 use Rattle.orders.proofs.Pushing.{Good, Full, no-place, no-row, way-shape, room-unless}
-use Rattle.orders.proofs.Locality.{has-room, good-after, own-push, local-room}
+use Rattle.orders.proofs.Locality.{has-room, good-after, good-start, own-push, local-room, local-accepted}
 use Rattle.orders.proofs.Alone.{fresh-holds}
 use Rattle.orders.proofs.Count.{count-none, one-fewer, at-most}
 use Rattle.orders.proofs.Completion.{Has, waits, added, completes-as}
-use Rattle.orders.proofs.Orders.{told-alone}
-use Rattle.machines.specs.Story.{viewAfter, answers}
+use Rattle.machines.specs.Story.{story, viewAfter, answers}
 use Rattle.machines.proofs.Story as Y
 
 -- none is free before the lowest
@@ -218,8 +217,66 @@ fresh-room m = record { free = m .few; row = λ l. omega arith }
 pub fresh-completes : (m : Message) (bring : ℕ → Push) (order : List ℕ) (store : List ℕ) → 47744 ≤ length store → Sent m bring order → Completes m bring order (start store)
 fresh-completes m bring order store long = completes m bring order (start store) byFresh long (fresh-holds store fresh-sound (m .key)) (fresh-room m)
 
--- and among pushes under other keys, by the story told alone
-pub completes-among : (m : Message) (bring : ℕ → Push) (order : List ℕ) (store : List ℕ) (others : List Call) → 47744 ≤ length store → Sent m bring order
-    → mine (m .key) (crossed (start store) others) ≡ calls m bring order → repliesToAccepted (m .key) (start store) others ≡ completing m order
-completes-among m bring order store others long sent story =
-    told-alone store store refl (m .key) others .answers ∙ ap (repliesTo (m .key) (start store)) story ∙ fresh-completes m bring order store long sent .answers
+-- and among any calls whose sweeps spare the key: they change nothing of what it sees and is answered
+module _ (long key : ℕ) where
+  abbrev Calm : Holding → List Call → Type 0
+  Calm v es = (answers (acts long) key v es ≡ answers (acts long) key v (those (isOwn key) es)) × (viewAfter (acts long) v es ≡ viewAfter (acts long) v (those (isOwn key) es))
+
+  calm-push : (v : Holding) (p : Push) (es : List Call) → isOwn key (push p) ≡ true → Calm (tell long v (push p)) es → Calm v (push p ∷ es)
+  unfolding answers viewAfter those
+  calm-push v p es own calm = (rw own (rw (own, calm .0)), rw own (calm .1))
+
+  calm-sweep : (v : Holding) (time : ℕ) (es : List Call) → due time (v .first) ≡ false → Calm (tell long v (sweep time)) es → Calm v (sweep time ∷ es)
+  unfolding answers viewAfter those
+  calm-sweep v time es spared calm = let same : Calm v es = rw spared at calm in (rw spared (same .0), rw spared (same .1))
+
+  abbrev told : State → List Call → List Call
+  told = story (acts long) isAccepted key
+
+  calm-in : (z : State) (e : Call) (es : List Call) → concerns key e ≡ true → spares key z e ≡ true → Calm (tell long (holding key z) e) es → Calm (holding key z) (e ∷ es)
+  calm-in z (push p) es h s calm = calm-push (holding key z) p es (sym (or-false (isOwn key (push p))) ∙ h) calm
+  calm-in z (sweep time) es h s calm = calm-sweep (holding key z) time es (not-true _ s) calm
+
+  calm : (es : List Call) (z : State) → Good long z → every after (spares key) z es ≡ true → Calm (holding key z) (told z es)
+  unfolding every those remaining answers viewAfter
+  calm [] z g h = (refl, refl)
+  calm (e ∷ es) z g h =
+      let L = local-accepted long in
+      let ih = calm es (after z e) (good-after long z e g) (right-true (spares key z e) _ h) in
+      Y.next (acts long) isAccepted (Good long) L key (Calm (holding key z)) z e es
+      (λ p q. calm-in z e (told (after z e) es) q (left-true (spares key z e) _ h) (subst (λ (v : Holding). Calm v (told (after z e) es)) (L .same key z e g p q) ih))
+      (λ p q. subst (λ (v : Holding). Calm v (told (after z e) es)) (L .other key z e g q) ih)
+      (λ p. subst (λ (s : State). Calm (holding key s) (told (after z e) es)) (L .crossed z e g p) ih)
+
+  -- of the calls that concern a key its own are its own
+  own-concern : (e : Call) → (isOwn key e && concerns key e) ≡ isOwn key e
+  own-concern e = by-own (isOwn key e)
+    where
+      by-own : (b : Bool) → (b && (b || isSweep e)) ≡ b
+      by-own true = refl
+      by-own false = refl
+
+pub completes-among : (m : Message) (bring : ℕ → Push) (order : List ℕ) (store : List ℕ) (run : List Call) → 47744 ≤ length store → Sent m bring order
+    → those (isOwn (m .key)) (crossed (start store) run) ≡ calls m bring order → every after (spares (m .key)) (start store) run ≡ true → CompletesAmong m order store run
+completes-among m bring order store run enough sent these spared =
+    let long = length store in
+    let g = good-start store in
+    let none : ℕ → Bool = λ k. false in
+    let d : Due m long enough bring (sent .brings) none order = record { once = sent .once; new = λ k h. refl; all = sent .all } in
+    let has : Has m none (holding (m .key) (start store)) = λ k. ap (λ (v : Holding). v .fragments k) (fresh-holds store fresh-sound (m .key)) in
+    let quiet = calm long (m .key) run (start store) g spared in
+    let own : those (isOwn (m .key)) (told long (m .key) (start store) run) ≡ calls m bring order
+    = those-both (isOwn (m .key)) (concerns (m .key)) (crossed (start store) run) ∙ (λ i. those (λ e. own-concern long (m .key) e i) (crossed (start store) run)) ∙ these in
+    let story = as-story m long enough bring (sent .brings) (sent .room) order none (holding (m .key) (start store)) d has in
+    record {
+      answers =
+          Y.gathered-alone (acts long) isAccepted (Good long) (local-accepted long) (m .key) run (start store) g
+          ∙ quiet .0
+          ∙ ap (answers (acts long) (m .key) (holding (m .key) (start store))) own
+          ∙ story .0;
+      holds =
+          Y.alone (acts long) isAccepted (Good long) (local-accepted long) (m .key) run (start store) g
+          ∙ quiet .1
+          ∙ ap (viewAfter (acts long) (holding (m .key) (start store))) own
+          ∙ story .1;
+    }

@@ -22,13 +22,13 @@ use Rattle.keys.proofs.Claims as K
 use Rattle.stations.specs.Rows.{Stations, freshStations}
 use Rattle.stations.specs.Runs.{stationContract}
 use Rattle.stations.proofs.Orders.{order-across-stations}
-use Rattle.machines.specs.Machine.{those, run, remaining, gathered, every}
+use Rattle.machines.specs.Machine.{those, gathered, every}
 use Rattle.machines.specs.Happened.{Happened, asks-nothing, Leads, stepsOf, Tied, Tests}
 use Rattle.machines.specs.Both.{lefts, rights, BothHappened}
 use Rattle.machines.proofs.Lists.{left-true, right-true, those-both}
 use Rattle.machines.proofs.Happened as H
 use Rattle.machines.proofs.Both.{of-left, of-right}
-use Rattle.orders.specs.Runs.{State, Push, Call, push, sweep, Reply, pushed, dropped, finishedBy, part, wayOf, after, tells, isAccepted, hasRoom, isOwn, isSweep, mine, start, holding, ends, crossed, repliesTo}
+use Rattle.orders.specs.Runs.{State, Push, Call, push, sweep, pushed, dropped, finishedBy, part, wayOf, after, tells, isAccepted, hasRoom, isOwn, isSweep, mine, start, holding, ends, crossed, repliesTo}
 use Rattle.orders.specs.Happened.{TableAsked, push-asked, sweep-asked, TableGot, push-got, sweep-got, TableCall, PushMeets, tableMeets, tableContract, callOf, asksCall, callsOf, Got, from-push, from-sweep, gotFrom, gotBy, replyOf, wasAccepted, hadRoom, sameBytes, asksFrom, isFrom, isSweepCall, isAbout}
 use Rattle.orders.specs.Claims.{Reordered, IsRun, AskedReordered, NoneFull, SameGot, AskedAlone, GotAlone, MixedCall, ReorderedTogether, RoomTogether, SameTogether}
 use Rattle.orders.proofs.Orders.{run-made, told-alone, order-across-keys}

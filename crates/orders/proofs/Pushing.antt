@@ -1,7 +1,7 @@
 -- What one push does to each key's holding.
 use mathlib.Core.Path.{_≡_, refl, sym, ap, _∙_, subst}
 use mathlib.Core.List.{List, []}
-use mathlib.Core.Bool.{Bool, true, false, cond, not, false≢true}
+use mathlib.Core.Bool.{Bool, true, false, not, false≢true}
 use Prim.Native.Nat.{ℕ, min, _≤_, _<_}
 use lib.Dec.{ltb, leb}
 use lib.ListN.{length, take, drop, length-take, take-append-drop}
@@ -18,7 +18,7 @@ use Rattle.pushing.proofs.Sound.{sound}
 use Rattle.orders.specs.Runs.{State, Push, finishedBy, part, wayOf, Holding, holding, forRoom}
 use Rattle.orders.proofs.Holdings.{held-front}
 use Rattle.orders.proofs.Lookups.{kept-there}
-use Rattle.orders.proofs.Telling.{shape, refusedWay, ownJoining, ownWay, own-11, own-12, own-duplicate, own-last, own-keep}
+use Rattle.orders.proofs.Telling.{shape, refusedWay, ownJoining, ownWay, by-own-way, own-11, own-12, own-duplicate, own-last, own-keep}
 
 -- a state that the calls made over a store of some length
 pub record Good (long : ℕ) (z : State) : Type 0 where
@@ -53,9 +53,9 @@ pub data Full (t : Table) (key : ℕ) : Type 0 where
   no-row : 16 ≤ rowOf t key → 16 ≤ spareRow t → Full t key
 
 -- a push goes the way that its key's holding tells, or is refused for room where that way is to keep
-pub data Outcome (long : ℕ) (z : State) (p : Push) : Type 0 where
-  as-told : shape (wayOf z p) ≡ ownWay long (holding (p .arrival .key) z) p → Outcome long z p
-  full : wayOf z p ≡ refuse 10 [] → ownWay long (holding (p .arrival .key) z) p ≡ keepAt 0 → p .arrival .fragment .last ≡ false → Full (z .table) (p .arrival .key) → Outcome long z p
+pub data Turn (long : ℕ) (z : State) (p : Push) : Type 0 where
+  as-told : shape (wayOf z p) ≡ ownWay long (holding (p .arrival .key) z) p → Turn long z p
+  full : wayOf z p ≡ refuse 10 [] → ownWay long (holding (p .arrival .key) z) p ≡ keepAt 0 → p .arrival .fragment .last ≡ false → Full (z .table) (p .arrival .key) → Turn long z p
 
 module _ (long : ℕ) (z : State) (p : Push) (g : Good long z) where
   abbrev t : Table
@@ -92,13 +92,13 @@ module _ (long : ℕ) (z : State) (p : Push) (g : Good long z) where
     joined-same : joinedWith t (part z p) row (a .fragment) (p .payload) (p .room) ≡ ownJoining v p
     joined-same = ap (λ (fs : Fragments). joinWay new (andNew fs (a .fragment .number) new) (p .room)) (held-lent z s (p .lent) h₁ row)
 
-    by-keep : wayOf z p ≡ keepWay (lowestFree t) (spareRow t) row → ownWay long v p ≡ keepAt 0 → a .fragment .last ≡ false → (x : Bool) → leb 32 (lowestFree t) ≡ x → (y : Bool) → ltb row 16 ≡ y → (w : Bool) → leb 16 (spareRow t) ≡ w → Outcome long z p
+    by-keep : wayOf z p ≡ keepWay (lowestFree t) (spareRow t) row → ownWay long v p ≡ keepAt 0 → a .fragment .last ≡ false → (x : Bool) → leb 32 (lowestFree t) ≡ x → (y : Bool) → ltb row 16 ≡ y → (w : Bool) → leb 16 (spareRow t) ≡ w → Turn long z p
     by-keep is own l true e y f w q = full (is ∙ keep-full (lowestFree t) (spareRow t) row (lowestFree t) refl (leb-true _ _ e)) own l (no-place (leb-true _ _ e))
     by-keep is own l false e true f w q = as-told (ap shape (is ∙ keep-there (lowestFree t) (spareRow t) row (lowestFree t) refl (leb-false _ _ e) (ltb-true _ _ f)) ∙ sym own)
     by-keep is own l false e false f true q = full (is ∙ keep-keys (lowestFree t) (spareRow t) row (lowestFree t) refl (leb-false _ _ e) (ltb-false _ _ f) (spareRow t) refl (leb-true _ _ q)) own l (no-row (ltb-false _ _ f) (leb-true _ _ q))
     by-keep is own l false e false f false q = as-told (ap shape (is ∙ keep-new (lowestFree t) (spareRow t) row (lowestFree t) refl (leb-false _ _ e) (ltb-false _ _ f) (spareRow t) refl (leb-false _ _ q)) ∙ sym own)
 
-    by-mark : 32 ≤ place → (b : Bool) → a .fragment .last ≡ b → Outcome long z p
+    by-mark : 32 ≤ place → (b : Bool) → a .fragment .last ≡ b → Turn long z p
     by-mark h₃ true e = as-told (
         ap shape (way-last t (part z p) a (p .payload) (p .room) h₁ h₂ h₃ e)
         ∙ by-ends (λ (w : Way). shape w ≡ w) refl refl refl (λ n. refl) (λ n. refl) (λ bytes. refl) new (andNew (heldIn t (part z p) row) (a .fragment .number) new) (p .room)
@@ -108,39 +108,31 @@ module _ (long : ℕ) (z : State) (p : Push) (g : Good long z) where
         by-keep (way-keep t (part z p) a (p .payload) (p .room) h₁ h₂ h₃ e) (own-keep long v p min-long h₂ (kept-is ∙ le-ltb _ _ h₃) e) e
         (leb 32 (lowestFree t)) refl (ltb row 16) refl (leb 16 (spareRow t)) refl
 
-    by-place : (b : Bool) → ltb place 32 ≡ b → Outcome long z p
+    by-place : (b : Bool) → ltb place 32 ≡ b → Turn long z p
     by-place true e = as-told (ap shape (way-duplicate t (part z p) a (p .payload) (p .room) h₁ h₂ (ltb-true _ _ e)) ∙ sym (own-duplicate long v p min-long h₂ (kept-is ∙ e)))
     by-place false e = by-mark (ltb-false _ _ e) (a .fragment .last) refl
 
-  by-size : 47744 ≤ length (part z p) → (b : Bool) → ltb 1492 (length (p .payload)) ≡ b → Outcome long z p
+  by-size : 47744 ≤ length (part z p) → (b : Bool) → ltb 1492 (length (p .payload)) ≡ b → Turn long z p
   by-size h₁ true e = as-told (ap shape (way-12 t (part z p) a (p .payload) (p .room) h₁ (ltb-true _ _ e)) ∙ sym (own-12 long v p (subst (λ (n : ℕ). 47744 ≤ n) part-long h₁) (ltb-true _ _ e)))
   by-size h₁ false e = by-place h₁ (ltb-false _ _ e) (ltb place 32) refl
 
-  by-room : (b : Bool) → ltb (length (part z p)) 47744 ≡ b → Outcome long z p
+  by-room : (b : Bool) → ltb (length (part z p)) 47744 ≡ b → Turn long z p
   by-room true e = as-told (ap shape (way-11 t (part z p) a (p .payload) (p .room) (ltb-true _ _ e)) ∙ sym (own-11 long v p (subst (λ (n : ℕ). n < 47744) part-long (ltb-true _ _ e))))
   by-room false e = by-size (ltb-false _ _ e) (ltb 1492 (length (p .payload))) refl
 
-  pub outcome : Outcome long z p
-  outcome = by-room (ltb (length (part z p)) 47744) refl
+  pub turn : Turn long z p
+  turn = by-room (ltb (length (part z p)) 47744) refl
 
   pub way-shape : roomBy (wayOf z p) ≡ true → shape (wayOf z p) ≡ ownWay long v p
-  way-shape h = by-outcome outcome
+  way-shape h = by-turn turn
     where
-      by-outcome : Outcome long z p → shape (wayOf z p) ≡ ownWay long v p
-      by-outcome (as-told e) = e
-      by-outcome (full e own l f) = absurd (false≢true (sym (ap roomBy e) ∙ h))
+      by-turn : Turn long z p → shape (wayOf z p) ≡ ownWay long v p
+      by-turn (as-told e) = e
+      by-turn (full e own l f) = absurd (false≢true (sym (ap roomBy e) ∙ h))
 
 -- and the way that a holding tells is never refused for room
 pub own-room : (long : ℕ) (v : Holding) (p : Push) → roomBy (ownWay long v p) ≡ true
-unfolding ownWay
-own-room long v p = by-tests (ltb (min (p .lent) long) 47744) (ltb 1492 (length (p .payload))) (isKept (v .fragments (p .arrival .fragment .number))) (p .arrival .fragment .last)
-  where
-    by-tests : (w x y l : Bool) → roomBy (cond w (refuse 11 []) (cond x (refuse 12 []) (cond y duplicate (cond l (ownJoining v p) (keepAt 0))))) ≡ true
-    by-tests true x y l = refl
-    by-tests false true y l = refl
-    by-tests false false true l = refl
-    by-tests false false false true = by-ends (λ (w : Way). roomBy w ≡ true) refl refl refl (λ n. refl) (λ n. refl) (λ bytes. refl) (heldOf (p .arrival .fragment) (p .payload)) (andNew (v .fragments) (p .arrival .fragment .number) (heldOf (p .arrival .fragment) (p .payload))) (p .room)
-    by-tests false false false false = refl
+own-room long v p = by-own-way long v p (λ (w : Way). roomBy w ≡ true) (λ n values e. rw e) refl (λ h bytes e. refl) (λ e. refl)
 
 room-shape : (w : Way) → roomBy (shape w) ≡ roomBy w
 room-shape (refuse n values) = refl
@@ -151,8 +143,8 @@ room-shape (end h bytes) = refl
 
 -- a push has room unless it is not marked last and the table is full for it: a full table takes a last fragment, single or not
 pub room-unless : (long : ℕ) (z : State) (p : Push) → Good long z → (p .arrival .fragment .last ≡ false → Full (z .table) (p .arrival .key) → ⊥) → roomBy (wayOf z p) ≡ true
-room-unless long z p g not-full = by-outcome (outcome long z p g)
+room-unless long z p g not-full = by-turn (turn long z p g)
   where
-    by-outcome : Outcome long z p → roomBy (wayOf z p) ≡ true
-    by-outcome (as-told e) = sym (room-shape (wayOf z p)) ∙ ap roomBy e ∙ own-room long (holding (p .arrival .key) z) p
-    by-outcome (full e own l f) = absurd (not-full l f)
+    by-turn : Turn long z p → roomBy (wayOf z p) ≡ true
+    by-turn (as-told e) = sym (room-shape (wayOf z p)) ∙ ap roomBy e ∙ own-room long (holding (p .arrival .key) z) p
+    by-turn (full e own l f) = absurd (not-full l f)

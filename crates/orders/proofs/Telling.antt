@@ -1,15 +1,16 @@
 -- What one call makes of one key's holding, and what it tells: functions of the holding and the call alone, but for refusal 10.
 use mathlib.Core.Path.{_≡_, refl}
-use mathlib.Core.List.{List, []}
+use mathlib.Core.List.{List, [], _∷_}
 use mathlib.Core.Bool.{Bool, true, false, cond}
 use Prim.Native.Nat.{ℕ, min, _≤_, _<_}
 use lib.Dec.{ltb}
 use lib.ListN.{length}
 use borrow.Author.Tests.{lt-ltb, le-ltb}
 use Rattle.pushing.specs.Joining.{Since, never, since, isKept, heldOf, andNew, due}
-use Rattle.pushing.specs.Push.{Way, refuse, duplicate, keepAt, openAt, end, joinWay, answerBy}
+use Rattle.pushing.specs.Push.{PushAnswer, waiting, duplicated, inconsistent, missing, missingLast, single, joined, Way, refuse, duplicate, keepAt, openAt, end, joinWay, answerBy}
+use Rattle.pushing.proofs.Ways.{by-ends}
 use Rattle.machines.specs.Story.{Machine}
-use Rattle.orders.specs.Runs.{State, Push, Call, push, sweep, Reply, pushed, dropped, finishedBy, refusedBy, Holding, holdsNothing, after, tells, isOwn, isSweep, holding}
+use Rattle.orders.specs.Runs.{State, Push, Call, push, sweep, Reply, pushed, dropped, finishedBy, refusedBy, Holding, holdsNothing, after, tells, forRoom, isOwn, isSweep, holding}
 
 -- a way, but for the places and rows that it names
 abbrev pub shape : Way → Way
@@ -33,6 +34,15 @@ refused-is test bytes duplicate = refl
 refused-is test bytes (keepAt i) = refl
 refused-is test bytes (openAt i row) = refl
 refused-is test bytes (end h message) = refl
+
+abbrev pub isWaiting : PushAnswer → Bool
+isWaiting waiting = true
+isWaiting duplicated = false
+isWaiting inconsistent = false
+isWaiting missing = false
+isWaiting missingLast = false
+isWaiting (single n) = false
+isWaiting (joined n) = false
 
 -- a push's fragment joined with those that its key holds
 abbrev pub ownJoining : Holding → Push → Way
@@ -71,6 +81,21 @@ module _ (long : ℕ) (v : Holding) (p : Push) where
         pub own-keep : p .arrival .fragment .last ≡ false → ownWay long v p ≡ keepAt 0
         unfolding ownWay
         own-keep h = rw (le-ltb _ _ h₁, le-ltb _ _ h₂, h₃, h)
+
+  -- the ways that it can go: no refusal is for room, and no end waits
+  pub by-own-way : (P : Way → Type 0) → ((n : ℕ) (values : List ℕ) → forRoom n ≡ false → P (refuse n values)) → P duplicate → ((h : PushAnswer) (bytes : List ℕ) → isWaiting h ≡ false → P (end h bytes))
+      → (p .arrival .fragment .last ≡ false → P (keepAt 0)) → P (ownWay long v p)
+  unfolding ownWay
+  by-own-way P r d e k = by-tests (ltb (min (p .lent) long) 47744) (ltb 1492 (length (p .payload))) (isKept (v .fragments (p .arrival .fragment .number))) (p .arrival .fragment .last) refl
+    where
+      by-tests : (w x y l : Bool) → p .arrival .fragment .last ≡ l → P (cond w (refuse 11 []) (cond x (refuse 12 []) (cond y duplicate (cond l (ownJoining v p) (keepAt 0)))))
+      by-tests true x y l q = r 11 [] refl
+      by-tests false true y l q = r 12 [] refl
+      by-tests false false true l q = d
+      by-tests false false false true q =
+          by-ends P (e inconsistent [] refl) (e missing [] refl) (e missingLast [] refl) (λ n. e (single n) [] refl) (λ n. r 13 (n ∷ []) refl) (λ bytes. e (joined (length bytes)) bytes refl)
+          (heldOf (p .arrival .fragment) (p .payload)) (andNew (v .fragments) (p .arrival .fragment .number) (heldOf (p .arrival .fragment) (p .payload))) (p .room)
+      by-tests false false false false q = k q
 
 abbrev pub sinceOr : Since → ℕ → Since
 sinceOr never time = since time

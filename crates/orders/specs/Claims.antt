@@ -7,7 +7,7 @@ use lib.ListN.{length}
 use Rattle.sweeping.specs.Sweep.{swept}
 use Rattle.table.specs.Rows.{storeSize}
 use Rattle.numbers.specs.Numbers.{gives}
-use Rattle.pushing.specs.Joining.{kept, Fragments, isKept, isLast, heldOf, due}
+use Rattle.pushing.specs.Joining.{Held, kept, Fragments, isKept, heldOf, due}
 use Rattle.pushing.specs.declared.Pushed.the-variants.{DuplicatedFragment}
 use Rattle.pushing.specs.Push.{waiting, answerBy, outputBy}
 use Rattle.pushing.specs.Show.{shown}
@@ -20,8 +20,8 @@ use Rattle.stations.specs.Rows.{Stations, freshStations}
 use Rattle.stations.specs.Runs.{StationCall, stationContract, eventsOf, NoneRefused}
 use Rattle.stations.specs.Claims.{EventsReordered, SameStations}
 use Rattle.orders.specs.Shares.{share, total, isIn, distinct}
-use Rattle.orders.specs.Messages.{Message, Room, Sent, calls, completing}
-use Rattle.orders.specs.Runs.{State, Push, Call, push, sweep, pushed, finishedBy, wayOf, isAccepted, isOwn, isSweep, neverFull, hasRoom, after, tells, mine, start, Holding, holding, holdsNothing, ends, crossed, repliesTo, repliesToAccepted, repliesToSweeps}
+use Rattle.orders.specs.Messages.{Message, Room, Sent, calls, spares, completing}
+use Rattle.orders.specs.Runs.{State, Push, Call, push, sweep, pushed, finishedBy, wayOf, isAccepted, isOwn, neverFull, hasRoom, after, tells, mine, start, holding, holdsNothing, ends, crossed, repliesTo, repliesToAccepted, repliesToSweeps}
 use Rattle.orders.specs.Happened.{TableCall, PushMeets, tableContract, callsOf, gotBy, replyOf, wasAccepted, hadRoom, isFrom, isSweepCall, isAbout}
 
 -- What a key holds is untouched by every push under another key, refused or not; a refused call changes nothing.
@@ -56,9 +56,18 @@ AddsUp store calls time keys =
 abbrev pub HasOne : Fragments → Type 0
 HasOne fs = (number : ℕ) × (number < 256) × (isKept (fs number) ≡ true)
 
-pub record Unfinished (v : Holding) : Type 0 where
-  pub some : HasOne (v .fragments)
-  pub unmarked : (number : ℕ) → isLast (v .fragments number) ≡ false
+-- A fragment that a key holds after some calls is that of a push among them, under the key and the number, which was not marked last and was answered "waiting"; and from that push on the key holds it.
+pub record HeldFrom (z : State) (calls : List Call) (key number : ℕ) (fragment : Held) : Type 0 where
+  pub before : List Call
+  pub by : Push
+  pub later : List Call
+  pub are : calls ≡ before ++ (push by ∷ later)
+  pub under-key : by .arrival .key ≡ key
+  pub under-number : by .arrival .fragment .number ≡ number
+  pub unmarked : by .arrival .fragment .last ≡ false
+  pub is : heldOf (by .arrival .fragment) (by .payload) ≡ fragment
+  pub waited : tells (ends z before) (push by) ≡ pushed (gives waiting) []
+  pub ever-since : (soon rest : List Call) → later ≡ soon ++ rest → holding key (ends z (before ++ (push by ∷ soon))) .fragments number ≡ kept fragment
 
 -- Demand 3: "the same pushes and sweeps, times and lent lengths, where calls under different keys may be reordered, those under one key and the sweeps keep their order, and every push stays on its side of every sweep":
 -- for each key, its pushes with all the sweeps between them are the same list in both
@@ -75,6 +84,11 @@ pub record SameStory (store store′ : List ℕ) (calls calls′ : List Call) : 
 pub record Completes (m : Message) (bring : ℕ → Push) (order : List ℕ) (z : State) : Type 0 where
   pub answers : repliesTo (m .key) z (calls m bring order) ≡ completing m order
   pub holds : holding (m .key) (ends z (calls m bring order)) ≡ holdsNothing
+
+-- the same among other calls: all the others wait, and after it the key holds nothing
+pub record CompletesAmong (m : Message) (order : List ℕ) (store : List ℕ) (run : List Call) : Type 0 where
+  pub answers : repliesToAccepted (m .key) (start store) run ≡ completing m order
+  pub holds : holding (m .key) (ends (start store) run) ≡ holdsNothing
 
 -- Calls that happened are a run: what is told of each is what its caller got, and the table at their end is the run's, and one that push asks for.
 pub record IsRun (store : List ℕ) (calls : List TableCall) (z : State) : Type 0 where
@@ -156,10 +170,12 @@ pub record Claims : Type 0 where
       → holding (p .arrival .key) (after z (push p)) .fragments (p .arrival .fragment .number) ≡ kept (heldOf (p .arrival .fragment) (p .payload))
   -- document 02, 2026-06: what a sweep does to each key's holding, and what the keys hold that it drops
   pub sweep-drops : (z : State) → Made (z .table) → (time key : ℕ) → holding key (after z (sweep time)) ≡ cond (due time (holding key z .first)) holdsNothing (holding key z)
-  pub dropped-unfinished : (store : List ℕ) (calls : List Call) (time key : ℕ) → due time (holding key (ends (start store) calls) .first) ≡ true → Unfinished (holding key (ends (start store) calls))
-  -- a message completes: at any table that the calls made, at a fresh one, and among pushes under other keys, where these are all that is left of the key's calls and the run's sweeps
+  pub dropped-unfinished : (store : List ℕ) (calls : List Call) (time key : ℕ) → due time (holding key (ends (start store) calls) .first) ≡ true → HasOne (holding key (ends (start store) calls) .fragments)
+  pub held-from : (store : List ℕ) (calls : List Call) (key number : ℕ) (fragment : Held) → holding key (ends (start store) calls) .fragments number ≡ kept fragment → HeldFrom (start store) calls key number fragment
+  -- a message completes: at any table that the calls made, and at a fresh one
   pub completes : (m : Message) (bring : ℕ → Push) (order : List ℕ) (z : State) → Made (z .table) → storeSize ≤ length (z .store) → holding (m .key) z ≡ holdsNothing → Room m (z .table)
       → Sent m bring order → Completes m bring order z
   pub fresh-completes : (m : Message) (bring : ℕ → Push) (order : List ℕ) (store : List ℕ) → storeSize ≤ length store → Sent m bring order → Completes m bring order (start store)
-  pub completes-among : (m : Message) (bring : ℕ → Push) (order : List ℕ) (store : List ℕ) (others : List Call) → storeSize ≤ length store → Sent m bring order
-      → mine (m .key) (crossed (start store) others) ≡ calls m bring order → repliesToAccepted (m .key) (start store) others ≡ completing m order
+  -- and among any calls, where the pushes under the key that were not refused are these, and each sweep of the run spares the key
+  pub completes-among : (m : Message) (bring : ℕ → Push) (order : List ℕ) (store : List ℕ) (run : List Call) → storeSize ≤ length store → Sent m bring order
+      → those (isOwn (m .key)) (crossed (start store) run) ≡ calls m bring order → every after (spares (m .key)) (start store) run ≡ true → CompletesAmong m order store run

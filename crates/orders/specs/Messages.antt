@@ -1,16 +1,16 @@
 -- A message cut into fragments, and the pushes that bring them (document 01, "The table").
 use mathlib.Core.Path.{_≡_}
 use mathlib.Core.List.{List, [], _∷_, _++_, map}
-use mathlib.Core.Bool.{Bool, true, cond}
+use mathlib.Core.Bool.{Bool, true, cond, not}
 use Prim.Native.Nat.{ℕ, zero, suc, _+_, _≤_, _<_}
 use lib.Dec.{eqb, ltb}
 use lib.ListN.{length}
 use Rattle.numbers.specs.Numbers.{gives}
 use Rattle.table.specs.declared.Table.{Table}
 use Rattle.table.specs.Rows.{keys, places, placeSize, storeSize, placeAt, isFree, spareRow}
-use Rattle.pushing.specs.Joining.{Held, heldOf, inOrder}
+use Rattle.pushing.specs.Joining.{Held, heldOf, inOrder, due}
 use Rattle.pushing.specs.Push.{PushAnswer, waiting, single, joined}
-use Rattle.orders.specs.Runs.{Push, Call, push, Reply, pushed}
+use Rattle.orders.specs.Runs.{State, Push, Call, push, sweep, Reply, pushed, holding}
 use Rattle.orders.specs.Shares.{isIn, distinct}
 
 -- fragments 0 to final, each at most 1,492 bytes
@@ -60,6 +60,11 @@ freeIn t = countIn (λ i. isFree (placeAt t i)) places
 pub record Room (m : Message) (t : Table) : Type 0 where
   pub free : m .final ≤ freeIn t
   pub row : 1 ≤ m .final → spareRow t < keys
+
+-- a sweep spares a key that holds nothing, and one whose first fragment came less than 3,000 milliseconds before
+abbrev pub spares : ℕ → State → Call → Bool
+spares key z (push p) = true
+spares key z (sweep time) = not (due time (holding key z .first))
 
 -- all wait, and the last completes: "A single fragment's message is shown as the caller's payload, any other as the first bytes of the output buffer"
 abbrev pub completed : Message → PushAnswer

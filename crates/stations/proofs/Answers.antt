@@ -1,12 +1,12 @@
 -- When each answer is given to an event.
 use mathlib.Core.Path.{_≡_, refl, sym, ap, _∙_, subst}
-use mathlib.Core.Bool.{Bool, true, false, cond, _&&_, false≢true, true≢false}
+use mathlib.Core.Bool.{Bool, true, false, cond, _&&_, false≢true}
 use mathlib.Core.List.{[]}
 use Prim.Native.Nat.{ℕ}
 use native.Mathlib.Omega.{arith}
 use lib.Dec.{eqb}
 use borrow.Author.Tests.{eqb-true, eqb-false, eq-eqb, ne-eqb}
-use Rattle.numbers.specs.Numbers.{Answer, gives, refuses, isGiven}
+use Rattle.numbers.specs.Numbers.{gives, refuses, isGiven}
 use Rattle.numbers.proofs.Answers.{given}
 use Rattle.numbers.proofs.Firm.{never}
 use Rattle.stations.specs.declared.Heard.{Heard}

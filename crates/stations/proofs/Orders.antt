@@ -13,7 +13,6 @@ use Rattle.machines.proofs.Story as Y
 use Rattle.machines.proofs.TwoRuns as R
 use Rattle.machines.proofs.Happened as H
 use Rattle.stations.specs.declared.Heard.{Heard}
-use Rattle.stations.specs.declared.Applied.{Applied}
 use Rattle.stations.specs.Whereabouts.{Whereabouts, nowhere, Event, eventOf, whereAfter, answerAt}
 use Rattle.stations.specs.Rows.{Stations, freshStations, whereOf, answerTo, tableAfter}
 use Rattle.stations.specs.Events.{Taken, appliedOf, AssociationRead, associationRead, answerToRead, tableAfterRead}
