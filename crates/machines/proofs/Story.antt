@@ -1,10 +1,14 @@
 -- One key's story, told alone, for any machine: what one call does to what is seen of a key, given once, gives what any calls do to it and what is gathered of them.
 use mathlib.Core.Path.{_≡_, refl, sym, ap, _∙_}
 use mathlib.Core.List.{List, [], _∷_}
-use mathlib.Core.Bool.{Bool, true, false, false≢true}
+use mathlib.Core.Bool.{Bool, true, false, _&&_, false≢true, and-false, or-true}
 use Prim.Native.Nat.{ℕ}
 use Rattle.machines.specs.Machine.{those, run, remaining, gathered, every}
-use Rattle.machines.specs.Story.{Machine, concernsKey, hers, everyone's, story, viewAfter, answers, seenAt, ActsByKey, Echo}
+use Rattle.machines.specs.Story.{Machine, concernsKey, hers, everyone's, story, viewAfter, saidAlong, answers, ActsByKey, Echo}
+
+-- what is seen, with the call at which it is
+abbrev pub with-call : {E Vw : Type 0} → Vw → E → Vw × E
+with-call v e = (v, e)
 
 module _ {S E A Vw : Type 0} (m : Machine S E A Vw) (passes : S → E → Bool) (Good : S → Type 0) (L : ActsByKey m passes Good) where
   pub good-run : (es : List E) (s : S) → Good s → Good (run (m .step) s es)
@@ -51,68 +55,57 @@ module _ {S E A Vw : Type 0} (m : Machine S E A Vw) (passes : S → E → Bool) 
         next (λ (l : List E). m .view c (run (m .step) (m .step s e) es) ≡ viewAfter m (m .view c s) l) s e es
         (λ p q. ih ∙ ap (λ (v : Vw). viewAfter m v (told (m .step s e) es)) (L .same c s e g p q))
         (λ p q. ih ∙ ap (λ (v : Vw). viewAfter m v (told (m .step s e) es)) (L .other c s e g q))
-        (λ p. ih ∙ ap (λ (z : S). viewAfter m (m .view c z) (told (m .step s e) es)) (L .crossed s e g p))
+        (λ p. ih ∙ ap (λ (z : S). viewAfter m (m .view c z) (told (m .step s e) es)) (L .no-effect s e g p))
 
-    -- what is answered to the key's own calls
-    abbrev own-passes : S → E → Bool
-    own-passes = hers m passes c
+    -- what is gathered of calls that concern the key goes by what is seen of it, where each single call's does
+    module _ {X : Type 0} (asks : E → Bool) (says : S → E → X) (says′ : Vw → E → X) (concern : (e : E) → asks e ≡ true → concernsKey m c e ≡ true)
+        (said : (s : S) (e : E) → Good s → passes s e ≡ true → asks e ≡ true → says s e ≡ says′ (m .view c s) e) where
+      abbrev gather : S → List E → List X
+      gather = gathered (m .step) (λ s e. asks e && passes s e) says
 
-    gathered-in : (s : S) (e : E) (es : List E) → Good s → passes s e ≡ true → gathered (m .step) own-passes (m .says) (m .step s e) es ≡ answers m c (m .tell (m .view c s) e) (told (m .step s e) es)
-        → (b : Bool) → m .own c e ≡ b → gathered (m .step) own-passes (m .says) s (e ∷ es) ≡ answers m c (m .view c s) (e ∷ told (m .step s e) es)
-    unfolding gathered answers
-    gathered-in s e es g p ih true q = rw (q, p, ih, L .said c s e g p q)
-    gathered-in s e es g p ih false q = rw (q, ih)
+      gathered-in : (s : S) (e : E) (es : List E) → Good s → passes s e ≡ true → gather (m .step s e) es ≡ saidAlong m asks says′ (m .tell (m .view c s) e) (told (m .step s e) es)
+          → (b : Bool) → asks e ≡ b → gather s (e ∷ es) ≡ saidAlong m asks says′ (m .view c s) (e ∷ told (m .step s e) es)
+      unfolding gathered saidAlong
+      gathered-in s e es g p ih true q = rw (q, p, ih, said s e g p q)
+      gathered-in s e es g p ih false q = rw (q, ih)
 
-    gathered-crossed : (s : S) (e : E) (es : List E) → passes s e ≡ false → (b : Bool) → m .own c e ≡ b → gathered (m .step) own-passes (m .says) s (e ∷ es) ≡ gathered (m .step) own-passes (m .says) (m .step s e) es
-    unfolding gathered
-    gathered-crossed s e es p true q = rw (q, p)
-    gathered-crossed s e es p false q = rw q
+      gathered-other : (s : S) (e : E) (es : List E) → concernsKey m c e ≡ false → (b : Bool) → asks e ≡ b → gather s (e ∷ es) ≡ gather (m .step s e) es
+      unfolding gathered
+      gathered-other s e es p true q = absurd (false≢true (sym p ∙ concern e q))
+      gathered-other s e es p false q = rw q
 
-    gathered-other : (s : S) (e : E) (es : List E) → concernsKey m c e ≡ false → (b : Bool) → m .own c e ≡ b → gathered (m .step) own-passes (m .says) s (e ∷ es) ≡ gathered (m .step) own-passes (m .says) (m .step s e) es
-    unfolding gathered
-    gathered-other s e es p true q = absurd (false≢true (sym p ∙ rw q))
-    gathered-other s e es p false q = rw q
+      gathered-crossed : (s : S) (e : E) (es : List E) → passes s e ≡ false → gather s (e ∷ es) ≡ gather (m .step s e) es
+      unfolding gathered
+      gathered-crossed s e es p = rw (p, and-false (asks e))
 
-    pub gathered-alone : (es : List E) (s : S) → Good s → gathered (m .step) own-passes (m .says) s es ≡ answers m c (m .view c s) (told s es)
-    unfolding gathered answers those remaining
-    gathered-alone [] s g = refl
-    gathered-alone (e ∷ es) s g =
-        let ih = gathered-alone es (m .step s e) (L .stays s e g) in
-        next (λ (l : List E). gathered (m .step) own-passes (m .says) s (e ∷ es) ≡ answers m c (m .view c s) l) s e es
-        (λ p q. gathered-in s e es g p (ih ∙ ap (λ (v : Vw). answers m c v (told (m .step s e) es)) (L .same c s e g p q)) (m .own c e) refl)
-        (λ p q. gathered-other s e es q (m .own c e) refl ∙ ih ∙ ap (λ (v : Vw). answers m c v (told (m .step s e) es)) (L .other c s e g q))
-        (λ p. gathered-crossed s e es p (m .own c e) refl ∙ ih ∙ ap (λ (z : S). answers m c (m .view c z) (told (m .step s e) es)) (L .crossed s e g p))
+      pub gathered-by : (es : List E) (s : S) → Good s → gather s es ≡ saidAlong m asks says′ (m .view c s) (told s es)
+      unfolding gathered saidAlong those remaining
+      gathered-by [] s g = refl
+      gathered-by (e ∷ es) s g =
+          let ih = gathered-by es (m .step s e) (L .stays s e g) in
+          next (λ (l : List E). gather s (e ∷ es) ≡ saidAlong m asks says′ (m .view c s) l) s e es
+          (λ p q. gathered-in s e es g p (ih ∙ ap (λ (v : Vw). saidAlong m asks says′ v (told (m .step s e) es)) (L .same c s e g p q)) (asks e) refl)
+          (λ p q. gathered-other s e es q (asks e) refl ∙ ih ∙ ap (λ (v : Vw). saidAlong m asks says′ v (told (m .step s e) es)) (L .other c s e g q))
+          (λ p. gathered-crossed s e es p ∙ ih ∙ ap (λ (z : S). saidAlong m asks says′ (m .view c z) (told (m .step s e) es)) (L .no-effect s e g p))
 
-    -- the views at the common calls
-    abbrev pub seen : S → E → Vw × E
+    -- what is answered to the key's own calls, and what is seen at everyone's
+    pub gathered-alone : (es : List E) (s : S) → Good s → gathered (m .step) (hers m passes c) (m .says) s es ≡ answers m c (m .view c s) (told s es)
+    gathered-alone = gathered-by (m .own c) (m .says) (m .answer) (λ e h. rw h) (L .said c)
+
+    everyone-passes : (s : S) (e : E) → (m .common e && passes s e) ≡ m .common e
+    everyone-passes s e = by-test (m .common e) refl
+      where
+        by-test : (b : Bool) → m .common e ≡ b → (b && passes s e) ≡ b
+        by-test true q = L .always s e q
+        by-test false q = refl
+
+    abbrev seen : S → E → Vw × E
     seen s e = (m .view c s, e)
 
-    met-in : (s : S) (e : E) (es : List E) → gathered (m .step) (everyone's m) seen (m .step s e) es ≡ seenAt m (m .tell (m .view c s) e) (told (m .step s e) es)
-        → (b : Bool) → m .common e ≡ b → gathered (m .step) (everyone's m) seen s (e ∷ es) ≡ seenAt m (m .view c s) (e ∷ told (m .step s e) es)
-    unfolding gathered seenAt
-    met-in s e es ih true q = rw (q, ih)
-    met-in s e es ih false q = rw (q, ih)
-
-    met-other : (s : S) (e : E) (es : List E) → concernsKey m c e ≡ false → (b : Bool) → m .common e ≡ b → (d : Bool) → m .own c e ≡ d → gathered (m .step) (everyone's m) seen s (e ∷ es) ≡ gathered (m .step) (everyone's m) seen (m .step s e) es
-    unfolding gathered
-    met-other s e es p true q true q′ = absurd (false≢true (sym p ∙ rw q′))
-    met-other s e es p true q false q′ = absurd (false≢true (sym p ∙ rw (q′, q)))
-    met-other s e es p false q d q′ = rw q
-
-    met-crossed : (s : S) (e : E) (es : List E) → passes s e ≡ false → (b : Bool) → m .common e ≡ b → gathered (m .step) (everyone's m) seen s (e ∷ es) ≡ gathered (m .step) (everyone's m) seen (m .step s e) es
-    unfolding gathered
-    met-crossed s e es p true q = absurd (false≢true (sym p ∙ L .always s e q))
-    met-crossed s e es p false q = rw q
-
-    pub met-alone : (es : List E) (s : S) → Good s → gathered (m .step) (everyone's m) seen s es ≡ seenAt m (m .view c s) (told s es)
-    unfolding gathered seenAt those remaining
-    met-alone [] s g = refl
-    met-alone (e ∷ es) s g =
-        let ih = met-alone es (m .step s e) (L .stays s e g) in
-        next (λ (l : List E). gathered (m .step) (everyone's m) seen s (e ∷ es) ≡ seenAt m (m .view c s) l) s e es
-        (λ p q. met-in s e es (ih ∙ ap (λ (v : Vw). seenAt m v (told (m .step s e) es)) (L .same c s e g p q)) (m .common e) refl)
-        (λ p q. met-other s e es q (m .common e) refl (m .own c e) refl ∙ ih ∙ ap (λ (v : Vw). seenAt m v (told (m .step s e) es)) (L .other c s e g q))
-        (λ p. met-crossed s e es p (m .common e) refl ∙ ih ∙ ap (λ (z : S). seenAt m (m .view c z) (told (m .step s e) es)) (L .crossed s e g p))
+    pub met-alone : (es : List E) (s : S) → Good s → gathered (m .step) (everyone's m) seen s es ≡ saidAlong m (m .common) with-call (m .view c s) (told s es)
+    met-alone es s g =
+        (λ i. gathered (m .step) (λ s e. sym (everyone-passes s e) i) seen s es)
+        ∙ gathered-by (m .common) seen with-call (λ e h. rw (h, or-true (m .own c e))) (λ s e g p q. refl) es s g
 
     pass-in : (s : S) (e : E) (es : List E) → passes s e ≡ true → every (m .step) passes (m .step s e) es ≡ true → every (m .step) passes s (e ∷ es) ≡ true
     unfolding every
@@ -127,4 +120,4 @@ module _ {S E A Vw : Type 0} (m : Machine S E A Vw) (passes : S → E → Bool) 
         let p′ = K .echoed s s′ e g g′ l v q p in
         pass-in s′ e (told (m .step s e) es) p′ (none-crossed Lone K es (m .step s e) (m .step s′ e) (L .stays s e g) (L .stays s′ e g′) (K .stays-lone s′ e g′ l q) (L .same c s e g p q ∙ ap (λ (z : Vw). m .tell z e) v ∙ sym (L .same c s′ e g′ p′ q))))
         (λ p q. none-crossed Lone K es (m .step s e) s′ (L .stays s e g) g′ l (L .other c s e g q ∙ v))
-        (λ p. none-crossed Lone K es (m .step s e) s′ (L .stays s e g) g′ l (ap (m .view c) (L .crossed s e g p) ∙ v))
+        (λ p. none-crossed Lone K es (m .step s e) s′ (L .stays s e g) g′ l (ap (m .view c) (L .no-effect s e g p) ∙ v))

@@ -5,7 +5,7 @@ use mathlib.Core.Bool.{Bool, true, false, cond}
 use Prim.Native.Nat.{ℕ}
 use native.Mathlib.Omega.{arith}
 use Rattle.machines.specs.Machine.{those, run, remaining, gathered, every}
-use Rattle.machines.specs.Story.{Machine, concernsKey, hers, everyone's, story, viewAfter, answers, seenAt, ActsByKey, Echo, SaysByViews}
+use Rattle.machines.specs.Story.{Machine, concernsKey, hers, everyone's, story, viewAfter, saidAlong, answers, ActsByKey, Echo, SaysByViews}
 use Rattle.machines.proofs.Lists.{those-twice, every-remains, every-gathered, gathered-map}
 use Rattle.machines.proofs.Story as Y
 
@@ -82,7 +82,7 @@ module _ {S E A Vw : Type 0} (m : Machine S E A Vw) (passes : S → E → Bool) 
         ∙ agree (stages es s g) (stages fs s′ g′) (λ c.
         let w = v c in
         let k = h c in
-        let between : seenAt m (m .view c s) (told c s es) ≡ seenAt m (m .view c s′) (told c s′ fs) = cc in
+        let between : saidAlong m (m .common) Y.with-call (m .view c s) (told c s es) ≡ saidAlong m (m .common) Y.with-call (m .view c s′) (told c s′ fs) = cc in
         gathered-map (m .step) (everyone's m) stage (at c) es s
         ∙ Y.met-alone m passes Good L c es s g
         ∙ between

@@ -19,7 +19,7 @@ rights (right b ∷ cs) = b ∷ rights cs
 
 -- calls of both that happened, one after the other, from a state of each to a state of each
 pub data BothHappened {S T C D A B : Type 0} (contract : Outcome S C A → Type 0) (contract′ : Outcome T D B → Type 0) : S × T → List (Either (Outcome S C A) (Outcome T D B)) → S × T → Type 0 where
-  neither : {z : S × T} → BothHappened contract contract′ z [] z
+  no-calls : {z : S × T} → BothHappened contract contract′ z [] z
   one's : {o : Outcome S C A} {t : T} {os : List (Either (Outcome S C A) (Outcome T D B))} {end : S × T} → contract o → BothHappened contract contract′ (o .became, t) os end
       → BothHappened contract contract′ (o .was, t) (left o ∷ os) end
   other's : {o : Outcome T D B} {s : S} {os : List (Either (Outcome S C A) (Outcome T D B))} {end : S × T} → contract′ o → BothHappened contract contract′ (s, o .became) os end

@@ -31,23 +31,22 @@ module _ {S E A Vw : Type 0} (m : Machine S E A Vw) where
   abbrev pub story : (S → E → Bool) → ℕ → S → List E → List E
   story passes c s es = those (concernsKey c) (remaining (m .step) passes s es)
 
-  -- what is seen after a story, what is answered to the key's own calls, and what is seen at everyone's
+  -- what is seen after a story; what is said along it to the calls that are asked for, and what is answered to the key's own
   unfoldable pub viewAfter : Vw → List E → Vw
   viewAfter v [] = v
   viewAfter v (e ∷ es) = viewAfter (m .tell v e) es
 
-  unfoldable pub answers : ℕ → Vw → List E → List A
-  answers c v [] = []
-  answers c v (e ∷ es) = cond (m .own c e) (m .answer v e ∷ answers c (m .tell v e) es) (answers c (m .tell v e) es)
+  unfoldable pub saidAlong : {X : Type 0} → (E → Bool) → (Vw → E → X) → Vw → List E → List X
+  saidAlong asks says v [] = []
+  saidAlong asks says v (e ∷ es) = cond (asks e) (says v e ∷ saidAlong asks says (m .tell v e) es) (saidAlong asks says (m .tell v e) es)
 
-  unfoldable pub seenAt : Vw → List E → List (Vw × E)
-  seenAt v [] = []
-  seenAt v (e ∷ es) = cond (m .common e) ((v, e) ∷ seenAt (m .tell v e) es) (seenAt (m .tell v e) es)
+  abbrev pub answers : ℕ → Vw → List E → List A
+  answers c = saidAlong (m .own c) (m .answer)
 
   -- what one call does in a good state: one that passes acts on what is seen of the keys that it concerns, and one that does not pass on nothing
   pub record ActsByKey (passes : S → E → Bool) (Good : S → Type 0) : Type 0 where
     pub stays : (s : S) (e : E) → Good s → Good (m .step s e)
-    pub crossed : (s : S) (e : E) → Good s → passes s e ≡ false → m .step s e ≡ s
+    pub no-effect : (s : S) (e : E) → Good s → passes s e ≡ false → m .step s e ≡ s
     pub always : (s : S) (e : E) → m .common e ≡ true → passes s e ≡ true
     pub same : (c : ℕ) (s : S) (e : E) → Good s → passes s e ≡ true → concernsKey c e ≡ true → m .view c (m .step s e) ≡ m .tell (m .view c s) e
     pub other : (c : ℕ) (s : S) (e : E) → Good s → concernsKey c e ≡ false → m .view c (m .step s e) ≡ m .view c s

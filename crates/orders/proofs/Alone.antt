@@ -1,27 +1,28 @@
 -- A table that hears one key alone has room for whatever the key was given room for among others: it holds no more than the key held there.
 use mathlib.Core.Path.{_≡_, refl, sym, ap, _∙_, subst}
-use mathlib.Core.List.{List}
+use mathlib.Core.List.{List, []}
 use mathlib.Core.Bool.{Bool, true, false, cond, not, false≢true, or-false}
 use Prim.Native.Nat.{ℕ, _-_, _≤_, _<_}
 use native.Mathlib.Omega.{arith}
 use lib.Dec.{eqb}
 use borrow.Author.Tests.{eqb-true, eqb-false, eq-eqb, ne-eqb, not-false}
+use Rattle.numbers.specs.Numbers.{Answer}
 use Rattle.table.specs.declared.Table.{Table}
 use Rattle.table.specs.Rows.{places, ownerOf, freshTable, placeAt, rowOf, isSpare, lowestFree, isFree}
 use Rattle.pushing.specs.Joining.{isKept, never, since, due}
-use Rattle.pushing.specs.Push.{Way, refuse, duplicate, keepAt, openAt, end}
+use Rattle.pushing.specs.Push.{PushAnswer, Way, keepAt}
 use Rattle.searching.proofs.Search.{lowest-holds, lowest-before}
 use Rattle.pushing.proofs.Ways.{Went, went, went-refuse, went-duplicate, went-keep, went-open, went-end}
-use Rattle.table.proofs.Sound.{Sound}
+use Rattle.table.proofs.Sound.{Sound, fresh-sound}
 use Rattle.pushing.proofs.Sound.{sound}
-use Rattle.orders.specs.Runs.{State, Push, Call, push, sweep, finishedBy, part, wayOf, after, isAccepted, concerns, start, Holding, holding, holdsNothing}
+use Rattle.orders.specs.Runs.{State, Push, Call, push, sweep, pushed, finishedBy, refusedBy, part, wayOf, after, isAccepted, concerns, start, Holding, holding, holdsNothing}
 use Rattle.orders.specs.Messages.{countIn}
 use Rattle.table.proofs.Places.{all-same}
 use Rattle.orders.proofs.Rows.{isUsed, codeAt, firstAt}
 use Rattle.orders.proofs.Lookups.{row-none, row-is}
 use Rattle.orders.proofs.Holdings.{absent, present}
-use Rattle.orders.proofs.Telling.{acts, shape, refusedWay, refused-is, ownWay}
-use Rattle.orders.proofs.Pushing.{Good, Full, no-place, no-row, Turn, as-told, full, turn, way-shape}
+use Rattle.orders.proofs.Telling.{acts, shape, passesBy, passes-is, ownWay}
+use Rattle.orders.proofs.Pushing.{Good, Full, no-place, no-row, Turn, as-told, full, turn, same-answer, way-shape}
 use Rattle.orders.proofs.Count.{count-all, count-less}
 use Rattle.orders.proofs.Found.{owns, count-held}
 use Rattle.orders.proofs.Locality.{has-room, accepted-room, untouched, own-sweep}
@@ -76,15 +77,8 @@ module _ (long : ℕ) (c : ℕ) where
         omega arith
 
   -- a call that was accepted among others is accepted there
-  accepted-by : (z : State) (p : Push) → isAccepted z (push p) ≡ not (refusedWay (λ n. true) (shape (wayOf z p)))
-  accepted-by z p = ap not (refused-is (λ n. true) (finishedBy (wayOf z p) (p .payload)) (wayOf z p) ∙ by-way (wayOf z p))
-    where
-      by-way : (w : Way) → refusedWay (λ n. true) w ≡ refusedWay (λ n. true) (shape w)
-      by-way (refuse n values) = refl
-      by-way duplicate = refl
-      by-way (keepAt i) = refl
-      by-way (openAt i row) = refl
-      by-way (end h bytes) = refl
+  accepted-by : (z : State) (p : Push) → isAccepted z (push p) ≡ passesBy (λ n. true) (shape (wayOf z p))
+  accepted-by z p = passes-is (λ n. true) (finishedBy (wayOf z p) (p .payload)) (wayOf z p) ∙ ap (λ (a : Answer PushAnswer). not (refusedBy (λ n. true) (pushed a []))) (sym (same-answer (wayOf z p)))
 
   push-echoed : (z z′ : State) (p : Push) → p .arrival .key ≡ c → Good long z → Good long z′ → Lone c z′ → holding c z ≡ holding c z′ → isAccepted z (push p) ≡ true → isAccepted z′ (push p) ≡ true
   push-echoed z z′ p is g g′ lone same acc = by-turn (turn long z′ p g′)
@@ -96,7 +90,7 @@ module _ (long : ℕ) (c : ℕ) where
       alike = ap (λ (v : Holding). ownWay long v p) (subst (λ (k : ℕ). holding k z ≡ holding k z′) (sym is) same)
 
       by-turn : Turn long z′ p → isAccepted z′ (push p) ≡ true
-      by-turn (as-told e) = accepted-by z′ p ∙ ap (λ (w : Way). not (refusedWay (λ n. true) w)) (e ∙ sym alike ∙ sym told) ∙ sym (accepted-by z p) ∙ acc
+      by-turn (as-told e) = accepted-by z′ p ∙ ap (passesBy (λ n. true)) (e ∙ sym alike ∙ sym told) ∙ sym (accepted-by z p) ∙ acc
       by-turn (full e own l f) =
           let free = kept-free (z .table) (part z p) p (went (z .table) (part z p) (p .arrival) (p .payload) (p .room)) (told ∙ alike ∙ own) in
           absurd (never-full z z′ (sound (g .made)) (sound (g′ .made)) lone same free (subst (Full (z′ .table)) is f))
@@ -113,5 +107,5 @@ module _ (long : ℕ) (c : ℕ) where
   echo = record { stays-lone = stays-lone; echoed = echoed }
 
 -- a fresh table holds nothing
-pub fresh-holds : (store : List ℕ) → Sound freshTable → (k : ℕ) → holding k (start store) ≡ holdsNothing
-fresh-holds store s k = absent (start store) s k (omega (arith, row-none freshTable k (λ row u e. false≢true (sym (all-same 16 row false) ∙ u))))
+pub fresh-holds : (store : List ℕ) (k : ℕ) → holding k (start store) ≡ holdsNothing
+fresh-holds store k = absent (start store) fresh-sound k (omega (arith, row-none freshTable k (λ row u e. false≢true (sym (all-same 16 row false) ∙ u))))

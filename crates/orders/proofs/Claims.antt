@@ -1,5 +1,6 @@
 -- The claims of specs/Claims.antt, proved.
 use Rattle.orders.specs.Claims.{Claims}
+use Rattle.orders.proofs.Alone.{fresh-holds}
 use Rattle.orders.proofs.Unfinished.{kept-as-pushed, dropped-unfinished, held-from}
 use Rattle.orders.proofs.Orders.{local, sweep-drops, alike, shares-add-up, run-made, told-alone, sweeps-add-up, order-across-keys, swapped}
 use Rattle.orders.proofs.Happened.{finished-shown, is-run, order-across-senders, sender-alone, order-together, duplicate-untouched}
@@ -28,4 +29,5 @@ claims = record {
   completes = completes;
   fresh-completes = fresh-completes;
   completes-among = completes-among;
+  fresh-holds = fresh-holds;
 }

@@ -7,20 +7,19 @@ use native.Mathlib.Omega.{arith}
 use lib.Dec.{eqb, ltb, leb}
 use lib.ListN.{length}
 use borrow.Author.Tests.{leb-true, leb-false, eq-eqb, ne-eqb, ltb-true, not-true}
-use Rattle.numbers.specs.Numbers.{gives}
 use Rattle.table.specs.declared.Table.{Table}
 use Rattle.searching.specs.Search.{lowest}
 use Rattle.table.specs.Rows.{places, freshTable, placeAt, isFree, rowOf, spareRow, lowestFree, withKey, withPlace}
 use Rattle.pushing.specs.Joining.{Held, nothing, kept, Since, never, since, due}
-use Rattle.pushing.specs.Push.{Way, keepAt, waiting, placeFor, tableBy, answerBy}
+use Rattle.pushing.specs.Push.{Way, keepAt, placeFor, tableBy, answerBy}
 use Rattle.pushing.specs.Made.{Made, byFresh}
 use Rattle.pushing.proofs.Ways.{Went, went, went-refuse, went-duplicate, went-keep, went-open, went-end}
-use Rattle.table.proofs.Sound.{Sound, fresh-sound}
+use Rattle.table.proofs.Sound.{Sound}
 use Rattle.pushing.proofs.Sound.{sound}
-use Rattle.machines.specs.Machine.{those, remaining, every}
-use Rattle.orders.specs.Runs.{State, Push, Call, push, sweep, Reply, pushed, finishedBy, part, wayOf, after, tells, isAccepted, hasRoom, isOwn, isSweep, concerns, start, Holding, holding, holdsNothing, crossed}
+use Rattle.machines.specs.Machine.{those, remaining, gathered, every}
+use Rattle.orders.specs.Runs.{State, Push, Call, push, sweep, Reply, pushed, finishedBy, part, wayOf, after, tells, isAccepted, hasRoom, isOwn, isSweep, concerns, start, Holding, holding, holdsNothing, ends, crossed}
 use Rattle.orders.specs.Shares.{isIn, distinct}
-use Rattle.orders.specs.Messages.{Message, heldAt, whole, Brings, Sent, calls, countIn, freeIn, Room, spares, completing}
+use Rattle.orders.specs.Messages.{Message, heldAt, whole, Brings, Sent, sending, countIn, freeIn, Room, spares, completing}
 use Rattle.orders.specs.Claims.{Completes, CompletesAmong}
 use Rattle.searching.proofs.Search.{lowest-before}
 use Rattle.table.proofs.Places.{put-elsewhere}
@@ -28,11 +27,11 @@ use Rattle.machines.proofs.Lists.{left-true, right-true, those-both, every-rema
 use Rattle.orders.proofs.Holdings.{absent}
 use Rattle.orders.proofs.Telling.{acts, shape, ownWay, sinceOr, byOwn, withNew, tell, answer}
 use Rattle.orders.proofs.Pushing.{Good, Full, no-place, no-row, way-shape, room-unless}
-use Rattle.orders.proofs.Locality.{has-room, good-after, good-start, own-push, local-room, local-accepted}
+use Rattle.orders.proofs.Locality.{has-room, good-after, own-push, local-room, local-accepted}
 use Rattle.orders.proofs.Alone.{fresh-holds}
 use Rattle.orders.proofs.Count.{count-none, one-fewer, at-most}
 use Rattle.orders.proofs.Completion.{Has, waits, added, completes-as}
-use Rattle.machines.specs.Story.{story, viewAfter, answers}
+use Rattle.machines.specs.Story.{story, viewAfter, saidAlong, answers, ActsByKey}
 use Rattle.machines.proofs.Story as Y
 
 -- none is free before the lowest
@@ -93,50 +92,35 @@ module _ (m : Message) (long : ℕ) (store : 47744 ≤ long) (bring : ℕ → Pu
   absent-yet done v k has e = has k ∙ ap (λ (b : Bool). cond b (kept (heldAt m k)) nothing) e
 
   abbrev come : List ℕ → List Call
-  come ks = calls m bring ks
+  come ks = sending m bring ks
 
-  -- the story of the key alone
-  abbrev answersOf : Holding → List Call → List Reply
-  answersOf = answers (acts long) (m .key)
+  -- what is answered along some calls of the key, and what it holds after them
+  abbrev Told : Holding → List Call → List Reply → Holding → Type 0
+  Told v es rs u = (answers (acts long) (m .key) v es ≡ rs) × (viewAfter (acts long) v es ≡ u)
 
-  abbrev viewBehind : Holding → List Call → Holding
-  viewBehind = viewAfter (acts long)
+  told-push : (v v′ u : Holding) (p : Push) (es : List Call) (r : Reply) (rs : List Reply) → p .arrival .key ≡ m .key → answer long v (push p) ≡ r → tell long v (push p) ≡ v′ → Told v′ es rs u → Told v (push p ∷ es) (r ∷ rs) u
+  unfolding saidAlong viewAfter
+  told-push v v′ u p es r rs key said next rest = (rw (eq-eqb (p .arrival .key) (m .key) key, said, next, rest .0), rw next (rest .1))
+
+  told-none : (v : Holding) → Told v [] [] v
+  unfolding saidAlong viewAfter
+  told-none v = (refl, refl)
 
   module _ (room : 1 ≤ m .final → length (whole m) ≤ bring (m .final) .room) where
-    gathered-one : (v : Holding) (p : Push) (es : List Call) → p .arrival .key ≡ m .key → answersOf v (push p ∷ es) ≡ answer long v (push p) ∷ answersOf (tell long v (push p)) es
-    unfolding answers
-    gathered-one v p es e = rw (eq-eqb (p .arrival .key) (m .key) e)
-
-    gathered-none : (v : Holding) → answersOf v [] ≡ []
-    unfolding answers
-    gathered-none v = refl
-
-    view-one : (v : Holding) (e : Call) (es : List Call) → viewBehind v (e ∷ es) ≡ viewBehind (tell long v e) es
-    unfolding viewAfter
-    view-one v e es = refl
-
-    view-none : (v : Holding) → viewBehind v [] ≡ v
-    unfolding viewAfter
-    view-none v = refl
-
-    as-story : (ks : List ℕ) (done : ℕ → Bool) (v : Holding) → Due done ks → Has m done v → (answersOf v (come ks) ≡ completing m ks) × (viewBehind v (come ks) ≡ holdsNothing)
-    as-story [] done v d has =
+    as-told : (ks : List ℕ) (done : ℕ → Bool) (v : Holding) → Due done ks → Has m done v → Told v (come ks) (completing m ks) holdsNothing
+    as-told [] done v d has =
         let last = brings (m .final) (omega arith) in
-        let end = completes-as m long store (bring (m .final)) last v (due-last done v d has) room in (
-          gathered-one v (bring (m .final)) [] (last .key) ∙ ap (λ (es : List Reply). answer long v (push (bring (m .final))) ∷ es) (gathered-none (tell long v (push (bring (m .final))))) ∙ ap (λ (x : Reply). x ∷ []) (end .0),
-          view-one v (push (bring (m .final))) [] ∙ view-none (tell long v (push (bring (m .final)))) ∙ end .1,
-        )
-    as-story (k ∷ ks) done v d has =
+        let end = completes-as m long store (bring (m .final)) last v (due-last done v d has) room in
+        told-push v holdsNothing holdsNothing (bring (m .final)) [] _ [] (last .key) (end .0) (end .1) (told-none holdsNothing)
+    as-told (k ∷ ks) done v d has =
         let here = due-here done k ks d in
         let b = brings k (omega (arith, here .1)) in
         let new = absent-yet done v k has (here .0) in
         let is = waits m long store k (bring k) b v new (λ e. omega (arith, here .1)) in
-        let next : tell long v (push (bring k)) ≡ withNew v (bring k) = ap (λ (w : Way). byOwn w v (bring k)) is in
-        let said : answer long v (push (bring k)) ≡ pushed (gives waiting) [] = ap (λ (w : Way). pushed (answerBy w) (finishedBy w (bring k .payload))) is in
-        let rest = as-story ks (λ j. done j || eqb k j) (withNew v (bring k)) (due-next done k ks d) (added m long store k (bring k) b v new done has) in (
-          gathered-one v (bring k) (come ks) (b .key) ∙ ap (λ (x : Reply). x ∷ answersOf (tell long v (push (bring k))) (come ks)) said ∙ ap (λ (u : Holding). pushed (gives waiting) [] ∷ answersOf u (come ks)) next ∙ ap (λ (es : List Reply). pushed (gives waiting) [] ∷ es) (rest .0),
-          view-one v (push (bring k)) (come ks) ∙ ap (λ (u : Holding). viewBehind u (come ks)) next ∙ rest .1,
-        )
+        told-push v (withNew v (bring k)) holdsNothing (bring k) (come ks) _ (completing m ks) (b .key)
+        (ap (λ (w : Way). pushed (answerBy w) (finishedBy w (bring k .payload))) is)
+        (ap (λ (w : Way). byOwn w v (bring k)) is)
+        (as-told ks (λ j. done j || eqb k j) (withNew v (bring k)) (due-next done k ks d) (added m long store k (bring k) b v new done has))
 
   -- each finds room
   held-row : (z : State) → Good long z → (p : Push) → p .arrival .key ≡ m .key → (u : Holding) → holding (m .key) z ≡ withNew u p → 16 ≤ rowOf (z .table) (m .key) → ⊥
@@ -175,78 +159,43 @@ module _ (m : Message) (long : ℕ) (store : 47744 ≤ long) (bring : ℕ → Pu
       not-full free seated (no-place h) = omega arith
       not-full free seated (no-row h h′) = seated h h′
 
-  -- all the calls are the key's own
-  all-concern : (ks : List ℕ) (done : ℕ → Bool) → Due done ks → those (concerns (m .key)) (come ks) ≡ come ks
+  -- all the calls are the key's own pushes
+  all-own : (ks : List ℕ) (done : ℕ → Bool) → Due done ks → those (isOwn (m .key)) (come ks) ≡ come ks
   unfolding those
-  all-concern [] done d = rw (eq-eqb (bring (m .final) .arrival .key) (m .key) (brings (m .final) (omega arith) .key))
-  all-concern (k ∷ ks) done d =
-      rw (eq-eqb (bring k .arrival .key) (m .key) (brings k (omega (arith, due-here done k ks d .1)) .key), all-concern ks (λ j. done j || eqb k j) (due-next done k ks d))
+  all-own [] done d = rw (eq-eqb (bring (m .final) .arrival .key) (m .key) (brings (m .final) (omega arith) .key))
+  all-own (k ∷ ks) done d =
+      rw (eq-eqb (bring k .arrival .key) (m .key) (brings k (omega (arith, due-here done k ks d .1)) .key), all-own ks (λ j. done j || eqb k j) (due-next done k ks d))
 
--- from any table that the calls made, in which the key is not held and which has room
-pub completes : (m : Message) (bring : ℕ → Push) (order : List ℕ) (z : State) → Made (z .table) → 47744 ≤ length (z .store) → holding (m .key) z ≡ holdsNothing → Room m (z .table)
-    → Sent m bring order → Completes m bring order z
-completes m bring order z made store absent-key has-place sent =
-    let brings = sent .brings in
-    let long = length (z .store) in
-    let g : Good long z = record { made = made; same-long = refl } in
-    let none : ℕ → Bool = λ k. false in
-    let d : Due m long store bring brings none order = record { once = sent .once; new = λ k h. refl; all = sent .all } in
-    let has : Has m none (holding (m .key) z) = λ k. ap (λ (v : Holding). v .fragments k) absent-key in
-    let few : length order ≤ m .final = at-most (m .final) order (sent .once) (λ k h. ltb-true k (m .final) (sym (sent .all k) ∙ h)) in
-    let roomy = finds-room m long store bring brings order none z g d has (omega (arith, has-place .free)) (λ l out spare. omega (arith, has-place .row (omega arith))) in
-    let story : those (concerns (m .key)) (remaining after hasRoom z (calls m bring order)) ≡ calls m bring order
-    = ap (those (concerns (m .key))) (every-remains after hasRoom (calls m bring order) z roomy) ∙ all-concern m long store bring brings order none d in
-    let told = as-story m long store bring brings (sent .room) order none (holding (m .key) z) d has in
-    record {
-      answers =
-          sym (every-gathered after hasRoom (λ s e. isOwn (m .key) e) tells (calls m bring order) z roomy)
-          ∙ Y.gathered-alone (acts long) hasRoom (Good long) (local-room long) (m .key) (calls m bring order) z g
-          ∙ ap (answersOf m long store bring brings (holding (m .key) z)) story
-          ∙ told .0;
-      holds =
-          Y.alone (acts long) hasRoom (Good long) (local-room long) (m .key) (calls m bring order) z g
-          ∙ ap (viewBehind m long store bring brings (holding (m .key) z)) story
-          ∙ told .1;
-    }
+  all-spare : (ks : List ℕ) (z : State) → every after (spares (m .key)) z (come ks) ≡ true
+  unfolding every
+  all-spare [] z = refl
+  all-spare (k ∷ ks) z = all-spare ks (after z (push (bring k)))
 
--- a fresh table has room for every message
-fresh-room : (m : Message) → Room m freshTable
-unfolding countIn lowest
-fresh-room m = record { free = m .few; row = λ l. omega arith }
-
-pub fresh-completes : (m : Message) (bring : ℕ → Push) (order : List ℕ) (store : List ℕ) → 47744 ≤ length store → Sent m bring order → Completes m bring order (start store)
-fresh-completes m bring order store long = completes m bring order (start store) byFresh long (fresh-holds store fresh-sound (m .key)) (fresh-room m)
-
--- and among any calls whose sweeps spare the key: they change nothing of what it sees and is answered
-module _ (long key : ℕ) where
+-- sweeps that spare a key change nothing of what it sees and is answered
+module _ (long key : ℕ) (passes : State → Call → Bool) (L : ActsByKey (acts long) passes (Good long)) where
   abbrev Calm : Holding → List Call → Type 0
   Calm v es = (answers (acts long) key v es ≡ answers (acts long) key v (those (isOwn key) es)) × (viewAfter (acts long) v es ≡ viewAfter (acts long) v (those (isOwn key) es))
 
-  calm-push : (v : Holding) (p : Push) (es : List Call) → isOwn key (push p) ≡ true → Calm (tell long v (push p)) es → Calm v (push p ∷ es)
-  unfolding answers viewAfter those
-  calm-push v p es own calm = (rw own (rw (own, calm .0)), rw own (calm .1))
-
-  calm-sweep : (v : Holding) (time : ℕ) (es : List Call) → due time (v .first) ≡ false → Calm (tell long v (sweep time)) es → Calm v (sweep time ∷ es)
-  unfolding answers viewAfter those
-  calm-sweep v time es spared calm = let same : Calm v es = rw spared at calm in (rw spared (same .0), rw spared (same .1))
+  calm-in : (z : State) (e : Call) (es : List Call) → concerns key e ≡ true → spares key z e ≡ true → Calm (tell long (holding key z) e) es → Calm (holding key z) (e ∷ es)
+  unfolding saidAlong viewAfter those
+  calm-in z (push p) es h s calm = let own : isOwn key (push p) ≡ true = sym (or-false (isOwn key (push p))) ∙ h in (rw own (rw (own, calm .0)), rw own (calm .1))
+  calm-in z (sweep time) es h s calm =
+      let spared = not-true (due time (holding key z .first)) s in
+      let same : Calm (holding key z) es = rw spared at calm in
+      (rw spared (same .0), rw spared (same .1))
 
   abbrev told : State → List Call → List Call
-  told = story (acts long) isAccepted key
-
-  calm-in : (z : State) (e : Call) (es : List Call) → concerns key e ≡ true → spares key z e ≡ true → Calm (tell long (holding key z) e) es → Calm (holding key z) (e ∷ es)
-  calm-in z (push p) es h s calm = calm-push (holding key z) p es (sym (or-false (isOwn key (push p))) ∙ h) calm
-  calm-in z (sweep time) es h s calm = calm-sweep (holding key z) time es (not-true _ s) calm
+  told = story (acts long) passes key
 
   calm : (es : List Call) (z : State) → Good long z → every after (spares key) z es ≡ true → Calm (holding key z) (told z es)
-  unfolding every those remaining answers viewAfter
+  unfolding every those remaining saidAlong viewAfter
   calm [] z g h = (refl, refl)
   calm (e ∷ es) z g h =
-      let L = local-accepted long in
       let ih = calm es (after z e) (good-after long z e g) (right-true (spares key z e) _ h) in
-      Y.next (acts long) isAccepted (Good long) L key (Calm (holding key z)) z e es
+      Y.next (acts long) passes (Good long) L key (Calm (holding key z)) z e es
       (λ p q. calm-in z e (told (after z e) es) q (left-true (spares key z e) _ h) (subst (λ (v : Holding). Calm v (told (after z e) es)) (L .same key z e g p q) ih))
       (λ p q. subst (λ (v : Holding). Calm v (told (after z e) es)) (L .other key z e g q) ih)
-      (λ p. subst (λ (s : State). Calm (holding key s) (told (after z e) es)) (L .crossed z e g p) ih)
+      (λ p. subst (λ (s : State). Calm (holding key s) (told (after z e) es)) (L .no-effect z e g p) ih)
 
   -- of the calls that concern a key its own are its own
   own-concern : (e : Call) → (isOwn key e && concerns key e) ≡ isOwn key e
@@ -256,27 +205,50 @@ module _ (long key : ℕ) where
       by-own true = refl
       by-own false = refl
 
-pub completes-among : (m : Message) (bring : ℕ → Push) (order : List ℕ) (store : List ℕ) (run : List Call) → 47744 ≤ length store → Sent m bring order
-    → those (isOwn (m .key)) (crossed (start store) run) ≡ calls m bring order → every after (spares (m .key)) (start store) run ≡ true → CompletesAmong m order store run
-completes-among m bring order store run enough sent these spared =
-    let long = length store in
-    let g = good-start store in
-    let none : ℕ → Bool = λ k. false in
-    let d : Due m long enough bring (sent .brings) none order = record { once = sent .once; new = λ k h. refl; all = sent .all } in
-    let has : Has m none (holding (m .key) (start store)) = λ k. ap (λ (v : Holding). v .fragments k) (fresh-holds store fresh-sound (m .key)) in
-    let quiet = calm long (m .key) run (start store) g spared in
-    let own : those (isOwn (m .key)) (told long (m .key) (start store) run) ≡ calls m bring order
-    = those-both (isOwn (m .key)) (concerns (m .key)) (crossed (start store) run) ∙ (λ i. those (λ e. own-concern long (m .key) e i) (crossed (start store) run)) ∙ these in
-    let story = as-story m long enough bring (sent .brings) (sent .room) order none (holding (m .key) (start store)) d has in
-    record {
-      answers =
-          Y.gathered-alone (acts long) isAccepted (Good long) (local-accepted long) (m .key) run (start store) g
-          ∙ quiet .0
-          ∙ ap (answers (acts long) (m .key) (holding (m .key) (start store))) own
-          ∙ story .0;
-      holds =
-          Y.alone (acts long) isAccepted (Good long) (local-accepted long) (m .key) run (start store) g
-          ∙ quiet .1
-          ∙ ap (viewAfter (acts long) (holding (m .key) (start store))) own
-          ∙ story .1;
-    }
+-- a message completes among any calls, where those of its key that pass are its pushes and each sweep spares the key
+module _ (m : Message) (bring : ℕ → Push) (order : List ℕ) (sent : Sent m bring order) (z : State) (made : Made (z .table)) (enough : 47744 ≤ length (z .store)) (absent-key : holding (m .key) z ≡ holdsNothing) where
+  abbrev long : ℕ
+  long = length (z .store)
+
+  g : Good long z
+  g = record { made = made; same-long = refl }
+
+  abbrev none : ℕ → Bool
+  none k = false
+
+  due-all : Due m long enough bring (sent .brings) none order
+  due-all = record { once = sent .once; new = λ k h. refl; all = sent .all }
+
+  has-none : Has m none (holding (m .key) z)
+  has-none k = ap (λ (v : Holding). v .fragments k) absent-key
+
+  among : (passes : State → Call → Bool) → ActsByKey (acts long) passes (Good long) → (run : List Call) → those (isOwn (m .key)) (remaining after passes z run) ≡ sending m bring order
+      → every after (spares (m .key)) z run ≡ true → (gathered after (λ s e. isOwn (m .key) e && passes s e) tells z run ≡ completing m order) × (holding (m .key) (ends z run) ≡ holdsNothing)
+  among passes L run these spared =
+      let quiet = calm long (m .key) passes L run z g spared in
+      let left : those (isOwn (m .key)) (told long (m .key) passes L z run) ≡ sending m bring order
+      = those-both (isOwn (m .key)) (concerns (m .key)) (remaining after passes z run) ∙ (λ i. those (λ e. own-concern long (m .key) passes L e i) (remaining after passes z run)) ∙ these in
+      let told = as-told m long enough bring (sent .brings) (sent .room) order none (holding (m .key) z) due-all has-none in (
+        Y.gathered-alone (acts long) passes (Good long) L (m .key) run z g ∙ quiet .0 ∙ ap (answers (acts long) (m .key) (holding (m .key) z)) left ∙ told .0,
+        Y.alone (acts long) passes (Good long) L (m .key) run z g ∙ quiet .1 ∙ ap (viewAfter (acts long) (holding (m .key) z)) left ∙ told .1,
+      )
+
+  pub completes-among : (run : List Call) → those (isOwn (m .key)) (crossed z run) ≡ sending m bring order → every after (spares (m .key)) z run ≡ true → CompletesAmong m order z run
+  completes-among run these spared = let x = among isAccepted (local-accepted long) run these spared in record { answers = x .0; holds = x .1 }
+
+  -- by itself, where there is room
+  pub completes : Room m (z .table) → Completes m bring order z
+  completes has-place =
+      let few : length order ≤ m .final = at-most (m .final) order (sent .once) (λ k h. ltb-true k (m .final) (sym (sent .all k) ∙ h)) in
+      let roomy = finds-room m long enough bring (sent .brings) order none z g due-all has-none (omega (arith, has-place .free)) (λ l out spare. omega (arith, has-place .row (omega arith))) in
+      let these = ap (those (isOwn (m .key))) (every-remains after hasRoom (sending m bring order) z roomy) ∙ all-own m long enough bring (sent .brings) order none due-all in
+      let x = among hasRoom (local-room long) (sending m bring order) these (all-spare m long enough bring (sent .brings) order z) in
+      record { answers = sym (every-gathered after hasRoom (λ s e. isOwn (m .key) e) tells (sending m bring order) z roomy) ∙ x .0; holds = x .1 }
+
+-- a fresh table has room for every message
+fresh-room : (m : Message) → Room m freshTable
+unfolding countIn lowest
+fresh-room m = record { free = m .few; row = λ l. omega arith }
+
+pub fresh-completes : (m : Message) (bring : ℕ → Push) (order : List ℕ) → Sent m bring order → (store : List ℕ) → 47744 ≤ length store → Completes m bring order (start store)
+fresh-completes m bring order sent store long = completes m bring order sent (start store) byFresh long (fresh-holds store (m .key)) (fresh-room m)

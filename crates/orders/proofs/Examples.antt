@@ -12,7 +12,6 @@ use Rattle.searching.specs.Search.{lowest}
 use Rattle.table.specs.Rows.{freshTable}
 use Rattle.pushing.specs.Joining.{Held, nothing, kept, Fragments, heldOf, isKept, unlike, inconsistentWith, andNew, inOrder, due}
 use Rattle.pushing.specs.Push.{Way, end, joinWay, waiting, missing, joined, answerBy}
-use Rattle.table.proofs.Sound.{fresh-sound}
 use Rattle.pushing.proofs.Sound.{sound}
 use Rattle.orders.specs.Runs.{State, Push, push, sweep, pushed, dropped, finishedBy, after, tells, hasRoom, start, Holding, holding, holdsNothing, repliesTo}
 use Rattle.orders.specs.Shares.{share, total, isIn, distinct}
@@ -46,7 +45,7 @@ module _ (store : List ℕ) (long : 47744 ≤ length store) (p : Push) (lent : 4
   roomy = has-room z p ∙ room-unless (length store) z p g (λ l f. fresh-not-full key f)
 
   fresh-key : holding key z ≡ holdsNothing
-  fresh-key = fresh-holds store fresh-sound key
+  fresh-key = fresh-holds store key
 
   enough : 47744 ≤ min (p .lent) (length store)
   enough = omega arith
@@ -98,7 +97,7 @@ module _ (store : List ℕ) (long : 47744 ≤ length store) (p : Push) (lent : 4
 
     others-none : (k : ℕ) → isIn k (key ∷ []) ≡ false → holding k waiting-state ≡ holdsNothing
     unfolding isIn
-    others-none k out = untouched (length store) z g k p (λ e. other e (eqb key k) refl out) ∙ fresh-holds store fresh-sound k
+    others-none k out = untouched (length store) z g k p (λ e. other e (eqb key k) refl out) ∙ fresh-holds store k
       where
         other : k ≡ key → (b : Bool) → eqb key k ≡ b → (b || false) ≡ false → ⊥
         other e true q h = true≢false h
@@ -187,4 +186,4 @@ module _ (store : List ℕ) (long : 47744 ≤ length store) (p q : Push) (lent :
 
   pub zero-then-last-one : repliesTo (q .arrival .key) (start store) (push p ∷ push q ∷ []) ≡ pushed (gives waiting) [] ∷ pushed (gives (joined (length (p .payload ++ q .payload)))) (p .payload ++ q .payload) ∷ []
   unfolding two bring inOrder
-  zero-then-last-one = fresh-completes two bring (0 ∷ []) store long sent .answers
+  zero-then-last-one = fresh-completes two bring (0 ∷ []) sent store long .answers

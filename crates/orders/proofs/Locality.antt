@@ -6,32 +6,33 @@ use Prim.Native.Nat.{ℕ}
 use lib.Dec.{eqb}
 use lib.ListN.{length, take-append-drop}
 use borrow.Author.Tests.{eqb-true, eqb-false, not-false}
+use Rattle.numbers.specs.Numbers.{gives, refuses}
 use Rattle.pushing.specs.Push.{Way, refuse, duplicate, keepAt, openAt, end, answerBy}
 use Rattle.pushing.specs.Made.{byFresh, byPush, bySweep}
 use Rattle.pushing.proofs.Ways.{went}
 use Rattle.table.proofs.Sound.{Sound}
 use Rattle.pushing.proofs.Sound.{sound}
-use Rattle.orders.specs.Runs.{State, Push, Call, push, sweep, pushed, finishedBy, part, wayOf, afterWay, after, tells, refusedBy, isAccepted, hasRoom, isOwn, isSweep, concerns, start, holding, forRoom}
-use Rattle.orders.proofs.Telling.{acts, refusedWay, refused-is, ownWay, byOwn, tell, answer}
+use Rattle.orders.specs.Runs.{State, Push, Call, push, sweep, Reply, pushed, dropped, finishedBy, part, wayOf, afterWay, after, tells, refusedBy, isAccepted, hasRoom, isOwn, isSweep, concerns, start, holding, forRoom}
+use Rattle.orders.proofs.Telling.{acts, passes-is, ownWay, byOwn, tell, answer}
 use Rattle.orders.proofs.Pushing.{Good, roomBy, same-answer, same-finished, way-shape}
 use Rattle.orders.proofs.Effects.{stored-long, others-same, own-same}
 use Rattle.orders.proofs.Sweeps.{sweep-holding}
 use Rattle.machines.specs.Story.{ActsByKey}
 
 -- a refused push changes nothing
-refused-same : (z : State) (p : Push) (test : ℕ → Bool) (w : Way) → refusedWay test w ≡ true → afterWay w z p ≡ z
-refused-same z p test (refuse n values) h = ap (λ (l : List ℕ). record { table = z .table; store = l }) (take-append-drop (p .lent) (z .store))
-refused-same z p test duplicate h = absurd (false≢true h)
-refused-same z p test (keepAt i) h = absurd (false≢true h)
-refused-same z p test (openAt i row) h = absurd (false≢true h)
-refused-same z p test (end x bytes) h = absurd (false≢true h)
+refused-same : (z : State) (p : Push) (test : ℕ → Bool) (bytes : List ℕ) (w : Way) → refusedBy test (pushed (answerBy w) bytes) ≡ true → afterWay w z p ≡ z
+refused-same z p test bytes (refuse n values) h = ap (λ (l : List ℕ). record { table = z .table; store = l }) (take-append-drop (p .lent) (z .store))
+refused-same z p test bytes duplicate h = absurd (false≢true h)
+refused-same z p test bytes (keepAt i) h = absurd (false≢true h)
+refused-same z p test bytes (openAt i row) h = absurd (false≢true h)
+refused-same z p test bytes (end x message) h = absurd (false≢true h)
 
 pub refused-nothing : (test : ℕ → Bool) (z : State) (e : Call) → not (refusedBy test (tells z e)) ≡ false → after z e ≡ z
-refused-nothing test z (push p) h = refused-same z p test (wayOf z p) (sym (refused-is test (finishedBy (wayOf z p) (p .payload)) (wayOf z p)) ∙ not-false _ h)
+refused-nothing test z (push p) h = refused-same z p test (finishedBy (wayOf z p) (p .payload)) (wayOf z p) (not-false _ h)
 refused-nothing test z (sweep time) h = absurd (true≢false h)
 
 pub has-room : (z : State) (p : Push) → hasRoom z (push p) ≡ roomBy (wayOf z p)
-has-room z p = ap not (refused-is forRoom (finishedBy (wayOf z p) (p .payload)) (wayOf z p))
+has-room z p = passes-is forRoom (finishedBy (wayOf z p) (p .payload)) (wayOf z p)
 
 -- each call leaves a state that the calls made
 pub good-after : (long : ℕ) (z : State) (e : Call) → Good long z → Good long (after z e)
@@ -94,7 +95,7 @@ module _ (long : ℕ) (passes : State → Call → Bool) (room : (z : State) (e 
   pub local : ActsByKey (acts long) passes (Good long)
   local = record {
     stays = good-after long;
-    crossed = λ z e g. stops z e;
+    no-effect = λ z e g. stops z e;
     always = always;
     same = same;
     other = other;
@@ -106,15 +107,12 @@ pub local-room : (long : ℕ) → ActsByKey (acts long) hasRoom (Good long)
 local-room long = local long hasRoom (λ z e h. h) (refused-nothing forRoom) (λ z time. refl)
 
 pub accepted-room : (z : State) (e : Call) → isAccepted z e ≡ true → hasRoom z e ≡ true
-accepted-room z (sweep time) h = refl
-accepted-room z (push p) h = has-room z p ∙ by-way (wayOf z p) (sym (ap not (refused-is (λ n. true) (finishedBy (wayOf z p) (p .payload)) (wayOf z p))) ∙ h)
+accepted-room z e h = by-reply (tells z e) h
   where
-    by-way : (w : Way) → not (refusedWay (λ n. true) w) ≡ true → roomBy w ≡ true
-    by-way (refuse n values) k = absurd (false≢true k)
-    by-way duplicate k = refl
-    by-way (keepAt i) k = refl
-    by-way (openAt i row) k = refl
-    by-way (end x bytes) k = refl
+    by-reply : (r : Reply) → not (refusedBy (λ n. true) r) ≡ true → not (refusedBy forRoom r) ≡ true
+    by-reply (pushed (gives a) bytes) h = refl
+    by-reply (pushed (refuses n values) bytes) h = absurd (false≢true h)
+    by-reply (dropped n) h = refl
 
 pub local-accepted : (long : ℕ) → ActsByKey (acts long) isAccepted (Good long)
 local-accepted long = local long isAccepted accepted-room (refused-nothing (λ n. true)) (λ z time. refl)

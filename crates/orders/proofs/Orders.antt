@@ -9,7 +9,6 @@ use native.Mathlib.Omega.{arith}
 use borrow.Author.Tests.{eqb-true, eqb-false, ne-eqb}
 use Rattle.sweeping.specs.Sweep.{swept}
 use Rattle.pushing.specs.Made.{Made}
-use Rattle.table.proofs.Sound.{fresh-sound}
 use Rattle.pushing.proofs.Sound.{sound}
 use Rattle.machines.specs.Machine.{those, run, remaining}
 use Rattle.pushing.specs.Joining.{due}
@@ -27,7 +26,7 @@ use Rattle.machines.proofs.Story as Y
 use Rattle.machines.proofs.TwoRuns as R
 
 fresh-same : (store store′ : List ℕ) (key : ℕ) → holding key (start store) ≡ holding key (start store′)
-fresh-same store store′ key = fresh-holds store fresh-sound key ∙ sym (fresh-holds store′ fresh-sound key)
+fresh-same store store′ key = fresh-holds store key ∙ sym (fresh-holds store′ key)
 
 module _ (store store′ : List ℕ) (long : length store′ ≡ length store) where
   abbrev n : ℕ
@@ -42,7 +41,7 @@ module _ (store store′ : List ℕ) (long : length store′ ≡ length store) w
   -- request 2026-09, with no premise about room
   pub told-alone : (key : ℕ) (calls : List Call) → ToldAlone key store store′ calls
   told-alone key calls =
-      let lone : Lone key (start store′) = λ k ne. fresh-holds store′ fresh-sound k in
+      let lone : Lone key (start store′) = λ k ne. fresh-holds store′ k in
       record {
         answers = R.projected-gathered (acts n) isAccepted (Good n) (local-accepted n) key (Lone key) (echo n key) calls (start store) (start store′) good good′ lone (fresh-same store store′ key);
         holds = R.projected-view (acts n) isAccepted (Good n) (local-accepted n) key (Lone key) (echo n key) calls (start store) (start store′) good good′ lone (fresh-same store store′ key);
@@ -115,7 +114,7 @@ module _ (store : List ℕ) where
   run-made calls = good-ends calls .made
 
   untold : (key : ℕ) (calls : List Call) → those (isOwn key) calls ≡ [] → holding key (ends (start store) calls) ≡ holdsNothing
-  untold key calls none = never-pushed (length store) key calls (start store) (good-start store) (fresh-holds store fresh-sound key) none
+  untold key calls none = never-pushed (length store) key calls (start store) (good-start store) (fresh-holds store key) none
 
   -- a table that hears one key alone counts that key's share
   lone-share : (calls : List Call) (time key : ℕ) → swept (ends (start store) (mine key calls) .table) time .dropped ≡ share time (holding key (ends (start store) (mine key calls)))

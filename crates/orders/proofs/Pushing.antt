@@ -6,19 +6,20 @@ use Prim.Native.Nat.{ℕ, min, _≤_, _<_}
 use lib.Dec.{ltb, leb}
 use lib.ListN.{length, take, drop, length-take, take-append-drop}
 use borrow.Author.Tests.{leb-true, leb-false, ltb-true, ltb-false, le-ltb}
+use Rattle.numbers.specs.Numbers.{Answer}
 use Rattle.table.specs.declared.Table.{Table}
 use Rattle.pushing.specs.declared.Arrival.{Arrival}
 use Rattle.table.specs.Rows.{rowOf, spareRow, placeOf, lowestFree}
 use Rattle.pushing.specs.Joining.{Held, Fragments, isKept, heldOf, heldIn, andNew}
-use Rattle.pushing.specs.Push.{Way, refuse, duplicate, keepAt, openAt, end, joinWay, keepWay, joinedWith, answerBy}
+use Rattle.pushing.specs.Push.{PushAnswer, Way, refuse, duplicate, keepAt, openAt, end, joinWay, keepWay, joinedWith, answerBy}
 use Rattle.pushing.specs.Made.{Made}
 use Rattle.pushing.proofs.Ways.{by-ends, keep-full, keep-there, keep-keys, keep-new, way-11, way-12, way-duplicate, way-last, way-keep}
 use Rattle.table.proofs.Sound.{Sound}
 use Rattle.pushing.proofs.Sound.{sound}
-use Rattle.orders.specs.Runs.{State, Push, finishedBy, part, wayOf, Holding, holding, forRoom}
+use Rattle.orders.specs.Runs.{State, Push, pushed, finishedBy, refusedBy, part, wayOf, Holding, holding, forRoom}
 use Rattle.orders.proofs.Holdings.{held-front}
 use Rattle.orders.proofs.Lookups.{kept-there}
-use Rattle.orders.proofs.Telling.{shape, refusedWay, ownJoining, ownWay, by-own-way, own-11, own-12, own-duplicate, own-last, own-keep}
+use Rattle.orders.proofs.Telling.{shape, passesBy, ownJoining, ownWay, by-own-way, own-11, own-12, own-duplicate, own-last, own-keep}
 
 -- a state that the calls made over a store of some length
 pub record Good (long : ℕ) (z : State) : Type 0 where
@@ -31,7 +32,7 @@ held-lent z s lent long row = λ i n. (sym (held-front (z .table) s (take lent (
 
 -- what a push tells goes by the shape of its way
 abbrev pub roomBy : Way → Bool
-roomBy w = not (refusedWay forRoom w)
+roomBy = passesBy forRoom
 
 pub same-answer : (w : Way) → answerBy (shape w) ≡ answerBy w
 same-answer (refuse n values) = refl
@@ -134,17 +135,10 @@ module _ (long : ℕ) (z : State) (p : Push) (g : Good long z) where
 pub own-room : (long : ℕ) (v : Holding) (p : Push) → roomBy (ownWay long v p) ≡ true
 own-room long v p = by-own-way long v p (λ (w : Way). roomBy w ≡ true) (λ n values e. rw e) refl (λ h bytes e. refl) (λ e. refl)
 
-room-shape : (w : Way) → roomBy (shape w) ≡ roomBy w
-room-shape (refuse n values) = refl
-room-shape duplicate = refl
-room-shape (keepAt i) = refl
-room-shape (openAt i row) = refl
-room-shape (end h bytes) = refl
-
 -- a push has room unless it is not marked last and the table is full for it: a full table takes a last fragment, single or not
 pub room-unless : (long : ℕ) (z : State) (p : Push) → Good long z → (p .arrival .fragment .last ≡ false → Full (z .table) (p .arrival .key) → ⊥) → roomBy (wayOf z p) ≡ true
 room-unless long z p g not-full = by-turn (turn long z p g)
   where
     by-turn : Turn long z p → roomBy (wayOf z p) ≡ true
-    by-turn (as-told e) = sym (room-shape (wayOf z p)) ∙ ap roomBy e ∙ own-room long (holding (p .arrival .key) z) p
+    by-turn (as-told e) = ap (λ (a : Answer PushAnswer). not (refusedBy forRoom (pushed a []))) (sym (same-answer (wayOf z p))) ∙ ap roomBy e ∙ own-room long (holding (p .arrival .key) z) p
     by-turn (full e own l f) = absurd (not-full l f)

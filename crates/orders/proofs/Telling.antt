@@ -1,11 +1,12 @@
 -- What one call makes of one key's holding, and what it tells: functions of the holding and the call alone, but for refusal 10.
 use mathlib.Core.Path.{_≡_, refl}
 use mathlib.Core.List.{List, [], _∷_}
-use mathlib.Core.Bool.{Bool, true, false, cond}
+use mathlib.Core.Bool.{Bool, true, false, cond, not}
 use Prim.Native.Nat.{ℕ, min, _≤_, _<_}
 use lib.Dec.{ltb}
 use lib.ListN.{length}
 use borrow.Author.Tests.{lt-ltb, le-ltb}
+use Rattle.numbers.specs.Numbers.{Answer, gives, refuses}
 use Rattle.pushing.specs.Joining.{Since, never, since, isKept, heldOf, andNew, due}
 use Rattle.pushing.specs.Push.{PushAnswer, waiting, duplicated, inconsistent, missing, missingLast, single, joined, Way, refuse, duplicate, keepAt, openAt, end, joinWay, answerBy}
 use Rattle.pushing.proofs.Ways.{by-ends}
@@ -20,20 +21,16 @@ shape (keepAt i) = keepAt 0
 shape (openAt i row) = keepAt 0
 shape (end h message) = end h message
 
--- whether a way is a refusal by some number
-abbrev pub refusedWay : (ℕ → Bool) → Way → Bool
-refusedWay test (refuse n values) = test n
-refusedWay test duplicate = false
-refusedWay test (keepAt i) = false
-refusedWay test (openAt i row) = false
-refusedWay test (end h message) = false
+-- whether a way is no refusal by some number: the finished bytes have no part in it
+abbrev pub passesBy : (ℕ → Bool) → Way → Bool
+passesBy test w = not (refusedBy test (pushed (answerBy w) []))
 
-pub refused-is : (test : ℕ → Bool) (bytes : List ℕ) (w : Way) → refusedBy test (pushed (answerBy w) bytes) ≡ refusedWay test w
-refused-is test bytes (refuse n values) = refl
-refused-is test bytes duplicate = refl
-refused-is test bytes (keepAt i) = refl
-refused-is test bytes (openAt i row) = refl
-refused-is test bytes (end h message) = refl
+pub passes-is : (test : ℕ → Bool) (bytes : List ℕ) (w : Way) → not (refusedBy test (pushed (answerBy w) bytes)) ≡ passesBy test w
+passes-is test bytes w = by-answer (answerBy w)
+  where
+    by-answer : (a : Answer PushAnswer) → not (refusedBy test (pushed a bytes)) ≡ not (refusedBy test (pushed a []))
+    by-answer (gives h) = refl
+    by-answer (refuses n values) = refl
 
 abbrev pub isWaiting : PushAnswer → Bool
 isWaiting waiting = true

@@ -10,7 +10,6 @@ use borrow.Author.Tests.{eqb-true, eqb-false, eq-eqb}
 use Rattle.numbers.specs.Numbers.{gives}
 use Rattle.numbers.proofs.Answers.{given}
 use Rattle.numbers.proofs.Firm.{never}
-use Rattle.table.proofs.Sound.{fresh-sound}
 use Rattle.pushing.specs.Joining.{Held, nothing, kept, heldOf, due}
 use Rattle.pushing.specs.Push.{waiting, Way, keepAt, answerBy}
 use Rattle.pushing.specs.Made.{Made}
@@ -174,7 +173,7 @@ run-open long (e ∷ es) z g all = run-open long es (after z e) (good-after long
 
 module _ (store : List ℕ) (calls : List Call) where
   pub dropped-unfinished : (time key : ℕ) → due time (holding key (ends (start store) calls) .first) ≡ true → HasOne (holding key (ends (start store) calls) .fragments)
-  dropped-unfinished time key d = run-open (length store) calls (start store) (good-start store) (λ k. subst Open (sym (fresh-holds store fresh-sound k)) nothing-open) key time d
+  dropped-unfinished time key d = run-open (length store) calls (start store) (good-start store) (λ k. subst Open (sym (fresh-holds store k)) nothing-open) key time d
 
   -- a fresh table holds nothing, so all that is held came with a push
   pub held-from : (key number : ℕ) (fragment : Held) → holding key (ends (start store) calls) .fragments number ≡ kept fragment → HeldFrom (start store) calls key number fragment
@@ -182,5 +181,5 @@ module _ (store : List ℕ) (calls : List Call) where
   held-from key number fragment h = by-when (since-when key number fragment (length store) calls (start store) (good-start store) h)
     where
       by-when : Since-when key number fragment (start store) calls → HeldFrom (start store) calls key number fragment
-      by-when (always all) = no-fragment fragment (sym (ap (λ (v : Holding). v .fragments number) (fresh-holds store fresh-sound key)) ∙ all [] calls refl)
+      by-when (always all) = no-fragment fragment (sym (ap (λ (v : Holding). v .fragments number) (fresh-holds store key)) ∙ all [] calls refl)
       by-when (since-push f) = f

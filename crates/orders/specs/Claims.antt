@@ -20,7 +20,7 @@ use Rattle.stations.specs.Rows.{Stations, freshStations}
 use Rattle.stations.specs.Runs.{StationCall, stationContract, eventsOf, NoneRefused}
 use Rattle.stations.specs.Claims.{EventsReordered, SameStations}
 use Rattle.orders.specs.Shares.{share, total, isIn, distinct}
-use Rattle.orders.specs.Messages.{Message, Room, Sent, calls, spares, completing}
+use Rattle.orders.specs.Messages.{Message, Room, Sent, sending, spares, completing}
 use Rattle.orders.specs.Runs.{State, Push, Call, push, sweep, pushed, finishedBy, wayOf, isAccepted, isOwn, neverFull, hasRoom, after, tells, mine, start, holding, holdsNothing, ends, crossed, repliesTo, repliesToAccepted, repliesToSweeps}
 use Rattle.orders.specs.Happened.{TableCall, PushMeets, tableContract, callsOf, gotBy, replyOf, wasAccepted, hadRoom, isFrom, isSweepCall, isAbout}
 
@@ -82,13 +82,13 @@ pub record SameStory (store store′ : List ℕ) (calls calls′ : List Call) : 
 
 -- "a message cut into fragments 0 to n-1, pushed in any order that ends with the last one, with room, completes with the message": all others wait, and the key is dropped
 pub record Completes (m : Message) (bring : ℕ → Push) (order : List ℕ) (z : State) : Type 0 where
-  pub answers : repliesTo (m .key) z (calls m bring order) ≡ completing m order
-  pub holds : holding (m .key) (ends z (calls m bring order)) ≡ holdsNothing
+  pub answers : repliesTo (m .key) z (sending m bring order) ≡ completing m order
+  pub holds : holding (m .key) (ends z (sending m bring order)) ≡ holdsNothing
 
--- the same among other calls: all the others wait, and after it the key holds nothing
-pub record CompletesAmong (m : Message) (order : List ℕ) (store : List ℕ) (run : List Call) : Type 0 where
-  pub answers : repliesToAccepted (m .key) (start store) run ≡ completing m order
-  pub holds : holding (m .key) (ends (start store) run) ≡ holdsNothing
+-- the same among other calls
+pub record CompletesAmong (m : Message) (order : List ℕ) (z : State) (run : List Call) : Type 0 where
+  pub answers : repliesToAccepted (m .key) z run ≡ completing m order
+  pub holds : holding (m .key) (ends z run) ≡ holdsNothing
 
 -- Calls that happened are a run: what is told of each is what its caller got, and the table at their end is the run's, and one that push asks for.
 pub record IsRun (store : List ℕ) (calls : List TableCall) (z : State) : Type 0 where
@@ -173,9 +173,10 @@ pub record Claims : Type 0 where
   pub dropped-unfinished : (store : List ℕ) (calls : List Call) (time key : ℕ) → due time (holding key (ends (start store) calls) .first) ≡ true → HasOne (holding key (ends (start store) calls) .fragments)
   pub held-from : (store : List ℕ) (calls : List Call) (key number : ℕ) (fragment : Held) → holding key (ends (start store) calls) .fragments number ≡ kept fragment → HeldFrom (start store) calls key number fragment
   -- a message completes: at any table that the calls made, and at a fresh one
-  pub completes : (m : Message) (bring : ℕ → Push) (order : List ℕ) (z : State) → Made (z .table) → storeSize ≤ length (z .store) → holding (m .key) z ≡ holdsNothing → Room m (z .table)
-      → Sent m bring order → Completes m bring order z
-  pub fresh-completes : (m : Message) (bring : ℕ → Push) (order : List ℕ) (store : List ℕ) → storeSize ≤ length store → Sent m bring order → Completes m bring order (start store)
-  -- and among any calls, where the pushes under the key that were not refused are these, and each sweep of the run spares the key
-  pub completes-among : (m : Message) (bring : ℕ → Push) (order : List ℕ) (store : List ℕ) (run : List Call) → storeSize ≤ length store → Sent m bring order
-      → those (isOwn (m .key)) (crossed (start store) run) ≡ calls m bring order → every after (spares (m .key)) (start store) run ≡ true → CompletesAmong m order store run
+  pub completes : (m : Message) (bring : ℕ → Push) (order : List ℕ) → Sent m bring order → (z : State) → Made (z .table) → storeSize ≤ length (z .store) → holding (m .key) z ≡ holdsNothing
+      → Room m (z .table) → Completes m bring order z
+  pub fresh-completes : (m : Message) (bring : ℕ → Push) (order : List ℕ) → Sent m bring order → (store : List ℕ) → storeSize ≤ length store → Completes m bring order (start store)
+  pub fresh-holds : (store : List ℕ) (key : ℕ) → holding key (start store) ≡ holdsNothing
+  -- and among any calls, where the pushes under the key that were not refused are these, and each sweep spares the key: one before the first of them or after the last does, as the key holds nothing then
+  pub completes-among : (m : Message) (bring : ℕ → Push) (order : List ℕ) → Sent m bring order → (z : State) → Made (z .table) → storeSize ≤ length (z .store) → holding (m .key) z ≡ holdsNothing
+      → (run : List Call) → those (isOwn (m .key)) (crossed z run) ≡ sending m bring order → every after (spares (m .key)) z run ≡ true → CompletesAmong m order z run

@@ -45,8 +45,8 @@ pub record Sent (m : Message) (bring : ℕ → Push) (order : List ℕ) : Type 0
   pub all : (k : ℕ) → isIn k order ≡ ltb k (m .final)
   pub room : 1 ≤ m .final → length (whole m) ≤ bring (m .final) .room
 
-abbrev pub calls : Message → (ℕ → Push) → List ℕ → List Call
-calls m bring order = map (λ k. push (bring k)) order ++ (push (bring (m .final)) ∷ [])
+abbrev pub sending : Message → (ℕ → Push) → List ℕ → List Call
+sending m bring order = map (λ k. push (bring k)) order ++ (push (bring (m .final)) ∷ [])
 
 -- how many of the numbers below n pass a test, and how many places are free
 unfoldable pub countIn : (ℕ → Bool) → ℕ → ℕ

@@ -22,7 +22,7 @@ module _ (e : Event) where
     where
       by-point : (b : Bool) → eqb p (e .point) ≡ b → HeardWhen e (at p) (cond b Heard.Same (Heard.Moved (addressOf p)))
       by-point true f = (q, ap at (eqb-true p (e .point) f))
-      by-point false f = (q, record { old = p; there = refl; elsewhere = eqb-false p (e .point) f; shown-as = refl })
+      by-point false f = (q, record { came-from = p; there = refl; elsewhere = eqb-false p (e .point) f; shown-as = refl })
 
   nowhere-at : (point : ℕ) → nowhere ≡ at point → ⊥
   nowhere-at point h = let z : _≡_ {A = ℕ} 0 1 = cc in omega arith
@@ -49,7 +49,7 @@ module _ (e : Event) where
   -- the way back
   when-heard : (was : Whereabouts) (h : Heard) → HeardWhen e was h → heardOf e was ≡ h
   when-heard was Heard.Placed w = rw (w .0, w .1)
-  when-heard was (Heard.Moved from) w = rw (w .0, w .1 .there, ne-eqb (w .1 .old) (e .point) (w .1 .elsewhere), w .1 .shown-as)
+  when-heard was (Heard.Moved from) w = rw (w .0, w .1 .there, ne-eqb (w .1 .came-from) (e .point) (w .1 .elsewhere), w .1 .shown-as)
   when-heard was Heard.Same w = rw (w .0, w .1, eq-eqb (e .point) (e .point) refl)
   when-heard was Heard.Removed w = rw (w .0, w .1, eq-eqb (e .point) (e .point) refl)
   when-heard was Heard.Stale w = rw (w .0, not-there was (w .1))

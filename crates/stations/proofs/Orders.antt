@@ -39,7 +39,7 @@ is-own station e h = eqb-true _ _ (sym (or-false (isOfStation station e)) ∙ h)
 local : ActsByKey table takesEvent Kept
 local = record {
   stays = λ t e k. acts t k e .kept;
-  crossed = λ t e k h. acts t k e .refused h;
+  no-effect = λ t e k h. acts t k e .refused h;
   always = λ t e h. absurd (false≢true h);
   same = λ station t e k h own. subst (λ (s : ℕ). whereOf (tableAfter t e) s ≡ whereAfter e (whereOf t s)) (is-own station e own) (acts t k e .own h);
   other = λ station t e k own. acts t k e .others station (λ q. eqb-false (e .station) station (sym (or-false (isOfStation station e)) ∙ own) (sym q));
@@ -142,7 +142,7 @@ module _ (calls : List StationCall) (t : Stations) (h : Happened stationContract
             ∙ R.alike-gathered table takesEvent Kept local station (eventsOf calls) (eventsOf calls′) freshStations freshStations fresh-kept fresh-kept refl (stories station)
             ∙ every-gathered tableAfter takesEvent (λ s e. isOfStation station e) answerTo (eventsOf calls′) freshStations all′
             ∙ told-heard calls′ t′ h′ station;
-        places = λ station.
+        whereabouts = λ station.
             ap (λ (x : Stations). whereOf x station) (sym (ends-at calls t h))
             ∙ R.alike-view table takesEvent Kept local station (eventsOf calls) (eventsOf calls′) freshStations freshStations fresh-kept fresh-kept refl (stories station)
             ∙ ap (λ (x : Stations). whereOf x station) (ends-at calls′ t′ h′);

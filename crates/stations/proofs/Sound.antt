@@ -10,7 +10,7 @@ use borrow.Author.Tests.{ltb-true, ltb-false, lt-ltb, eqb-true, eqb-false, ne-eq
 use Rattle.numbers.specs.Numbers.{isGiven, gives, refuses}
 use Rattle.stations.specs.declared.Heard.{Heard}
 use Rattle.stations.specs.Whereabouts.{Whereabouts, nowhere, at, Event, isNowhere, heardOf}
-use Rattle.stations.specs.Rows.{Stations, pointAt, rowWith, whereOf, allHeld, afterJoin, free, holds, rowFrom, rowAt, oneIf, countBelow, countOf}
+use Rattle.stations.specs.Rows.{Stations, pointAt, rowWith, whereOf, allHeld, afterJoin, freeRow, heldRow, rowFrom, rowAt, oneIf, countBelow, countOf}
 use Rattle.stations.specs.Runs.{takesEvent}
 use Rattle.stations.specs.Claims.{StationsMade, Moves, WhyRefused, FullIs128, InRow, SoundStations}
 use Rattle.stations.proofs.Ways.{known-place, unknown-place}
@@ -24,10 +24,10 @@ record Has (t : Stations) (i station point : ℕ) : Type 0 where
   pub code : getD t i 0 ≡ station + 1
   pub at-point : pointAt t i ≡ point
 
-has : (t : Stations) (i station point : ℕ) → rowAt t i ≡ holds station point → Has t i station point
+has : (t : Stations) (i station point : ℕ) → rowAt t i ≡ heldRow station point → Has t i station point
 has t i station point h = by-end (ltb i 128) refl (getD t i 0) refl h
   where
-    by-end : (b : Bool) → ltb i 128 ≡ b → (code : ℕ) → getD t i 0 ≡ code → cond b (rowFrom code (pointAt t i)) free ≡ holds station point → Has t i station point
+    by-end : (b : Bool) → ltb i 128 ≡ b → (code : ℕ) → getD t i 0 ≡ code → cond b (rowFrom code (pointAt t i)) freeRow ≡ heldRow station point → Has t i station point
     by-end true e zero q h = let z : _≡_ {A = ℕ} 0 1 = cc in absurd (omega arith)
     by-end true e (suc s) q h =
         let one : s ≡ station = cc in
@@ -35,17 +35,17 @@ has t i station point h = by-end (ltb i 128) refl (getD t i 0) refl h
         record { within = ltb-true i 128 e; code = omega (arith, q, one); at-point = two }
     by-end false e code q h = let z : _≡_ {A = ℕ} 0 1 = cc in absurd (omega arith)
 
-row-is : (t : Stations) (i station : ℕ) → i < 128 → getD t i 0 ≡ station + 1 → rowAt t i ≡ holds station (pointAt t i)
+row-is : (t : Stations) (i station : ℕ) → i < 128 → getD t i 0 ≡ station + 1 → rowAt t i ≡ heldRow station (pointAt t i)
 row-is t i station l e = rw (lt-ltb i 128 l) (by-code (getD t i 0) e)
   where
-    by-code : (code : ℕ) → code ≡ station + 1 → rowFrom code (pointAt t i) ≡ holds station (pointAt t i)
+    by-code : (code : ℕ) → code ≡ station + 1 → rowFrom code (pointAt t i) ≡ heldRow station (pointAt t i)
     by-code zero e = absurd (omega arith)
-    by-code (suc s) e = ap (λ (x : ℕ). holds x (pointAt t i)) (omega arith)
+    by-code (suc s) e = ap (λ (x : ℕ). heldRow x (pointAt t i)) (omega arith)
 
-free-code : (t : Stations) (i : ℕ) → i < 128 → rowAt t i ≡ free → getD t i 0 ≡ 0
+free-code : (t : Stations) (i : ℕ) → i < 128 → rowAt t i ≡ freeRow → getD t i 0 ≡ 0
 free-code t i l h = by-code (getD t i 0) refl (sym (rw (lt-ltb i 128 l)) ∙ h)
   where
-    by-code : (code : ℕ) → getD t i 0 ≡ code → rowFrom code (pointAt t i) ≡ free → getD t i 0 ≡ 0
+    by-code : (code : ℕ) → getD t i 0 ≡ code → rowFrom code (pointAt t i) ≡ freeRow → getD t i 0 ≡ 0
     by-code zero e q = e
     by-code (suc s) e q = let z : _≡_ {A = ℕ} 0 1 = cc in absurd (omega arith)
 
@@ -146,7 +146,7 @@ sound t m = record {
         let l = ltb-true (rowWith t (station + 1)) 128 q in
         let same : at (pointAt t (rowWith t (station + 1))) ≡ at point = sym (known-place t station (rowWith t (station + 1)) refl l) ∙ h in
         let p : pointAt t (rowWith t (station + 1)) ≡ point = cc in
-        record { row = rowWith t (station + 1); is = row-is t (rowWith t (station + 1)) station l (has-code t (station + 1) l) ∙ ap (holds station) p }
+        record { row = rowWith t (station + 1); is = row-is t (rowWith t (station + 1)) station l (has-code t (station + 1) l) ∙ ap (heldRow station) p }
     find station point false q h =
         let no : nowhere ≡ at point = sym (unknown-place t station (rowWith t (station + 1)) refl (ltb-false (rowWith t (station + 1)) 128 q)) ∙ h in
         let z : _≡_ {A = ℕ} 0 1 = cc in

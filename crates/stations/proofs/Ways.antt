@@ -11,7 +11,7 @@ use borrow.Author.Tests.{lt-ltb, le-ltb}
 use Rattle.numbers.specs.Numbers.{Answer, gives, refuses}
 use Rattle.stations.specs.declared.Heard.{Heard}
 use Rattle.stations.specs.Whereabouts.{nowhere, at, Event, heardOfJoin}
-use Rattle.stations.specs.Rows.{Stations, rowWith, pointAt, whereOf, allHeld, answerTo, afterJoin, afterLeave, withRow, free, holds, rowFrom, rowAt, oneIf, countBelow}
+use Rattle.stations.specs.Rows.{Stations, rowWith, pointAt, whereOf, allHeld, answerTo, afterJoin, afterLeave, withRow, freeRow, heldRow, rowFrom, rowAt, oneIf, countBelow}
 
 module _ (t : Stations) (station : ℕ) where
   abbrev row : ℕ
@@ -72,17 +72,17 @@ module _ (t : Stations) (station point : ℕ) where
   not-held n e h = (rw (unknown-place t station n e h), rw (unknown-place t station n e h))
 
 -- a row that is looked at
-pub row-held : (t : Stations) (n : ℕ) → n < 128 → (getD t n 0 ≡ 0 → ⊥) → rowAt t n ≡ holds (getD t n 0 - 1) (pointAt t n)
+pub row-held : (t : Stations) (n : ℕ) → n < 128 → (getD t n 0 ≡ 0 → ⊥) → rowAt t n ≡ heldRow (getD t n 0 - 1) (pointAt t n)
 row-held t n h ne = rw (lt-ltb n 128 h) (by-code (getD t n 0) ne)
   where
-    by-code : (code : ℕ) → (code ≡ 0 → ⊥) → rowFrom code (pointAt t n) ≡ holds (code - 1) (pointAt t n)
+    by-code : (code : ℕ) → (code ≡ 0 → ⊥) → rowFrom code (pointAt t n) ≡ heldRow (code - 1) (pointAt t n)
     by-code zero ne = absurd (ne refl)
-    by-code (suc s) ne = ap (λ (x : ℕ). holds x (pointAt t n)) (omega arith)
+    by-code (suc s) ne = ap (λ (x : ℕ). heldRow x (pointAt t n)) (omega arith)
 
-pub row-free : (t : Stations) (n : ℕ) → n < 128 → getD t n 0 ≡ 0 → rowAt t n ≡ free
+pub row-free : (t : Stations) (n : ℕ) → n < 128 → getD t n 0 ≡ 0 → rowAt t n ≡ freeRow
 row-free t n h e = rw (lt-ltb n 128 h, e)
 
-pub row-past : (t : Stations) (n : ℕ) → 128 ≤ n → rowAt t n ≡ free
+pub row-past : (t : Stations) (n : ℕ) → 128 ≤ n → rowAt t n ≡ freeRow
 row-past t n h = rw (le-ltb n 128 h)
 
 -- and counted

@@ -20,7 +20,7 @@ use Rattle.stations.specs.declared.Where.{Where}
 use Rattle.stations.specs.declared.Listed.{Listed}
 use Rattle.stations.specs.Addresses.{numberOf, addressOf}
 use Rattle.stations.specs.Whereabouts.{Whereabouts, nowhere, at, Event, eventOf, whereAfter}
-use Rattle.stations.specs.Rows.{Stations, freshStations, rows, pointAt, whereOf, allHeld, answerTo, tableAfter, free, holds, rowAt, countOf, whereShown, rowShown}
+use Rattle.stations.specs.Rows.{Stations, freshStations, rows, pointAt, whereOf, allHeld, answerTo, tableAfter, freeRow, heldRow, rowAt, countOf, whereShown, rowShown}
 use Rattle.stations.specs.Events.{answeredOf, appliedOf, associationCode, answerFrom, tableFrom}
 use Rattle.stations.specs.Runs.{StationCall, stationContract, of-value, eventBy, eventsOf, heardBy, wasHeard, NoneRefused, isOfStation, broughtFor, takesEvent, LatestJoin}
 
@@ -54,10 +54,10 @@ pub record WhyRefused (t : Stations) (e : Event) : Type 0 where
 -- When each answer is given to an event whose station was somewhere: a join says if the station is new, has moved and from where, or was there already; a leave removes it
 -- from the access point that it names, and "such a late leave, or a leave of a station not held, changes nothing and answers "stale""
 pub record MovedFrom (from : MacAddr) (point : ℕ) (was : Whereabouts) : Type 0 where
-  pub old : ℕ
-  pub there : was ≡ at old
-  pub elsewhere : old ≡ point → ⊥
-  pub shown-as : from ≡ addressOf old
+  pub came-from : ℕ
+  pub there : was ≡ at came-from
+  pub elsewhere : came-from ≡ point → ⊥
+  pub shown-as : from ≡ addressOf came-from
 
 abbrev pub HeardWhen : Event → Whereabouts → Heard → Type 0
 HeardWhen e was Heard.Placed = (e .is-join ≡ true) × (was ≡ nowhere)
@@ -78,14 +78,14 @@ pub record FullIs128 (t : Stations) : Type 0 where
 -- a row holds a station with its access point
 pub record InRow (t : Stations) (station point : ℕ) : Type 0 where
   pub row : ℕ
-  pub is : rowAt t row ≡ holds station point
+  pub is : rowAt t row ≡ heldRow station point
 
 -- A table that calls made: at most 128 stations, none of them twice; a free row is as a fresh one; and the rows list the stations where they are.
 pub record SoundStations (t : Stations) : Type 0 where
   pub at-most : countOf t ≤ 128
-  pub once : (station i p j q : ℕ) → rowAt t i ≡ holds station p → rowAt t j ≡ holds station q → i ≡ j
-  pub free-is-fresh : (i : ℕ) → i < rows → rowAt t i ≡ free → (getD t i 0 ≡ 0) × (pointAt t i ≡ 0)
-  pub rows-list : (station point i : ℕ) → rowAt t i ≡ holds station point → whereOf t station ≡ at point
+  pub once : (station i p j q : ℕ) → rowAt t i ≡ heldRow station p → rowAt t j ≡ heldRow station q → i ≡ j
+  pub free-is-fresh : (i : ℕ) → i < rows → rowAt t i ≡ freeRow → (getD t i 0 ≡ 0) × (pointAt t i ≡ 0)
+  pub rows-list : (station point i : ℕ) → rowAt t i ≡ heldRow station point → whereOf t station ≡ at point
   pub in-a-row : (station point : ℕ) → whereOf t station ≡ at point → InRow t station point
 
 -- "A station is at A exactly when its latest accepted join named A and no later leave named A": over any calls that happened from a fresh table to the table t, with no premise about room
@@ -100,7 +100,7 @@ EventsReordered events events′ = (station : ℕ) → those (isOfStation statio
 -- each call gets the same answer, "and both tables end with the same stations at the same access points"
 pub record SameStations (calls calls′ : List StationCall) (t t′ : Stations) : Type 0 where
   pub heard : (station : ℕ) → map heardBy (those (broughtFor station) calls) ≡ map heardBy (those (broughtFor station) calls′)
-  pub places : (station : ℕ) → whereOf t station ≡ whereOf t′ station
+  pub whereabouts : (station : ℕ) → whereOf t station ≡ whereOf t′ station
 
 pub record Claims : Type 0 where
   pub firmness : Firmness

@@ -66,15 +66,15 @@ tableAfter t e = cond (e .is-join) (afterJoin t (e .station) (e .point)) (afterL
 
 -- what a row holds
 pub data Row : Type 0 where
-  free : Row
-  holds : (station point : ℕ) → Row
+  freeRow : Row
+  heldRow : (station point : ℕ) → Row
 
 abbrev pub rowFrom : (code point : ℕ) → Row
-rowFrom zero point = free
-rowFrom (suc station) point = holds station point
+rowFrom zero point = freeRow
+rowFrom (suc station) point = heldRow station point
 
 abbrev pub rowAt : Stations → ℕ → Row
-rowAt t n = cond (ltb n rows) (rowFrom (getD t n 0) (pointAt t n)) free
+rowAt t n = cond (ltb n rows) (rowFrom (getD t n 0) (pointAt t n)) freeRow
 
 -- how many of the first n rows hold a station, and how many do at all
 abbrev pub oneIf : (code : ℕ) → ℕ
@@ -93,5 +93,5 @@ whereShown nowhere = Where.Nowhere
 whereShown (at point) = Where.At (addressOf point)
 
 abbrev pub rowShown : Row → Listed
-rowShown free = Listed.Free
-rowShown (holds station point) = Listed.Held (addressOf station) (addressOf point)
+rowShown freeRow = Listed.Free
+rowShown (heldRow station point) = Listed.Held (addressOf station) (addressOf point)
