@@ -1,4 +1,5 @@
--- One key's story, told alone, for any machine: what one call does to what is seen of a key, given once, gives what any calls do to it and what is gathered of them.
+-- One key's story, told alone, for any machine: what one call does to what is seen of a key, given once, gives what any
+-- calls do to it and what is gathered of them.
 use mathlib.Core.Path.{_≡_, refl, sym, ap, _∙_}
 use mathlib.Core.List.{List, [], _∷_}
 use mathlib.Core.Bool.{Bool, true, false, _&&_, false≢true, and-false, or-true}

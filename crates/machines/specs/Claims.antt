@@ -1,4 +1,5 @@
--- What is claimed of machines that take one call after the other: the record Claims, which proofs/Claims.antt proves. It speaks of all types of states and calls, and so it is a type of the next level.
+-- What is claimed of machines that take one call after the other: the record Claims, which proofs/Claims.antt proves.
+-- It speaks of all types of states and calls, and so it is a type of the next level.
 use mathlib.Core.Path.{_≡_}
 use mathlib.Core.List.{List, [], _++_, map}
 use mathlib.Core.Bool.{Bool, true, not, _&&_}
@@ -34,7 +35,8 @@ module _ {S E A Vw : Type 0} (m : Machine S E A Vw) (passes : S → E → Bool) 
     pub seen : m .view c (run (m .step) s es) ≡ m .view c (run (m .step) s′ (story m passes c s es))
     pub answered : gathered (m .step) (hers m passes c) (m .says) s es ≡ gathered (m .step) (λ s e. m .own c e) (m .says) s′ (story m passes c s es)
 
--- Calls that happened are a run: they end where the run ends, what passes a test of the run passes theirs, and their callers got what the machine says.
+-- Calls that happened are a run: they end where the run ends, what passes a test of the run passes theirs, and their
+-- callers got what the machine says.
 module _ {S C A E R : Type 0} (contract : Outcome S C A → Type 0) (step : S → E → S) (says : S → E → R) (asks : C → Asks E) (reply : Outcome S C A → R) where
   pub record HappenedRun (s s′ : S) (os : List (Outcome S C A)) (test : S → E → Bool) (passes : Outcome S C A → Bool) : Type 0 where
     pub ends-at : run step s (stepsOf asks os) ≡ s′

@@ -1,4 +1,5 @@
--- A machine that takes one call after the other: its runs, the calls that are crossed out, and what is gathered of the others.
+-- A machine that takes one call after the other: its runs, the calls that are crossed out, and what is gathered of the
+-- others.
 use mathlib.Core.List.{List, [], _∷_}
 use mathlib.Core.Bool.{Bool, true, cond, _&&_}
 

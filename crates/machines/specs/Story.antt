@@ -1,4 +1,5 @@
--- A machine whose calls act key by key, and one key's story: the calls that concern the key, and what it sees and is answered as they come.
+-- A machine whose calls act key by key, and one key's story: the calls that concern the key, and what it sees and is
+-- answered as they come.
 use mathlib.Core.Path.{_≡_}
 use mathlib.Core.List.{List, [], _∷_}
 use mathlib.Core.Bool.{Bool, true, false, cond, _&&_, _||_}
@@ -31,7 +32,8 @@ module _ {S E A Vw : Type 0} (m : Machine S E A Vw) where
   abbrev pub story : (S → E → Bool) → ℕ → S → List E → List E
   story passes c s es = those (concernsKey c) (remaining (m .step) passes s es)
 
-  -- what is seen after a story; what is said along it to the calls that are asked for, and what is answered to the key's own
+  -- what is seen after a story; what is said along it to the calls that are asked for, and what is answered to the
+  -- key's own
   unfoldable pub viewAfter : Vw → List E → Vw
   viewAfter v [] = v
   viewAfter v (e ∷ es) = viewAfter (m .tell v e) es
@@ -43,7 +45,8 @@ module _ {S E A Vw : Type 0} (m : Machine S E A Vw) where
   abbrev pub answers : ℕ → Vw → List E → List A
   answers c = saidAlong (m .own c) (m .answer)
 
-  -- what one call does in a good state: one that passes acts on what is seen of the keys that it concerns, and one that does not pass on nothing
+  -- what one call does in a good state: one that passes acts on what is seen of the keys that it concerns, and one that
+  -- does not pass on nothing
   pub record ActsByKey (passes : S → E → Bool) (Good : S → Type 0) : Type 0 where
     pub stays : (s : S) (e : E) → Good s → Good (m .step s e)
     pub no-effect : (s : S) (e : E) → Good s → passes s e ≡ false → m .step s e ≡ s

@@ -1,5 +1,8 @@
 // The theorems about machines that take one call after the other: no code, only definitions and what is proved of them.
 //
-// specs/Machine: runs of any machine. specs/Story: a machine whose calls act key by key, and one key's story. specs/Happened: calls that happened, each as its contract allows. specs/Both: two machines side by side.
-// specs/Claims: what is claimed, and proofs/Claims its proof: proofs/Story, one key's story told alone; proofs/TwoRuns, the same for two runs, and calls in another order;
-// proofs/Happened, that calls that happened are a run; proofs/Both, that of two machines each goes as it would alone; proofs/Lists, laws of their lists.
+// specs/Machine: runs of any machine. specs/Story: a machine whose calls act key by key, and one key's story.
+// specs/Happened: calls that happened, each as its contract allows. specs/Both: two machines side by side.
+// specs/Claims: what is claimed, and proofs/Claims its proof: proofs/Story, one key's story told alone; proofs/TwoRuns,
+// the same for two runs, and calls in another order;
+// proofs/Happened, that calls that happened are a run; proofs/Both, that of two machines each goes as it would alone;
+// proofs/Lists, laws of their lists.

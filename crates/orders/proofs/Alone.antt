@@ -1,4 +1,5 @@
--- A table that hears one key alone has room for whatever the key was given room for among others: it holds no more than the key held there.
+-- A table that hears one key alone has room for whatever the key was given room for among others: it holds no more than
+-- the key held there.
 use mathlib.Core.Path.{_≡_, refl, sym, ap, _∙_, subst}
 use mathlib.Core.List.{List, []}
 use mathlib.Core.Bool.{Bool, true, false, cond, not, false≢true, or-false}
@@ -16,14 +17,14 @@ use Rattle.pushing.proofs.Ways.{Went, went, went-refuse, went-duplicate, went-k
 use Rattle.table.proofs.Sound.{Sound, fresh-sound}
 use Rattle.pushing.proofs.Sound.{sound}
 use Rattle.orders.specs.Runs.{State, Push, Call, push, sweep, pushed, finishedBy, refusedBy, part, wayOf, after, isAccepted, concerns, start, Holding, holding, holdsNothing}
-use Rattle.orders.specs.Messages.{countIn}
 use Rattle.table.proofs.Places.{all-same}
 use Rattle.orders.proofs.Rows.{isUsed, codeAt, firstAt}
 use Rattle.orders.proofs.Lookups.{row-none, row-is}
 use Rattle.orders.proofs.Holdings.{absent, present}
 use Rattle.orders.proofs.Telling.{acts, shape, passesBy, passes-is, ownWay}
 use Rattle.orders.proofs.Pushing.{Good, Full, no-place, no-row, Turn, as-told, full, turn, same-answer, way-shape}
-use Rattle.orders.proofs.Count.{count-all, count-less}
+use Rattle.searching.specs.Count.{howMany}
+use Rattle.searching.proofs.Count.{count-all, count-less}
 use Rattle.orders.proofs.Found.{owns, count-held}
 use Rattle.orders.proofs.Locality.{has-room, accepted-room, untouched, own-sweep}
 use Rattle.machines.specs.Story.{Echo}
@@ -65,8 +66,8 @@ module _ (long : ℕ) (c : ℕ) where
     never-full (no-place h) =
         let here = count-held (z .table) s (z .store) (rowOf (z .table) c) in
         let there = count-held (z′ .table) s′ (z′ .store) (rowOf (z′ .table) c) in
-        let equal : countIn (owns (z .table) (rowOf (z .table) c)) places ≡ countIn (owns (z′ .table) (rowOf (z′ .table) c)) places
-        = here ∙ ap (λ (v : Holding). countIn (λ k. isKept (v .fragments k)) 256) same ∙ sym there in
+        let equal : howMany (owns (z .table) (rowOf (z .table) c)) places ≡ howMany (owns (z′ .table) (rowOf (z′ .table) c)) places
+        = here ∙ ap (λ (v : Holding). howMany (λ k. isKept (v .fragments k)) 256) same ∙ sym there in
         let all = count-all (owns (z′ .table) (rowOf (z′ .table) c)) places (λ i l. eq-eqb _ _ (owned-all h i l)) in
         let open-place : placeAt (z .table) (lowestFree (z .table)) .owner ≡ 0 = eqb-true _ _ (lowest-holds (λ k. isFree (placeAt (z .table) k)) 32 free) in
         let less = count-less (owns (z .table) (rowOf (z .table) c)) places (lowestFree (z .table)) free (ne-eqb (placeAt (z .table) (lowestFree (z .table)) .owner) (ownerOf (rowOf (z .table) c)) (λ o. omega arith)) in

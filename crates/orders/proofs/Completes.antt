@@ -17,9 +17,9 @@ use Rattle.pushing.proofs.Ways.{Went, went, went-refuse, went-duplicate, went-k
 use Rattle.table.proofs.Sound.{Sound}
 use Rattle.pushing.proofs.Sound.{sound}
 use Rattle.machines.specs.Machine.{those, remaining, gathered, every}
-use Rattle.orders.specs.Runs.{State, Push, Call, push, sweep, Reply, pushed, finishedBy, part, wayOf, after, tells, isAccepted, hasRoom, isOwn, isSweep, concerns, start, Holding, holding, holdsNothing, ends, crossed}
+use Rattle.orders.specs.Runs.{State, Push, Call, push, sweep, Reply, pushed, finishedBy, part, wayOf, after, replyTo, isAccepted, hasRoom, isOwn, isSweep, concerns, start, Holding, holding, holdsNothing, ends, crossed}
 use Rattle.orders.specs.Shares.{isIn, distinct}
-use Rattle.orders.specs.Messages.{Message, heldAt, whole, Brings, Sent, sending, countIn, freeIn, Room, spares, completing}
+use Rattle.orders.specs.Messages.{Message, heldAt, whole, Brings, Sent, sending, freeIn, Room, spares, completing}
 use Rattle.orders.specs.Claims.{Completes, CompletesAmong}
 use Rattle.searching.proofs.Search.{lowest-before}
 use Rattle.table.proofs.Places.{put-elsewhere}
@@ -29,7 +29,9 @@ use Rattle.orders.proofs.Telling.{acts, shape, ownWay, sinceOr, byOwn, 
 use Rattle.orders.proofs.Pushing.{Good, Full, no-place, no-row, way-shape, room-unless}
 use Rattle.orders.proofs.Locality.{has-room, good-after, own-push, local-room, local-accepted}
 use Rattle.orders.proofs.Alone.{fresh-holds}
-use Rattle.orders.proofs.Count.{count-none, one-fewer, at-most}
+use Rattle.searching.specs.Count.{howMany}
+use Rattle.searching.proofs.Count.{count-none, one-fewer}
+use Rattle.orders.proofs.Count.{at-most}
 use Rattle.orders.proofs.Completion.{Has, waits, added, completes-as}
 use Rattle.machines.specs.Story.{story, viewAfter, saidAlong, answers, ActsByKey}
 use Rattle.machines.proofs.Story as Y
@@ -223,7 +225,7 @@ module _ (m : Message) (bring : ℕ → Push) (order : List ℕ) (sent : Sent m 
   has-none k = ap (λ (v : Holding). v .fragments k) absent-key
 
   among : (passes : State → Call → Bool) → ActsByKey (acts long) passes (Good long) → (run : List Call) → those (isOwn (m .key)) (remaining after passes z run) ≡ sending m bring order
-      → every after (spares (m .key)) z run ≡ true → (gathered after (λ s e. isOwn (m .key) e && passes s e) tells z run ≡ completing m order) × (holding (m .key) (ends z run) ≡ holdsNothing)
+      → every after (spares (m .key)) z run ≡ true → (gathered after (λ s e. isOwn (m .key) e && passes s e) replyTo z run ≡ completing m order) × (holding (m .key) (ends z run) ≡ holdsNothing)
   among passes L run these spared =
       let quiet = calm long (m .key) passes L run z g spared in
       let left : those (isOwn (m .key)) (told long (m .key) passes L z run) ≡ sending m bring order
@@ -243,11 +245,11 @@ module _ (m : Message) (bring : ℕ → Push) (order : List ℕ) (sent : Sent m 
       let roomy = finds-room m long enough bring (sent .brings) order none z g due-all has-none (omega (arith, has-place .free)) (λ l out spare. omega (arith, has-place .row (omega arith))) in
       let these = ap (those (isOwn (m .key))) (every-remains after hasRoom (sending m bring order) z roomy) ∙ all-own m long enough bring (sent .brings) order none due-all in
       let x = among hasRoom (local-room long) (sending m bring order) these (all-spare m long enough bring (sent .brings) order z) in
-      record { answers = sym (every-gathered after hasRoom (λ s e. isOwn (m .key) e) tells (sending m bring order) z roomy) ∙ x .0; holds = x .1 }
+      record { answers = sym (every-gathered after hasRoom (λ s e. isOwn (m .key) e) replyTo (sending m bring order) z roomy) ∙ x .0; holds = x .1 }
 
 -- a fresh table has room for every message
 fresh-room : (m : Message) → Room m freshTable
-unfolding countIn lowest
+unfolding howMany lowest
 fresh-room m = record { free = m .few; row = λ l. omega arith }
 
 pub fresh-completes : (m : Message) (bring : ℕ → Push) (order : List ℕ) → Sent m bring order → (store : List ℕ) → 47744 ≤ length store → Completes m bring order (start store)

@@ -1,4 +1,5 @@
--- What a push does to the store's length, to the holdings of other keys and to its own key's: the table's laws, for a store of which each push lends the first bytes.
+-- What a push does to the store's length, to the holdings of other keys and to its own key's: the table's laws, for a
+-- store of which each push lends the first bytes.
 use mathlib.Core.Path.{_≡_, refl, sym, ap, _∙_}
 use mathlib.Core.List.{List, _++_}
 use mathlib.Core.Bool.{Bool, true, false, cond}

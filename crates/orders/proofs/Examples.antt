@@ -1,4 +1,5 @@
--- Document 01, "Examples to check", the rows on the table: elapsed 2,999 stays, 3,000 goes; number 0 then last 1 completes; last 1 alone gives MissingFragments.
+-- Document 01, "Examples to check", the rows on the table: elapsed 2,999 stays, 3,000 goes; number 0 then last 1
+-- completes; last 1 alone gives MissingFragments.
 use mathlib.Core.Path.{_≡_, refl, sym, ap, _∙_}
 use mathlib.Core.List.{List, [], _∷_, _++_}
 use mathlib.Core.Bool.{Bool, true, false, cond, _||_, true≢false}
@@ -13,7 +14,7 @@ use Rattle.table.specs.Rows.{freshTable}
 use Rattle.pushing.specs.Joining.{Held, nothing, kept, Fragments, heldOf, isKept, unlike, inconsistentWith, andNew, inOrder, due}
 use Rattle.pushing.specs.Push.{Way, end, joinWay, waiting, missing, joined, answerBy}
 use Rattle.pushing.proofs.Sound.{sound}
-use Rattle.orders.specs.Runs.{State, Push, push, sweep, pushed, dropped, finishedBy, after, tells, hasRoom, start, Holding, holding, holdsNothing, repliesTo}
+use Rattle.orders.specs.Runs.{State, Push, push, sweep, pushed, dropped, finishedBy, after, replyTo, hasRoom, start, Holding, holding, holdsNothing, repliesTo}
 use Rattle.orders.specs.Shares.{share, total, isIn, distinct}
 use Rattle.orders.specs.Messages.{Message, Brings, Sent}
 use Rattle.orders.proofs.Telling.{ownWay, own-keep, own-last, byOwn, withNew, tell, answer}
@@ -74,7 +75,7 @@ module _ (store : List ℕ) (long : 47744 ≤ length store) (p : Push) (lent : 4
         (ap (λ (b : Bool). cond b (kept new) nothing) (ne-eqb 0 (p .arrival .fragment .number) (λ e. omega arith))) (omega arith)
         (ap (λ (b : Bool). isKept (cond b (kept new) nothing)) (eq-eqb 1 (p .arrival .fragment .number) (sym number))) (p .room)
 
-    pub last-one-alone : tells z (push p) ≡ pushed (gives missing) []
+    pub last-one-alone : replyTo z (push p) ≡ pushed (gives missing) []
     last-one-alone =
         let is : ownWay (length store) holdsNothing p ≡ end missing [] = own-last (length store) holdsNothing p enough small refl last ∙ misses-zero in
         own-reply (length store) z g p roomy
@@ -103,7 +104,7 @@ module _ (store : List ℕ) (long : 47744 ≤ length store) (p : Push) (lent : 4
         other e true q h = true≢false h
         other e false q h = eqb-false key k q (sym e)
 
-    counts-are : (time : ℕ) → tells waiting-state (sweep time) ≡ dropped (share time (withNew holdsNothing p))
+    counts-are : (time : ℕ) → replyTo waiting-state (sweep time) ≡ dropped (share time (withNew holdsNothing p))
     unfolding total distinct isIn
     counts-are time =
         ap dropped (counts-add-up waiting-state (sound (g′ .made)) time (key ∷ []) refl others-none
@@ -120,7 +121,7 @@ module _ (store : List ℕ) (long : 47744 ≤ length store) (p : Push) (lent : 4
     young : leb 3000 (p .arrival .time + 2999 - p .arrival .time) ≡ false
     young = lt-leb 3000 (p .arrival .time + 2999 - p .arrival .time) (omega arith)
 
-    pub stays-at-2999 : (tells waiting-state (sweep (p .arrival .time + 2999)) ≡ dropped 0) × (holding key (after waiting-state (sweep (p .arrival .time + 2999))) ≡ holding key waiting-state)
+    pub stays-at-2999 : (replyTo waiting-state (sweep (p .arrival .time + 2999)) ≡ dropped 0) × (holding key (after waiting-state (sweep (p .arrival .time + 2999))) ≡ holding key waiting-state)
     stays-at-2999 = (
       counts-are (p .arrival .time + 2999) ∙ ap dropped (share-is (p .arrival .time + 2999) false young),
       swept-to (p .arrival .time + 2999) false young ∙ sym holds-it,
@@ -130,7 +131,7 @@ module _ (store : List ℕ) (long : 47744 ≤ length store) (p : Push) (lent : 4
     old : leb 3000 (p .arrival .time + 3000 - p .arrival .time) ≡ true
     old = le-leb 3000 (p .arrival .time + 3000 - p .arrival .time) (omega arith)
 
-    pub goes-at-3000 : (tells waiting-state (sweep (p .arrival .time + 3000)) ≡ dropped 1) × (holding key (after waiting-state (sweep (p .arrival .time + 3000))) ≡ holdsNothing)
+    pub goes-at-3000 : (replyTo waiting-state (sweep (p .arrival .time + 3000)) ≡ dropped 1) × (holding key (after waiting-state (sweep (p .arrival .time + 3000))) ≡ holdsNothing)
     goes-at-3000 =
         (counts-are (p .arrival .time + 3000) ∙ ap dropped (share-is (p .arrival .time + 3000) true old), swept-to (p .arrival .time + 3000) true old)
 

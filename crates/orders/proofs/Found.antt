@@ -1,4 +1,5 @@
--- A row's fragments, found place by place: each place adds one number that was not there, so that the row has as many places as its key holds fragments.
+-- A row's fragments, found place by place: each place adds one number that was not there, so that the row has as many
+-- places as its key holds fragments.
 use mathlib.Core.Path.{_≡_, refl, sym, ap, _∙_, subst}
 use mathlib.Core.List.{List}
 use mathlib.Core.Bool.{Bool, true, false, cond}
@@ -11,9 +12,9 @@ use Rattle.table.specs.Rows.{places, ownerOf, placeAt, bytesAt}
 use Rattle.pushing.specs.Joining.{Held, heldAs, Kept, nothing, kept, Fragments, isKept, heldIn, andNew}
 use Rattle.pushing.proofs.Pieces.{kept-in}
 use Rattle.table.proofs.Sound.{Sound}
-use Rattle.orders.specs.Messages.{countIn}
 use Rattle.orders.proofs.Lookups.{held-cases}
-use Rattle.orders.proofs.Count.{count-yes, count-no, count-none, count-more}
+use Rattle.searching.specs.Count.{howMany}
+use Rattle.searching.proofs.Count.{one, count-next, count-none, count-more}
 
 abbrev pub owns : Table → (row place : ℕ) → Bool
 owns t row i = eqb (placeAt t i .owner) (ownerOf row)
@@ -90,11 +91,11 @@ module _ (t : Table) (s : Sound t) (store : List ℕ) (row : ℕ) where
     pub by-places : P places (heldIn t store row)
     by-places = subst (P places) (λ i k. found-all k i) (by-place places)
 
-  pub count-held : countIn (owns t row) places ≡ countIn (λ k. isKept (heldIn t store row k)) 256
-  count-held = by-places (λ (m : ℕ) (fs : Fragments). countIn (owns t row) m ≡ countIn (λ k. isKept (fs k)) 256)
+  pub count-held : howMany (owns t row) places ≡ howMany (λ k. isKept (heldIn t store row k)) 256
+  count-held = by-places (λ (m : ℕ) (fs : Fragments). howMany (owns t row) m ≡ howMany (λ k. isKept (fs k)) 256)
       (count-none (owns t row) 0 (λ k l. absurd (omega arith)) ∙ sym (count-none (λ k. false) 256 (λ k l. refl)))
-      (λ m fs o new e. count-yes (owns t row) m (eq-eqb _ _ o) ∙ ap (λ (n : ℕ). n + 1) e
+      (λ m fs o new e. count-next (owns t row) m ∙ ap (λ (b : Bool). howMany (owns t row) m + one b) (eq-eqb _ _ o) ∙ ap (λ (n : ℕ). n + 1) e
       ∙ sym (count-more (λ k. isKept (fs k)) (λ k. isKept (andNew fs (placeAt t m .number) (fragment m) k)) (placeAt t m .number)
       (λ k ne. sym (ap (λ (b : Bool). isKept (cond b (kept (fragment m)) (fs k))) (ne-eqb k (placeAt t m .number) ne))) 256 (s .byte m) (ap isKept new)
       (ap (λ (b : Bool). isKept (cond b (kept (fragment m)) (fs (placeAt t m .number)))) (eq-eqb (placeAt t m .number) (placeAt t m .number) refl))))
-      (λ m fs o e. count-no (owns t row) m (ne-eqb _ _ o) ∙ e)
+      (λ m fs o e. let not-one : one (owns t row m) ≡ 0 = ap one (ne-eqb _ _ o) in omega (arith, count-next (owns t row) m, not-one, e))

@@ -1,4 +1,5 @@
--- Calls that happened are a run of the table: what is claimed of runs holds for them, and with a station table beside it.
+-- Calls that happened are a run of the table: what is claimed of runs holds for them, and with a station table beside
+-- it.
 use mathlib.Core.Path.{_≡_, refl, sym, ap, _∙_, subst}
 use mathlib.Core.List.{List, [], _∷_, _++_, map}
 use mathlib.Core.Bool.{Bool, true, false, cond, _&&_, _||_, false≢true}
@@ -28,13 +29,13 @@ use Rattle.machines.specs.Both.{lefts, rights, BothHappened}
 use Rattle.machines.proofs.Lists.{left-true, right-true, those-both}
 use Rattle.machines.proofs.Happened as H
 use Rattle.machines.proofs.Both.{of-left, of-right}
-use Rattle.orders.specs.Runs.{State, Push, Call, push, sweep, pushed, dropped, finishedBy, part, wayOf, after, tells, isAccepted, hasRoom, isOwn, isSweep, mine, start, holding, ends, crossed, repliesTo}
-use Rattle.orders.specs.Happened.{TableAsked, push-asked, sweep-asked, TableGot, push-got, sweep-got, TableCall, PushMeets, tableMeets, tableContract, callOf, asksCall, callsOf, Got, from-push, from-sweep, gotFrom, gotBy, replyOf, wasAccepted, hadRoom, sameBytes, asksFrom, isFrom, isSweepCall, isAbout}
-use Rattle.orders.specs.Claims.{Reordered, IsRun, AskedReordered, NoneFull, SameGot, AskedAlone, GotAlone, MixedCall, ReorderedTogether, RoomTogether, SameTogether}
+use Rattle.orders.specs.Runs.{State, Push, Call, push, sweep, pushed, dropped, finishedBy, part, wayOf, after, replyTo, isAccepted, hasRoom, isOwn, isSweep, mine, start, holding, ends, crossed, repliesTo}
+use Rattle.orders.specs.Happened.{TableAsked, push-asked, sweep-asked, TableGot, push-got, sweep-got, TableCall, MixedCall, PushMeets, tableMeets, tableContract, callOf, asksCall, callsOf, CallerGot, from-push, from-sweep, gotFrom, gotBy, replyOf, wasAccepted, hadRoom, sameBytes, asksFrom, isFrom, isSweepCall, isAbout}
+use Rattle.orders.specs.Claims.{Reordered, IsRun, AskedReordered, NoneFull, SameGot, AskedAlone, GotAlone, ReorderedTogether, RoomTogether, SameTogether}
 use Rattle.orders.proofs.Orders.{run-made, told-alone, order-across-keys}
 
 -- no two answers are told alike
-one-got : (a b : Got) → replyOf a ≡ replyOf b → a ≡ b
+one-got : (a b : CallerGot) → replyOf a ≡ replyOf b → a ≡ b
 one-got (from-push p bytes) (from-push q bytes′) e =
     let same : p ≡ q = one-answer p q (cc) in
     let shows : bytes ≡ bytes′ = cc in
@@ -54,7 +55,7 @@ pub finished-shown : (z : State) (p : Push) (out : List ℕ) → shown (answerBy
 finished-shown z p out = shown-same (z .table) (part z p) (p .arrival) (p .payload) (p .room) out
 
 -- what a call that happened asked is a step of the run
-push-leads : (z z′ : State) (p : Push) (out out′ : List ℕ) (answer : Pushed) → PushMeets z p out answer out′ z′ → (after z (push p) ≡ z′) × (tells z (push p) ≡ pushed (pushedOf answer) (shown (pushedOf answer) (p .payload) out′))
+push-leads : (z z′ : State) (p : Push) (out out′ : List ℕ) (answer : Pushed) → PushMeets z p out answer out′ z′ → (after z (push p) ≡ z′) × (replyTo z (push p) ≡ pushed (pushedOf answer) (shown (pushedOf answer) (p .payload) out′))
 push-leads z z′ p out out′ answer m =
     let w = wayOf z p in
     let met : Goes w (z .table) (part z p) out (p .arrival) (p .payload) answer (z′ .table) (part z′ p) out′ = rw (m .long) at (m .goes) in
@@ -63,13 +64,13 @@ push-leads z z′ p out out′ answer m =
       (λ i. pushed (sym (met .answers) i) (sym bytes i)),
     )
 
-leads : (z : State) (a : TableAsked) (g : TableGot) (z′ : State) → tableMeets z a g z′ → Leads after tells z (asksCall a) (replyOf (gotFrom a g)) z′
+leads : (z : State) (a : TableAsked) (g : TableGot) (z′ : State) → tableMeets z a g z′ → Leads after replyTo z (asksCall a) (replyOf (gotFrom a g)) z′
 leads z (push-asked o p key out) (push-got answer out′) z′ m = push-leads z z′ p out out′ answer m
 leads z (sweep-asked time) (sweep-got many) z′ m = ((λ i. record { table = sym (m .0) i .table; store = sym (m .1) i }), ap (λ (r : Swept). dropped (r .dropped)) (sym (m .0)))
 leads z (push-asked o p key out) (sweep-got many) z′ m = absurd m
 leads z (sweep-asked time) (push-got answer out′) z′ m = absurd m
 
-tied : Tied tableContract after tells asksCall (λ c. replyOf (gotBy c))
+tied : Tied tableContract after replyTo asksCall (λ c. replyOf (gotBy c))
 tied c m = leads (c .was) (c .asked) (c .got) (c .became) m
 
 accepted : Tests tableContract asksCall isAccepted wasAccepted
@@ -168,17 +169,17 @@ reordered es fs same c = by-key (known c es) (known c fs)
 
 -- what is told of a key's own pushes
 module _ {z z′ : State} {cs : List TableCall} (h : Happened tableContract z cs z′) where
-  gathers : (test : State → Call → Bool) (passes : TableCall → Bool) → Tests tableContract asksCall test passes → gathered after test tells z (callsOf cs) ≡ map (λ c. replyOf (gotBy c)) (those passes cs)
-  gathers test passes agree = H.gathers tableContract after tells asksCall (λ c. replyOf (gotBy c)) tied test passes agree h
+  gathers : (test : State → Call → Bool) (passes : TableCall → Bool) → Tests tableContract asksCall test passes → gathered after test replyTo z (callsOf cs) ≡ map (λ c. replyOf (gotBy c)) (those passes cs)
+  gathers test passes agree = H.gathers tableContract after replyTo asksCall (λ c. replyOf (gotBy c)) tied test passes agree h
 
   own : (o : Origin) → repliesTo (keyFor o) z (callsOf cs) ≡ map (λ c. replyOf (gotBy c)) (those (isFrom o) cs)
   own o = gathers (λ s e. isOwn (keyFor o) e) (isFrom o) (λ c m. own-from o c)
 
   ends-at : ends z (callsOf cs) ≡ z′
-  ends-at = H.ends-at tableContract after tells asksCall (λ c. replyOf (gotBy c)) tied h
+  ends-at = H.ends-at tableContract after replyTo asksCall (λ c. replyOf (gotBy c)) tied h
 
   all-room : NoneFull cs → every after hasRoom z (callsOf cs) ≡ true
-  all-room = H.all-pass tableContract after tells asksCall (λ c. replyOf (gotBy c)) tied hasRoom hadRoom roomy h
+  all-room = H.all-pass tableContract after replyTo asksCall (λ c. replyOf (gotBy c)) tied hasRoom hadRoom roomy h
 
 asked : (c : TableCall) → tableContract c → asksCall (c .asked) ≡ asks-nothing → ⊥
 asked c m e = let no : _≡_ {A = ℕ} 0 1 = cc in omega arith
@@ -209,14 +210,14 @@ module _ (store : List ℕ) (cs : List TableCall) (z : State) (h : Happened tabl
     sender-alone o asks =
         let alone = told-alone store store′ long (keyFor o) (callsOf cs) in
         let hers : mine (keyFor o) (crossed (start store) (callsOf cs)) ≡ callsOf ds
-        = ap (mine (keyFor o)) (H.remains tableContract after tells asksCall (λ c. replyOf (gotBy c)) tied isAccepted wasAccepted accepted h) ∙ about o (those wasAccepted cs) ∙ sym asks in
+        = ap (mine (keyFor o)) (H.remains tableContract after replyTo asksCall (λ c. replyOf (gotBy c)) tied isAccepted wasAccepted accepted h) ∙ about o (those wasAccepted cs) ∙ sym asks in
         record {
           answers = all-got (those (isFrom o) (those wasAccepted cs)) (those (isFrom o) ds)
               (ap (map (λ c. replyOf (gotBy c))) (those-both (isFrom o) wasAccepted cs)
               ∙ sym (gathers h (λ s e. isOwn (keyFor o) e && isAccepted s e) (λ c. isFrom o c && wasAccepted c) (λ c m. rw (own-from o c, accepted c m)))
               ∙ alone .answers ∙ ap (repliesTo (keyFor o) (start store′)) hers ∙ own h′ o);
           holds = ap (holding (keyFor o)) (sym (ends-at h)) ∙ alone .holds ∙ ap (λ (calls : List Call). holding (keyFor o) (ends (start store′) calls)) hers ∙ ap (holding (keyFor o)) (ends-at h′);
-          none-refused = H.none-fails tableContract after tells asksCall (λ c. replyOf (gotBy c)) tied isAccepted wasAccepted accepted asked h′
+          none-refused = H.none-fails tableContract after replyTo asksCall (λ c. replyOf (gotBy c)) tied isAccepted wasAccepted accepted asked h′
               (subst (λ (calls : List Call). every after isAccepted (start store′) calls ≡ true) hers (alone .none-refused));
         }
 

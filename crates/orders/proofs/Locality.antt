@@ -1,4 +1,5 @@
--- The table as a machine whose calls act key by key: what a call does to a key's holding, and tells, is a function of that holding and the call, unless it is refused for room.
+-- The table as a machine whose calls act key by key: what a call does to a key's holding, and tells, is a function of
+-- that holding and the call, unless it is refused for room.
 use mathlib.Core.Path.{_≡_, refl, sym, ap, _∙_, subst}
 use mathlib.Core.List.{List}
 use mathlib.Core.Bool.{Bool, true, false, not, false≢true, true≢false, or-false}
@@ -12,7 +13,7 @@ use Rattle.pushing.specs.Made.{byFresh, byPush, bySweep}
 use Rattle.pushing.proofs.Ways.{went}
 use Rattle.table.proofs.Sound.{Sound}
 use Rattle.pushing.proofs.Sound.{sound}
-use Rattle.orders.specs.Runs.{State, Push, Call, push, sweep, Reply, pushed, dropped, finishedBy, part, wayOf, afterWay, after, tells, refusedBy, isAccepted, hasRoom, isOwn, isSweep, concerns, start, holding, forRoom}
+use Rattle.orders.specs.Runs.{State, Push, Call, push, sweep, Reply, pushed, dropped, finishedBy, part, wayOf, afterWay, after, replyTo, refusedBy, isAccepted, hasRoom, isOwn, isSweep, concerns, start, holding, forRoom}
 use Rattle.orders.proofs.Telling.{acts, passes-is, ownWay, byOwn, tell, answer}
 use Rattle.orders.proofs.Pushing.{Good, roomBy, same-answer, same-finished, way-shape}
 use Rattle.orders.proofs.Effects.{stored-long, others-same, own-same}
@@ -27,7 +28,7 @@ refused-same z p test bytes (keepAt i) h = absurd (false≢true h)
 refused-same z p test bytes (openAt i row) h = absurd (false≢true h)
 refused-same z p test bytes (end x message) h = absurd (false≢true h)
 
-pub refused-nothing : (test : ℕ → Bool) (z : State) (e : Call) → not (refusedBy test (tells z e)) ≡ false → after z e ≡ z
+pub refused-nothing : (test : ℕ → Bool) (z : State) (e : Call) → not (refusedBy test (replyTo z e)) ≡ false → after z e ≡ z
 refused-nothing test z (push p) h = refused-same z p test (finishedBy (wayOf z p) (p .payload)) (wayOf z p) (not-false _ h)
 refused-nothing test z (sweep time) h = absurd (true≢false h)
 
@@ -59,7 +60,7 @@ module _ (long : ℕ) (z : State) (g : Good long z) where
       own-same z p s (sound (good-after long z (push p) g .made))
       ∙ ap (λ (w : Way). byOwn w (holding (p .arrival .key) z) p) (way-shape long z p g (sym (has-room z p) ∙ h))
 
-  pub own-reply : (p : Push) → hasRoom z (push p) ≡ true → tells z (push p) ≡ answer long (holding (p .arrival .key) z) (push p)
+  pub own-reply : (p : Push) → hasRoom z (push p) ≡ true → replyTo z (push p) ≡ answer long (holding (p .arrival .key) z) (push p)
   own-reply p h =
       let w = wayOf z p in
       let is = way-shape long z p g (sym (has-room z p) ∙ h) in
@@ -71,7 +72,8 @@ module _ (long : ℕ) (z : State) (g : Good long z) where
   pub own-sweep : (c time : ℕ) → holding c (after z (sweep time)) ≡ tell long (holding c z) (sweep time)
   own-sweep c time = sweep-holding z s time c
 
--- so the table is a machine that acts key by key: for every test that lets the sweeps pass, lets no call pass that is refused for room, and stops no call but refused ones
+-- so the table is a machine that acts key by key: for every test that lets the sweeps pass, lets no call pass that is
+-- refused for room, and stops no call but refused ones
 module _ (long : ℕ) (passes : State → Call → Bool) (room : (z : State) (e : Call) → passes z e ≡ true → hasRoom z e ≡ true)
     (stops : (z : State) (e : Call) → passes z e ≡ false → after z e ≡ z) (sweeps : (z : State) (time : ℕ) → passes z (sweep time) ≡ true) where
   always : (z : State) (e : Call) → isSweep e ≡ true → passes z e ≡ true
@@ -88,8 +90,8 @@ module _ (long : ℕ) (passes : State → Call → Bool) (room : (z : State) (e 
   other c z (push p) g k = untouched long z g c p (λ q. eqb-false (p .arrival .key) c (sym (or-false (eqb (p .arrival .key) c)) ∙ k) (sym q))
   other c z (sweep time) g k = absurd (true≢false k)
 
-  said : (c : ℕ) (z : State) (e : Call) → Good long z → passes z e ≡ true → isOwn c e ≡ true → tells z e ≡ answer long (holding c z) e
-  said c z (push p) g h k = subst (λ (d : ℕ). tells z (push p) ≡ answer long (holding d z) (push p)) (eqb-true _ _ k) (own-reply long z g p (room z (push p) h))
+  said : (c : ℕ) (z : State) (e : Call) → Good long z → passes z e ≡ true → isOwn c e ≡ true → replyTo z e ≡ answer long (holding c z) e
+  said c z (push p) g h k = subst (λ (d : ℕ). replyTo z (push p) ≡ answer long (holding d z) (push p)) (eqb-true _ _ k) (own-reply long z g p (room z (push p) h))
   said c z (sweep time) g h k = absurd (false≢true k)
 
   pub local : ActsByKey (acts long) passes (Good long)
@@ -107,7 +109,7 @@ pub local-room : (long : ℕ) → ActsByKey (acts long) hasRoom (Good long)
 local-room long = local long hasRoom (λ z e h. h) (refused-nothing forRoom) (λ z time. refl)
 
 pub accepted-room : (z : State) (e : Call) → isAccepted z e ≡ true → hasRoom z e ≡ true
-accepted-room z e h = by-reply (tells z e) h
+accepted-room z e h = by-reply (replyTo z e) h
   where
     by-reply : (r : Reply) → not (refusedBy (λ n. true) r) ≡ true → not (refusedBy forRoom r) ≡ true
     by-reply (pushed (gives a) bytes) h = refl

@@ -12,7 +12,7 @@ use Rattle.pushing.specs.Made.{Made}
 use Rattle.pushing.proofs.Sound.{sound}
 use Rattle.machines.specs.Machine.{those, run, remaining}
 use Rattle.pushing.specs.Joining.{due}
-use Rattle.orders.specs.Runs.{State, Push, Call, push, sweep, dropped, after, tells, isAccepted, hasRoom, isOwn, isSweep, concerns, mine, start, Holding, holding, ends, neverFull, holdsNothing, crossed}
+use Rattle.orders.specs.Runs.{State, Push, Call, push, sweep, dropped, after, replyTo, isAccepted, hasRoom, isOwn, isSweep, concerns, mine, start, Holding, holding, ends, neverFull, holdsNothing, crossed}
 use Rattle.orders.specs.Shares.{share, total, isIn, distinct}
 use Rattle.orders.specs.Claims.{Local, Alike, ToldAlone, SharesAddUp, AddsUp, Reordered, SameStory}
 use Rattle.machines.proofs.Lists.{those-append, every-remains, every-gathered}
@@ -49,7 +49,7 @@ module _ (store store′ : List ℕ) (long : length store′ ≡ length store) w
       }
 
   -- the number of a sweep goes by what the keys hold
-  common-same : (z z′ : State) (e : Call) → Good n z → Good n z′ → isSweep e ≡ true → ((key : ℕ) → holding key z ≡ holding key z′) → tells z e ≡ tells z′ e
+  common-same : (z z′ : State) (e : Call) → Good n z → Good n z′ → isSweep e ≡ true → ((key : ℕ) → holding key z ≡ holding key z′) → replyTo z e ≡ replyTo z′ e
   common-same z z′ (push p) g g′ h same = absurd (false≢true h)
   common-same z z′ (sweep time) g g′ h same = ap dropped (counts-same z z′ (sound (g .made)) (sound (g′ .made)) time same)
 
@@ -60,9 +60,9 @@ module _ (store store′ : List ℕ) (long : length store′ ≡ length store) w
       = λ key. ap (mine key) (every-remains after hasRoom calls (start store) room) ∙ same key ∙ sym (ap (mine key) (every-remains after hasRoom calls′ (start store′) room′)) in
       record {
         pushes = λ key.
-            sym (every-gathered after hasRoom (λ s e. isOwn key e) tells calls (start store) room)
+            sym (every-gathered after hasRoom (λ s e. isOwn key e) replyTo calls (start store) room)
             ∙ R.alike-gathered (acts n) hasRoom (Good n) (local-room n) key calls calls′ (start store) (start store′) good good′ (fresh-same store store′ key) (stories key)
-            ∙ every-gathered after hasRoom (λ s e. isOwn key e) tells calls′ (start store′) room′;
+            ∙ every-gathered after hasRoom (λ s e. isOwn key e) replyTo calls′ (start store′) room′;
         sweeps = R.alike-common (acts n) hasRoom (Good n) (local-room n) common-same calls calls′ (start store) (start store′) good good′ (fresh-same store store′) stories;
         holds = λ key. R.alike-view (acts n) hasRoom (Good n) (local-room n) key calls calls′ (start store) (start store′) good good′ (fresh-same store store′ key) (stories key);
       }

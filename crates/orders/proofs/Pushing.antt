@@ -135,7 +135,8 @@ module _ (long : ℕ) (z : State) (p : Push) (g : Good long z) where
 pub own-room : (long : ℕ) (v : Holding) (p : Push) → roomBy (ownWay long v p) ≡ true
 own-room long v p = by-own-way long v p (λ (w : Way). roomBy w ≡ true) (λ n values e. rw e) refl (λ h bytes e. refl) (λ e. refl)
 
--- a push has room unless it is not marked last and the table is full for it: a full table takes a last fragment, single or not
+-- a push has room unless it is not marked last and the table is full for it: a full table takes a last fragment, single
+-- or not
 pub room-unless : (long : ℕ) (z : State) (p : Push) → Good long z → (p .arrival .fragment .last ≡ false → Full (z .table) (p .arrival .key) → ⊥) → roomBy (wayOf z p) ≡ true
 room-unless long z p g not-full = by-turn (turn long z p g)
   where

@@ -1,4 +1,5 @@
--- What one call makes of one key's holding, and what it tells: functions of the holding and the call alone, but for refusal 10.
+-- What one call makes of one key's holding, and what it tells: functions of the holding and the call alone, but for
+-- refusal 10.
 use mathlib.Core.Path.{_≡_, refl}
 use mathlib.Core.List.{List, [], _∷_}
 use mathlib.Core.Bool.{Bool, true, false, cond, not}
@@ -11,7 +12,7 @@ use Rattle.pushing.specs.Joining.{Since, never, since, isKept, heldOf, andNew, 
 use Rattle.pushing.specs.Push.{PushAnswer, waiting, duplicated, inconsistent, missing, missingLast, single, joined, Way, refuse, duplicate, keepAt, openAt, end, joinWay, answerBy}
 use Rattle.pushing.proofs.Ways.{by-ends}
 use Rattle.machines.specs.Story.{Machine}
-use Rattle.orders.specs.Runs.{State, Push, Call, push, sweep, Reply, pushed, dropped, finishedBy, refusedBy, Holding, holdsNothing, after, tells, forRoom, isOwn, isSweep, holding}
+use Rattle.orders.specs.Runs.{State, Push, Call, push, sweep, Reply, pushed, dropped, finishedBy, refusedBy, Holding, holdsNothing, after, replyTo, forRoom, isOwn, isSweep, holding}
 
 -- a way, but for the places and rows that it names
 abbrev pub shape : Way → Way
@@ -120,4 +121,4 @@ answer long v (sweep time) = dropped 0
 
 -- the table as a machine that acts key by key
 abbrev pub acts : ℕ → Machine State Call Reply Holding
-acts long = record { step = after; says = tells; view = holding; own = isOwn; common = isSweep; tell = tell long; answer = answer long }
+acts long = record { step = after; says = replyTo; view = holding; own = isOwn; common = isSweep; tell = tell long; answer = answer long }

@@ -1,4 +1,5 @@
--- What a key holds: a fragment that waits is held as it came; one that is held came with a push that waited; and over any calls a key that has a first time has a fragment.
+-- What a key holds: a fragment that waits is held as it came; one that is held came with a push that waited; and over
+-- any calls a key that has a first time has a fragment.
 use mathlib.Core.Path.{_≡_, refl, sym, ap, _∙_, subst}
 use mathlib.Core.List.{List, [], _∷_, _++_}
 use mathlib.Core.Bool.{Bool, true, false, cond, not, false≢true}
@@ -14,7 +15,7 @@ use Rattle.pushing.specs.Joining.{Held, nothing, kept, heldOf, due}
 use Rattle.pushing.specs.Push.{waiting, Way, keepAt, answerBy}
 use Rattle.pushing.specs.Made.{Made}
 use Rattle.machines.specs.Machine.{run}
-use Rattle.orders.specs.Runs.{State, Push, Call, push, sweep, Reply, pushed, finishedBy, refusedBy, after, tells, hasRoom, start, Holding, holding, holdsNothing, ends, forRoom}
+use Rattle.orders.specs.Runs.{State, Push, Call, push, sweep, Reply, pushed, finishedBy, refusedBy, after, replyTo, hasRoom, start, Holding, holding, holdsNothing, ends, forRoom}
 use Rattle.orders.specs.Claims.{HasOne, HeldFrom}
 use Rattle.orders.proofs.Telling.{isWaiting, ownWay, by-own-way, byOwn}
 use Rattle.orders.proofs.Pushing.{Good}
@@ -30,7 +31,7 @@ waits-kept long v p =
     (λ h bytes e q. absurd (false≢true (sym e ∙ ap isWaiting (given _ _ q))))
     (λ e q. rw (eq-eqb (p .arrival .fragment .number) (p .arrival .fragment .number) refl))
 
-pub kept-as-pushed : (z : State) → Made (z .table) → (p : Push) (bytes : List ℕ) → tells z (push p) ≡ pushed (gives waiting) bytes
+pub kept-as-pushed : (z : State) → Made (z .table) → (p : Push) (bytes : List ℕ) → replyTo z (push p) ≡ pushed (gives waiting) bytes
     → holding (p .arrival .key) (after z (push p)) .fragments (p .arrival .fragment .number) ≡ kept (heldOf (p .arrival .fragment) (p .payload))
 kept-as-pushed z made p bytes told =
     let g : Good (length (z .store)) z = record { made = made; same-long = refl } in
@@ -50,7 +51,7 @@ module _ (key number : ℕ) (fragment : Held) where
   data Came (z : State) (e : Call) : Type 0 where
     stayed : Holds z → Came z e
     came-with : (p : Push) → e ≡ push p → p .arrival .key ≡ key → p .arrival .fragment .number ≡ number → p .arrival .fragment .last ≡ false → heldOf (p .arrival .fragment) (p .payload) ≡ fragment
-        → tells z (push p) ≡ pushed (gives waiting) [] → Came z e
+        → replyTo z (push p) ≡ pushed (gives waiting) [] → Came z e
 
   module _ (long : ℕ) (z : State) (g : Good long z) where
     by-sweep : (time : ℕ) (b : Bool) → cond b holdsNothing (holding key z) .fragments number ≡ kept fragment → Came z (sweep time)

@@ -1,4 +1,5 @@
--- What is claimed of runs of the table, and of calls that happened: the record Claims at the end, which proofs/Claims.antt proves.
+-- What is claimed of runs of the table, and of calls that happened: the record Claims at the end, which
+-- proofs/Claims.antt proves.
 use mathlib.Core.Path.{_≡_}
 use mathlib.Core.List.{List, [], _∷_, _++_, map}
 use mathlib.Core.Bool.{true, false, not, cond}
@@ -15,29 +16,32 @@ use Rattle.pushing.specs.Made.{Made}
 use Rattle.keys.specs.Keys.{Origin, keyFor}
 use Rattle.machines.specs.Machine.{those, gathered, every}
 use Rattle.machines.specs.Happened.{Happened}
-use Rattle.machines.specs.Both.{Either, lefts, rights, BothHappened}
+use Rattle.machines.specs.Both.{lefts, rights, BothHappened}
 use Rattle.stations.specs.Rows.{Stations, freshStations}
-use Rattle.stations.specs.Runs.{StationCall, stationContract, eventsOf, NoneRefused}
+use Rattle.stations.specs.Runs.{stationContract, eventsOf, NoneRefused}
 use Rattle.stations.specs.Claims.{EventsReordered, SameStations}
 use Rattle.orders.specs.Shares.{share, total, isIn, distinct}
 use Rattle.orders.specs.Messages.{Message, Room, Sent, sending, spares, completing}
-use Rattle.orders.specs.Runs.{State, Push, Call, push, sweep, pushed, finishedBy, wayOf, isAccepted, isOwn, neverFull, hasRoom, after, tells, mine, start, holding, holdsNothing, ends, crossed, repliesTo, repliesToAccepted, repliesToSweeps}
-use Rattle.orders.specs.Happened.{TableCall, PushMeets, tableContract, callsOf, gotBy, replyOf, wasAccepted, hadRoom, isFrom, isSweepCall, isAbout}
+use Rattle.orders.specs.Runs.{State, Push, Call, push, sweep, pushed, finishedBy, wayOf, isAccepted, isOwn, neverFull, hasRoom, after, replyTo, mine, start, holding, holdsNothing, ends, crossed, repliesTo, repliesToAccepted, repliesToSweeps}
+use Rattle.orders.specs.Happened.{TableCall, MixedCall, PushMeets, tableContract, callsOf, gotBy, replyOf, wasAccepted, hadRoom, isFrom, isSweepCall, isAbout}
 
 -- What a key holds is untouched by every push under another key, refused or not; a refused call changes nothing.
 pub record Local (z : State) : Type 0 where
   pub untouched : (key : ℕ) (p : Push) → (key ≡ p .arrival .key → ⊥) → holding key (after z (push p)) ≡ holding key z
   pub refused : (e : Call) → isAccepted z e ≡ false → after z e ≡ z
 
--- What a push does to its own key, and tells, is a function of what the key holds and of the call, unless it is refused for room; what a sweep does to a key, of what the key holds and of the time:
+-- What a push does to its own key, and tells, is a function of what the key holds and of the call, unless it is refused
+-- for room; what a sweep does to a key, of what the key holds and of the time:
 -- two tables that hold the same under the key, whatever else they hold, do and tell the same.
 pub record Alike (z z′ : State) (key : ℕ) : Type 0 where
-  pub tells-same : (p : Push) → p .arrival .key ≡ key → hasRoom z (push p) ≡ true → hasRoom z′ (push p) ≡ true → tells z (push p) ≡ tells z′ (push p)
+  pub tells-same : (p : Push) → p .arrival .key ≡ key → hasRoom z (push p) ≡ true → hasRoom z′ (push p) ≡ true → replyTo z (push p) ≡ replyTo z′ (push p)
   pub push-same : (p : Push) → p .arrival .key ≡ key → hasRoom z (push p) ≡ true → hasRoom z′ (push p) ≡ true → holding key (after z (push p)) ≡ holding key (after z′ (push p))
   pub sweep-same : (time : ℕ) → holding key (after z (sweep time)) ≡ holding key (after z′ (sweep time))
 
--- Request 2026-09: "Take any calls from a fresh table and cross out those refused. For each key, the answers to its remaining pushes, its finished bytes, kept fragments and first time
--- shall be those of a fresh table given only that key's remaining pushes and all the sweeps, in the same order." What a store held before does not matter, so that the two may differ.
+-- Request 2026-09: "Take any calls from a fresh table and cross out those refused. For each key, the answers to its
+-- remaining pushes, its finished bytes, kept fragments and first time
+-- shall be those of a fresh table given only that key's remaining pushes and all the sweeps, in the same order." What a
+-- store held before does not matter, so that the two may differ.
 pub record ToldAlone (key : ℕ) (store store′ : List ℕ) (calls : List Call) : Type 0 where
   pub answers : repliesToAccepted key (start store) calls ≡ repliesTo key (start store′) (mine key (crossed (start store) calls))
   pub holds : holding key (ends (start store) calls) ≡ holding key (ends (start store′) (mine key (crossed (start store) calls)))
@@ -47,16 +51,19 @@ pub record ToldAlone (key : ℕ) (store store′ : List ℕ) (calls : List Call)
 abbrev pub SharesAddUp : (z : State) (time : ℕ) (keys : List ℕ) → Type 0
 SharesAddUp z time keys = swept (z .table) time .dropped ≡ total (λ key. share time (holding key z)) keys
 
--- "Sweep counts add up over the keys that were ever pushed": those of each key's own story, for any list that has each such key once
+-- "Sweep counts add up over the keys that were ever pushed": those of each key's own story, for any list that has each
+-- such key once
 abbrev pub AddsUp : (store : List ℕ) (calls : List Call) (time : ℕ) (keys : List ℕ) → Type 0
 AddsUp store calls time keys =
     swept (ends (start store) calls .table) time .dropped ≡ total (λ key. swept (ends (start store) (mine key (crossed (start store) calls)) .table) time .dropped) keys
 
--- Document 02, 2026-06: "over any calls from a fresh table every key dropped by a sweep has a fragment and none marked last"
+-- Document 02, 2026-06: "over any calls from a fresh table every key dropped by a sweep has a fragment and none marked
+-- last"
 abbrev pub HasOne : Fragments → Type 0
 HasOne fs = (number : ℕ) × (number < 256) × (isKept (fs number) ≡ true)
 
--- A fragment that a key holds after some calls is that of a push among them, under the key and the number, which was not marked last and was answered "waiting"; and from that push on the key holds it.
+-- A fragment that a key holds after some calls is that of a push among them, under the key and the number, which was
+-- not marked last and was answered "waiting"; and from that push on the key holds it.
 pub record HeldFrom (z : State) (calls : List Call) (key number : ℕ) (fragment : Held) : Type 0 where
   pub before : List Call
   pub by : Push
@@ -66,21 +73,24 @@ pub record HeldFrom (z : State) (calls : List Call) (key number : ℕ) (fragment
   pub under-number : by .arrival .fragment .number ≡ number
   pub unmarked : by .arrival .fragment .last ≡ false
   pub is : heldOf (by .arrival .fragment) (by .payload) ≡ fragment
-  pub waited : tells (ends z before) (push by) ≡ pushed (gives waiting) []
+  pub waited : replyTo (ends z before) (push by) ≡ pushed (gives waiting) []
   pub ever-since : (soon rest : List Call) → later ≡ soon ++ rest → holding key (ends z (before ++ (push by ∷ soon))) .fragments number ≡ kept fragment
 
--- Demand 3: "the same pushes and sweeps, times and lent lengths, where calls under different keys may be reordered, those under one key and the sweeps keep their order, and every push stays on its side of every sweep":
+-- Demand 3: "the same pushes and sweeps, times and lent lengths, where calls under different keys may be reordered,
+-- those under one key and the sweeps keep their order, and every push stays on its side of every sweep":
 -- for each key, its pushes with all the sweeps between them are the same list in both
 abbrev pub Reordered : List Call → List Call → Type 0
 Reordered calls calls′ = (key : ℕ) → mine key calls ≡ mine key calls′
 
--- "each call gets the same answer and, as it returns, the same finished bytes, and both tables end with the same fragments and first times per key"
+-- "each call gets the same answer and, as it returns, the same finished bytes, and both tables end with the same
+-- fragments and first times per key"
 pub record SameStory (store store′ : List ℕ) (calls calls′ : List Call) : Type 0 where
   pub pushes : (key : ℕ) → repliesTo key (start store) calls ≡ repliesTo key (start store′) calls′
   pub sweeps : repliesToSweeps (start store) calls ≡ repliesToSweeps (start store′) calls′
   pub holds : (key : ℕ) → holding key (ends (start store) calls) ≡ holding key (ends (start store′) calls′)
 
--- "a message cut into fragments 0 to n-1, pushed in any order that ends with the last one, with room, completes with the message": all others wait, and the key is dropped
+-- "a message cut into fragments 0 to n-1, pushed in any order that ends with the last one, with room, completes with
+-- the message": all others wait, and the key is dropped
 pub record Completes (m : Message) (bring : ℕ → Push) (order : List ℕ) (z : State) : Type 0 where
   pub answers : repliesTo (m .key) z (sending m bring order) ≡ completing m order
   pub holds : holding (m .key) (ends z (sending m bring order)) ≡ holdsNothing
@@ -90,9 +100,10 @@ pub record CompletesAmong (m : Message) (order : List ℕ) (z : State) (run : Li
   pub answers : repliesToAccepted (m .key) z run ≡ completing m order
   pub holds : holding (m .key) (ends z run) ≡ holdsNothing
 
--- Calls that happened are a run: what is told of each is what its caller got, and the table at their end is the run's, and one that push asks for.
+-- Calls that happened are a run: what is told of each is what its caller got, and the table at their end is the run's,
+-- and one that push asks for.
 pub record IsRun (store : List ℕ) (calls : List TableCall) (z : State) : Type 0 where
-  pub replies : gathered after (λ s e. true) tells (start store) (callsOf calls) ≡ map (λ c. replyOf (gotBy c)) calls
+  pub replies : gathered after (λ s e. true) replyTo (start store) (callsOf calls) ≡ map (λ c. replyOf (gotBy c)) calls
   pub end : ends (start store) (callsOf calls) ≡ z
   pub made : Made (z .table)
 
@@ -103,13 +114,15 @@ AskedReordered calls calls′ = (o : Origin) → callsOf (those (isAbout o) call
 abbrev pub NoneFull : List TableCall → Type 0
 NoneFull calls = those (λ c. not (hadRoom c)) calls ≡ []
 
--- and its callers got the same: the call's own answers, the bytes that show shows, the numbers of sweeps; and the tables hold the same
+-- and its callers got the same: the call's own answers, the bytes that show shows, the numbers of sweeps; and the
+-- tables hold the same
 pub record SameGot (calls calls′ : List TableCall) (z z′ : State) : Type 0 where
   pub pushes : (o : Origin) → map gotBy (those (isFrom o) calls) ≡ map gotBy (those (isFrom o) calls′)
   pub sweeps : map gotBy (those isSweepCall calls) ≡ map gotBy (those isSweepCall calls′)
   pub holds : (o : Origin) → holding (keyFor o) z ≡ holding (keyFor o) z′
 
--- Request 2026-09 for them: the second calls ask for one sender's message what was not refused in the first, and the sweeps
+-- Request 2026-09 for them: the second calls ask for one sender's message what was not refused in the first, and the
+-- sweeps
 abbrev pub AskedAlone : Origin → List TableCall → List TableCall → Type 0
 AskedAlone o calls calls′ = callsOf calls′ ≡ callsOf (those (isAbout o) (those wasAccepted calls))
 
@@ -118,11 +131,9 @@ pub record GotAlone (o : Origin) (calls calls′ : List TableCall) (z z′ : Sta
   pub holds : holding (keyFor o) z ≡ holding (keyFor o) z′
   pub none-refused : those (λ c. not (wasAccepted c)) calls′ ≡ []
 
--- Request 2026-02: "From here demand 3 also covers events of different stations, if no event is refused: those of one station keep their order". A fragment table and a station table stand
+-- Request 2026-02: "From here demand 3 also covers events of different stations, if no event is refused: those of one
+-- station keep their order". A fragment table and a station table stand
 -- side by side; events come between pushes and sweeps wherever they like.
-abbrev pub MixedCall : Type 0
-MixedCall = Either TableCall StationCall
-
 pub record ReorderedTogether (calls calls′ : List MixedCall) : Type 0 where
   pub messages : AskedReordered (lefts calls) (lefts calls′)
   pub events : EventsReordered (eventsOf (rights calls)) (eventsOf (rights calls′))
@@ -163,10 +174,12 @@ pub record Claims : Type 0 where
   pub order-together : (store : List ℕ) (calls : List MixedCall) (z : State × Stations) → BothHappened tableContract stationContract (start store, freshStations) calls z
       → (store′ : List ℕ) (calls′ : List MixedCall) (z′ : State × Stations) → BothHappened tableContract stationContract (start store′, freshStations) calls′ z′
       → length store′ ≡ length store → ReorderedTogether calls calls′ → RoomTogether calls → RoomTogether calls′ → SameTogether calls calls′ z z′
-  -- document 02, 2026-05: "From now on a duplicate leaves the kept fragment untouched": what its caller lent comes back as it was
+  -- document 02, 2026-05: "From now on a duplicate leaves the kept fragment untouched": what its caller lent comes back
+  -- as it was
   pub duplicate-untouched : (z z′ : State) (p : Push) (out out′ : List ℕ) → PushMeets z p out DuplicatedFragment out′ z′ → (z′ ≡ z) × (out′ ≡ out)
-  -- "A fragment is its version, type, number, last mark and payload": one that waits is held as it came, its mark included
-  pub kept-as-pushed : (z : State) → Made (z .table) → (p : Push) (bytes : List ℕ) → tells z (push p) ≡ pushed (gives waiting) bytes
+  -- "A fragment is its version, type, number, last mark and payload": one that waits is held as it came, its mark
+  -- included
+  pub kept-as-pushed : (z : State) → Made (z .table) → (p : Push) (bytes : List ℕ) → replyTo z (push p) ≡ pushed (gives waiting) bytes
       → holding (p .arrival .key) (after z (push p)) .fragments (p .arrival .fragment .number) ≡ kept (heldOf (p .arrival .fragment) (p .payload))
   -- document 02, 2026-06: what a sweep does to each key's holding, and what the keys hold that it drops
   pub sweep-drops : (z : State) → Made (z .table) → (time key : ℕ) → holding key (after z (sweep time)) ≡ cond (due time (holding key z .first)) holdsNothing (holding key z)
@@ -177,6 +190,7 @@ pub record Claims : Type 0 where
       → Room m (z .table) → Completes m bring order z
   pub fresh-completes : (m : Message) (bring : ℕ → Push) (order : List ℕ) → Sent m bring order → (store : List ℕ) → storeSize ≤ length store → Completes m bring order (start store)
   pub fresh-holds : (store : List ℕ) (key : ℕ) → holding key (start store) ≡ holdsNothing
-  -- and among any calls, where the pushes under the key that were not refused are these, and each sweep spares the key: one before the first of them or after the last does, as the key holds nothing then
+  -- and among any calls, where the pushes under the key that were not refused are these, and each sweep spares the key:
+  -- one before the first of them or after the last does, as the key holds nothing then
   pub completes-among : (m : Message) (bring : ℕ → Push) (order : List ℕ) → Sent m bring order → (z : State) → Made (z .table) → storeSize ≤ length (z .store) → holding (m .key) z ≡ holdsNothing
       → (run : List Call) → those (isOwn (m .key)) (crossed z run) ≡ sending m bring order → every after (spares (m .key)) z run ≡ true → CompletesAmong m order z run

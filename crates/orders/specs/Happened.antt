@@ -6,6 +6,8 @@ use Prim.Native.Nat.{ℕ}
 use lib.Dec.{eqb}
 use lib.ListN.{length, drop}
 use Rattle.machines.specs.Happened.{Outcome, Asks, asks-for, stepsOf}
+use Rattle.machines.specs.Both.{Either}
+use Rattle.stations.specs.Runs.{StationCall}
 use Rattle.pushing.specs.declared.Pushed.{Pushed}
 use Rattle.pushing.specs.Push.{pushedOf, way, Goes}
 use Rattle.pushing.specs.Show.{shown}
@@ -13,7 +15,8 @@ use Rattle.sweeping.specs.Sweep.{swept, sweptAs}
 use Rattle.keys.specs.Keys.{Origin, keyFor}
 use Rattle.orders.specs.Runs.{State, Push, Call, push, sweep, Reply, pushed, dropped, part, refusedBy, forRoom, isSweep}
 
--- what is asked: a push under the key that key_of makes, with the output as it is lent, or a sweep at a time; and what comes back: the answer of a push and the output, or the number of a sweep
+-- what is asked: a push under the key that key_of makes, with the output as it is lent, or a sweep at a time; and what
+-- comes back: the answer of a push and the output, or the number of a sweep
 pub data TableAsked : Type 0 where
   push-asked : (o : Origin) (p : Push) → p .arrival .key ≡ keyFor o → (out : List ℕ) → TableAsked
   sweep-asked : ℕ → TableAsked
@@ -24,6 +27,10 @@ pub data TableGot : Type 0 where
 
 abbrev pub TableCall : Type 0
 TableCall = Outcome State TableAsked TableGot
+
+-- one of them, or an event of a station table that stands beside
+abbrev pub MixedCall : Type 0
+MixedCall = Either TableCall StationCall
 
 -- the contract of push, which is lent the first bytes of the store: the rest of them stays
 pub record PushMeets (z : State) (p : Push) (out : List ℕ) (answer : Pushed) (out′ : List ℕ) (z′ : State) : Type 0 where
@@ -52,20 +59,20 @@ abbrev pub callsOf : List TableCall → List Call
 callsOf = stepsOf asksCall
 
 -- what the caller got: the answer of a push and the bytes that show shows then, or the number of a sweep
-pub data Got : Type 0 where
-  from-push : Pushed → List ℕ → Got
-  from-sweep : ℕ → Got
+pub data CallerGot : Type 0 where
+  from-push : Pushed → List ℕ → CallerGot
+  from-sweep : ℕ → CallerGot
 
-abbrev pub gotFrom : TableAsked → TableGot → Got
+abbrev pub gotFrom : TableAsked → TableGot → CallerGot
 gotFrom (push-asked o p key out) (push-got answer out′) = from-push answer (shown (pushedOf answer) (p .payload) out′)
 gotFrom (sweep-asked time) (push-got answer out′) = from-push answer []
 gotFrom a (sweep-got many) = from-sweep many
 
-abbrev pub gotBy : TableCall → Got
+abbrev pub gotBy : TableCall → CallerGot
 gotBy c = gotFrom (c .asked) (c .got)
 
 -- the same in a run's words; and whether it is no refusal, or none for table room
-abbrev pub replyOf : Got → Reply
+abbrev pub replyOf : CallerGot → Reply
 replyOf (from-push answer bytes) = pushed (pushedOf answer) bytes
 replyOf (from-sweep many) = dropped many
 

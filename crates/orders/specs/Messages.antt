@@ -2,10 +2,11 @@
 use mathlib.Core.Path.{_≡_}
 use mathlib.Core.List.{List, [], _∷_, _++_, map}
 use mathlib.Core.Bool.{Bool, true, cond, not}
-use Prim.Native.Nat.{ℕ, zero, suc, _+_, _≤_, _<_}
+use Prim.Native.Nat.{ℕ, suc, _+_, _≤_, _<_}
 use lib.Dec.{eqb, ltb}
 use lib.ListN.{length}
 use Rattle.numbers.specs.Numbers.{gives}
+use Rattle.searching.specs.Count.{howMany}
 use Rattle.table.specs.declared.Table.{Table}
 use Rattle.table.specs.Rows.{keys, places, placeSize, storeSize, placeAt, isFree, spareRow}
 use Rattle.pushing.specs.Joining.{Held, heldOf, inOrder, due}
@@ -38,7 +39,8 @@ pub record Brings (m : Message) (k : ℕ) (p : Push) : Type 0 where
   pub fragment : heldOf (p .arrival .fragment) (p .payload) ≡ heldAt m k
   pub lent : storeSize ≤ p .lent
 
--- "in any order that ends with the last one, with room": pushes that bring each number below the final one once and then the final one, whose output has room for the whole
+-- "in any order that ends with the last one, with room": pushes that bring each number below the final one once and
+-- then the final one, whose output has room for the whole
 pub record Sent (m : Message) (bring : ℕ → Push) (order : List ℕ) : Type 0 where
   pub brings : (k : ℕ) → k ≤ m .final → Brings m k (bring k)
   pub once : distinct order ≡ true
@@ -48,13 +50,9 @@ pub record Sent (m : Message) (bring : ℕ → Push) (order : List ℕ) : Type 0
 abbrev pub sending : Message → (ℕ → Push) → List ℕ → List Call
 sending m bring order = map (λ k. push (bring k)) order ++ (push (bring (m .final)) ∷ [])
 
--- how many of the numbers below n pass a test, and how many places are free
-unfoldable pub countIn : (ℕ → Bool) → ℕ → ℕ
-countIn test zero = 0
-countIn test (suc n) = cond (test n) (countIn test n + 1) (countIn test n)
-
+-- how many places are free
 abbrev pub freeIn : Table → ℕ
-freeIn t = countIn (λ i. isFree (placeAt t i)) places
+freeIn t = howMany (λ i. isFree (placeAt t i)) places
 
 -- a place for each fragment but the last, which needs none, and a row for the key
 pub record Room (m : Message) (t : Table) : Type 0 where
@@ -66,7 +64,8 @@ abbrev pub spares : ℕ → State → Call → Bool
 spares key z (push p) = true
 spares key z (sweep time) = not (due time (holding key z .first))
 
--- all wait, and the last completes: "A single fragment's message is shown as the caller's payload, any other as the first bytes of the output buffer"
+-- all wait, and the last completes: "A single fragment's message is shown as the caller's payload, any other as the
+-- first bytes of the output buffer"
 abbrev pub completed : Message → PushAnswer
 completed m = cond (eqb (m .final) 0) (single (length (whole m))) (joined (length (whole m)))
 

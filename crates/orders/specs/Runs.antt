@@ -37,7 +37,8 @@ pub data Reply : Type 0 where
   pushed : Answer PushAnswer → List ℕ → Reply
   dropped : ℕ → Reply
 
--- the finished bytes: what the showing call shows of the payload and of an output, whatever it held (see `finished-shown`): here, of an empty one
+-- the finished bytes: what the showing call shows of the payload and of an output, whatever it held (see
+-- `finished-shown`): here, of an empty one
 abbrev pub finishedBy : Way → List ℕ → List ℕ
 finishedBy w payload = shown (answerBy w) payload (outputBy w [])
 
@@ -56,9 +57,9 @@ abbrev pub after : State → Call → State
 after s (push p) = afterWay (wayOf s p) s p
 after s (sweep time) = record { table = swept (s .table) time .table; store = s .store }
 
-abbrev pub tells : State → Call → Reply
-tells s (push p) = pushed (answerBy (wayOf s p)) (finishedBy (wayOf s p) (p .payload))
-tells s (sweep time) = dropped (swept (s .table) time .dropped)
+abbrev pub replyTo : State → Call → Reply
+replyTo s (push p) = pushed (answerBy (wayOf s p)) (finishedBy (wayOf s p) (p .payload))
+replyTo s (sweep time) = dropped (swept (s .table) time .dropped)
 
 -- a call is refused by some number, or for table room
 abbrev pub refusedBy : (ℕ → Bool) → Reply → Bool
@@ -67,13 +68,13 @@ refusedBy test (pushed (refuses n values) bytes) = test n
 refusedBy test (dropped n) = false
 
 abbrev pub isAccepted : State → Call → Bool
-isAccepted s e = not (refusedBy (λ n. true) (tells s e))
+isAccepted s e = not (refusedBy (λ n. true) (replyTo s e))
 
 abbrev pub forRoom : ℕ → Bool
 forRoom n = eqb n 10
 
 abbrev pub hasRoom : State → Call → Bool
-hasRoom s e = not (refusedBy forRoom (tells s e))
+hasRoom s e = not (refusedBy forRoom (replyTo s e))
 
 -- the calls that concern a key: its own pushes, and every sweep
 abbrev pub isOwn : ℕ → Call → Bool
@@ -114,13 +115,13 @@ crossed = remaining after isAccepted
 
 -- what is told of a key's own pushes, of those not refused, and of the sweeps
 abbrev pub repliesTo : ℕ → State → List Call → List Reply
-repliesTo key = gathered after (λ s e. isOwn key e) tells
+repliesTo key = gathered after (λ s e. isOwn key e) replyTo
 
 abbrev pub repliesToAccepted : ℕ → State → List Call → List Reply
-repliesToAccepted key = gathered after (λ s e. isOwn key e && isAccepted s e) tells
+repliesToAccepted key = gathered after (λ s e. isOwn key e && isAccepted s e) replyTo
 
 abbrev pub repliesToSweeps : State → List Call → List Reply
-repliesToSweeps = gathered after (λ s e. isSweep e) tells
+repliesToSweeps = gathered after (λ s e. isSweep e) replyTo
 
 -- no call of a run is refused for table room
 abbrev pub neverFull : State → List Call → Bool

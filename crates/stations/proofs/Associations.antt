@@ -27,9 +27,9 @@ module _ (s : List ℕ) where
     is-association item n g = reads-association (record { value = item; consumed = n }) (by-code ∙ ap gotOf g)
 
     abbrev taken : Answer RecordRead → Answer AssociationRead
-    taken x = andThen x (λ y. mapped (λ a. record { association = a; consumed = y .consumed }) (associationOf (y .value)))
+    taken x = andThen x (λ y. mapped (λ a. record { client = a; consumed = y .consumed }) (associationOf (y .value)))
 
-    pub got : (item : Record) (a : ClientAssociation) (n : ℕ) → r ≡ Read.Got item n → item ≡ Record.ClientAssociation a → gives (record { association = a; consumed = n }) ≡ associationRead s
+    pub got : (item : Record) (a : ClientAssociation) (n : ℕ) → r ≡ Read.Got item n → item ≡ Record.ClientAssociation a → gives (record { client = a; consumed = n }) ≡ associationRead s
     got item a n g i = sym (ap taken (by-code ∙ ap gotOf g ∙ ap (λ (v : Record). gives (record { value = v; consumed = n })) i))
 
     pub refused : (f : Refusal) → r ≡ Read.Refused f → told f ≡ associationRead s

@@ -56,7 +56,7 @@ value-refused t value h = by-read (associationRead value) h
     by-answer e n (refuses m vs) q h = why-refused t e (ap isGiven q) .unaltered
 
     by-read : (x : Answer AssociationRead) → isGiven (answerToRead t x) ≡ false → tableAfterRead t x ≡ t
-    by-read (gives x) h = by-answer (eventOf (x .association)) (x .consumed) (answerTo t (eventOf (x .association))) refl h
+    by-read (gives x) h = by-answer (eventOf (x .client)) (x .consumed) (answerTo t (eventOf (x .client))) refl h
     by-read (refuses n vs) h = refl
 
 event-in-value : (t : Stations) (value : List ℕ) → tableFrom t value ≡ run tableAfter t (andSteps (eventBy (of-value value)) [])

@@ -13,7 +13,7 @@ use Rattle.stations.specs.Whereabouts.{Whereabouts, nowhere, at, Event, 
 use Rattle.stations.specs.Rows.{Stations, freshStations, pointAt, rowWith, withRow, whereOf, answerTo, tableAfter}
 use Rattle.stations.specs.Runs.{takesEvent}
 use Rattle.stations.proofs.Ways.{known-place, unknown-place, known, new, full, removed, late, not-held}
-use Rattle.stations.proofs.Written.{Kept, has-code, no-code, row-written, point-written, stays, goes, gone, keeps}
+use Rattle.stations.proofs.Written.{Kept, has-mark, no-mark, row-written, point-written, stays, goes, gone, keeps}
 
 -- a table after which the station is at a place, and all others are where they were
 record Effect (t t′ : Stations) (station : ℕ) (became : Whereabouts) : Type 0 where
@@ -26,12 +26,12 @@ module _ (t : Stations) (k : Kept t) (station : ℕ) where
   row = rowWith t (station + 1)
 
   only-row : row < 128 → (i : ℕ) → i < 128 → (i ≡ row → ⊥) → getD t i 0 ≡ station + 1 → ⊥
-  only-row h i l ne e = ne (k .once i row l h (e ∙ sym (has-code t (station + 1) h)) (λ z. absurd (omega arith)))
+  only-row h i l ne e = ne (k .once i row l h (e ∙ sym (has-mark t (station + 1) h)) (λ z. absurd (omega arith)))
 
   known-effect : (point : ℕ) → row < 128 → Effect t (set t (128 + row) point) station (at point)
   known-effect point h =
       let w = point-written t row point (k .long) h in
-      let is = has-code t (station + 1) h in
+      let is = has-mark t (station + 1) h in
       record {
         kept = keeps t _ row _ point w k (λ ne i l other e. only-row h i l other (e ∙ is)) (λ z. absurd (omega (arith, is)));
         own = goes t _ row _ point w station is (only-row h);
@@ -41,17 +41,17 @@ module _ (t : Stations) (k : Kept t) (station : ℕ) where
   new-effect : (point : ℕ) → 128 ≤ row → rowWith t 0 < 128 → Effect t (withRow t (rowWith t 0) (station + 1) point) station (at point)
   new-effect point none h =
       let w = row-written t (rowWith t 0) (station + 1) point (k .long) h in
-      let free = has-code t 0 h in
+      let free = has-mark t 0 h in
       record {
-        kept = keeps t _ (rowWith t 0) (station + 1) point w k (λ ne i l other e. no-code t (station + 1) none i l e) (λ z. absurd (omega arith));
-        own = goes t _ (rowWith t 0) (station + 1) point w station refl (λ i l other e. no-code t (station + 1) none i l e);
+        kept = keeps t _ (rowWith t 0) (station + 1) point w k (λ ne i l other e. no-mark t (station + 1) none i l e) (λ z. absurd (omega arith));
+        own = goes t _ (rowWith t 0) (station + 1) point w station refl (λ i l other e. no-mark t (station + 1) none i l e);
         others = λ s ne. stays t _ (rowWith t 0) (station + 1) point w s (λ q. absurd (omega (arith, free))) (λ q. ne (omega arith));
       }
 
   freed-effect : row < 128 → Effect t (withRow t row 0 0) station nowhere
   freed-effect h =
       let w = row-written t row 0 0 (k .long) h in
-      let is = has-code t (station + 1) h in
+      let is = has-mark t (station + 1) h in
       record {
         kept = keeps t _ row 0 0 w k (λ ne. absurd (ne refl)) (λ z. refl);
         own = gone t _ row 0 0 w station (λ q. absurd (omega arith)) (only-row h);

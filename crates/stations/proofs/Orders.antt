@@ -1,4 +1,5 @@
--- The table is a machine whose events act station by station: so each station's own events say where it is and what they were answered. Calls that happened are a run of it.
+-- The table is a machine whose events act station by station: so each station's own events say where it is and what
+-- they were answered. Calls that happened are a run of it.
 use mathlib.Core.Path.{_≡_, refl, sym, ap, _∙_, subst}
 use mathlib.Core.Bool.{Bool, true, false, _||_, false≢true, or-false}
 use mathlib.Core.List.{List, [], _∷_, _++_, map}
@@ -61,7 +62,7 @@ step-by t (of-value value) (from-value r) t′ m = by-read (associationRead valu
   where
     by-read : (x : Answer AssociationRead) → appliedOf r ≡ answerToRead t x → t′ ≡ tableAfterRead t x → Step t (eventRead x) (mapped (λ (y : Taken). y .heard) (appliedOf r)) t′
     by-read (gives x) p q =
-        let same : answerTo t (eventOf (x .association)) ≡ mapped (λ (y : Taken). y .heard) (appliedOf r) = sym (taken-heard (x .consumed) (answerTo t (eventOf (x .association)))) ∙ ap (mapped (λ (y : Taken). y .heard)) (sym p) in
+        let same : answerTo t (eventOf (x .client)) ≡ mapped (λ (y : Taken). y .heard) (appliedOf r) = sym (taken-heard (x .consumed) (answerTo t (eventOf (x .client)))) ∙ ap (mapped (λ (y : Taken). y .heard)) (sym p) in
         record { leads = (sym q, same); tests = ap isGiven same }
     by-read (refuses n vs) p q = record { leads = sym q; tests = ap (λ (y : Answer Taken). isGiven (mapped (λ (z : Taken). z .heard) y)) p }
 step-by t (of-record e) (from-value r) t′ m = absurd m

@@ -1,6 +1,6 @@
 -- Laws of the rows: what a look-up that is done says of the definitions, one law for each way through a call.
-use mathlib.Core.Path.{_≡_, refl, sym, ap}
-use mathlib.Core.Bool.{true, false}
+use mathlib.Core.Path.{_≡_, refl, sym, ap, _∙_}
+use mathlib.Core.Bool.{Bool, true, false, cond, not}
 use mathlib.Core.List.{[]}
 use Prim.Native.Nat.{ℕ, zero, suc, _+_, _≤_, _<_, _-_}
 use native.Mathlib.Omega.{arith}
@@ -11,7 +11,10 @@ use borrow.Author.Tests.{lt-ltb, le-ltb}
 use Rattle.numbers.specs.Numbers.{Answer, gives, refuses}
 use Rattle.stations.specs.declared.Heard.{Heard}
 use Rattle.stations.specs.Whereabouts.{nowhere, at, Event, heardOfJoin}
-use Rattle.stations.specs.Rows.{Stations, rowWith, pointAt, whereOf, allHeld, answerTo, afterJoin, afterLeave, withRow, freeRow, heldRow, rowFrom, rowAt, oneIf, countBelow}
+use Rattle.stations.specs.Rows.{Stations, rowWith, pointAt, whereOf, allHeld, answerTo, afterJoin, afterLeave, withRow, freeRow, heldRow, rowFrom, rowAt, isHeld}
+use Rattle.stations.specs.PrivateEvents.{oneIf}
+use Rattle.searching.specs.Count.{howMany}
+use Rattle.searching.proofs.Count.{one, count-next}
 
 module _ (t : Stations) (station : ℕ) where
   abbrev row : ℕ
@@ -73,11 +76,11 @@ module _ (t : Stations) (station point : ℕ) where
 
 -- a row that is looked at
 pub row-held : (t : Stations) (n : ℕ) → n < 128 → (getD t n 0 ≡ 0 → ⊥) → rowAt t n ≡ heldRow (getD t n 0 - 1) (pointAt t n)
-row-held t n h ne = rw (lt-ltb n 128 h) (by-code (getD t n 0) ne)
+row-held t n h ne = rw (lt-ltb n 128 h) (by-mark (getD t n 0) ne)
   where
-    by-code : (code : ℕ) → (code ≡ 0 → ⊥) → rowFrom code (pointAt t n) ≡ heldRow (code - 1) (pointAt t n)
-    by-code zero ne = absurd (ne refl)
-    by-code (suc s) ne = ap (λ (x : ℕ). heldRow x (pointAt t n)) (omega arith)
+    by-mark : (mark : ℕ) → (mark ≡ 0 → ⊥) → rowFrom mark (pointAt t n) ≡ heldRow (mark - 1) (pointAt t n)
+    by-mark zero ne = absurd (ne refl)
+    by-mark (suc s) ne = ap (λ (x : ℕ). heldRow x (pointAt t n)) (omega arith)
 
 pub row-free : (t : Stations) (n : ℕ) → n < 128 → getD t n 0 ≡ 0 → rowAt t n ≡ freeRow
 row-free t n h e = rw (lt-ltb n 128 h, e)
@@ -86,10 +89,9 @@ pub row-past : (t : Stations) (n : ℕ) → 128 ≤ n → rowAt t n ≡ freeRow
 row-past t n h = rw (le-ltb n 128 h)
 
 -- and counted
-pub none-counted : (t : Stations) → 0 ≡ countBelow t 0
-unfolding countBelow
-none-counted t = refl
-
-pub one-counted : (t : Stations) (n : ℕ) → countBelow t (n + 1) ≡ countBelow t n + oneIf (getD t n 0)
-unfolding countBelow
-one-counted t n = rw add-one
+pub one-counted : (t : Stations) (n : ℕ) → howMany (isHeld t) (n + 1) ≡ howMany (isHeld t) n + oneIf (getD t n 0)
+one-counted t n = rw add-one (count-next (isHeld t) n ∙ ap (λ (k : ℕ). howMany (isHeld t) n + k) (by-test (eqb (getD t n 0) 0)))
+  where
+    by-test : (b : Bool) → one (not b) ≡ cond b 0 1
+    by-test true = refl
+    by-test false = refl

@@ -1,4 +1,5 @@
--- What is claimed of this crate's calls, and of calls that happened: the records Firmness and Claims, which proofs/Claims.antt proves.
+-- What is claimed of this crate's calls, and of calls that happened: the records Firmness and Claims, which
+-- proofs/Claims.antt proves.
 use mathlib.Core.Path.{_≡_}
 use mathlib.Core.Bool.{true, false}
 use mathlib.Core.List.{List, [], _∷_, _++_, map}
@@ -51,8 +52,10 @@ pub record WhyRefused (t : Stations) (e : Event) : Type 0 where
   pub full : countOf t ≡ 128
   pub unaltered : tableAfter t e ≡ t
 
--- When each answer is given to an event whose station was somewhere: a join says if the station is new, has moved and from where, or was there already; a leave removes it
--- from the access point that it names, and "such a late leave, or a leave of a station not held, changes nothing and answers "stale""
+-- When each answer is given to an event whose station was somewhere: a join says if the station is new, has moved and
+-- from where, or was there already; a leave removes it
+-- from the access point that it names, and "such a late leave, or a leave of a station not held, changes nothing and
+-- answers "stale""
 pub record MovedFrom (from : MacAddr) (point : ℕ) (was : Whereabouts) : Type 0 where
   pub came-from : ℕ
   pub there : was ≡ at came-from
@@ -80,7 +83,8 @@ pub record InRow (t : Stations) (station point : ℕ) : Type 0 where
   pub row : ℕ
   pub is : rowAt t row ≡ heldRow station point
 
--- A table that calls made: at most 128 stations, none of them twice; a free row is as a fresh one; and the rows list the stations where they are.
+-- A table that calls made: at most 128 stations, none of them twice; a free row is as a fresh one; and the rows list
+-- the stations where they are.
 pub record SoundStations (t : Stations) : Type 0 where
   pub at-most : countOf t ≤ 128
   pub once : (station i p j q : ℕ) → rowAt t i ≡ heldRow station p → rowAt t j ≡ heldRow station q → i ≡ j
@@ -88,7 +92,8 @@ pub record SoundStations (t : Stations) : Type 0 where
   pub rows-list : (station point i : ℕ) → rowAt t i ≡ heldRow station point → whereOf t station ≡ at point
   pub in-a-row : (station point : ℕ) → whereOf t station ≡ at point → InRow t station point
 
--- "A station is at A exactly when its latest accepted join named A and no later leave named A": over any calls that happened from a fresh table to the table t, with no premise about room
+-- "A station is at A exactly when its latest accepted join named A and no later leave named A": over any calls that
+-- happened from a fresh table to the table t, with no premise about room
 pub record ExactlyWhen (station point : ℕ) (calls : List StationCall) (t : Stations) : Type 0 where
   pub only : whereOf t station ≡ at point → LatestJoin point (those (isOfStation station) (eventsOf (those wasHeard calls)))
   pub if : LatestJoin point (those (isOfStation station) (eventsOf (those wasHeard calls))) → whereOf t station ≡ at point
@@ -115,7 +120,8 @@ pub record Claims : Type 0 where
   pub order-across-stations : (calls : List StationCall) (t : Stations) → Happened stationContract freshStations calls t → (calls′ : List StationCall) (t′ : Stations) → Happened stationContract freshStations calls′ t′
       → EventsReordered (eventsOf calls) (eventsOf calls′) → NoneRefused calls → NoneRefused calls′ → SameStations calls calls′ t t′
   pub swapped : (before behind : List Event) (e f : Event) → (e .station ≡ f .station → ⊥) → EventsReordered (before ++ e ∷ f ∷ behind) (before ++ f ∷ e ∷ behind)
-  -- a value of kind 0x92 that reads gives an association; an event in it is that event, and none where the value doesn't read; refused, by whatever number, it alters nothing
+  -- a value of kind 0x92 that reads gives an association; an event in it is that event, and none where the value
+  -- doesn't read; refused, by whatever number, it alters nothing
   pub reads-association : (value : List ℕ) (x : RecordRead) → readRecord associationCode value ≡ gives x → x .value ≡ Record.ClientAssociation (associationIn value)
   pub value-refused : (t : Stations) (value : List ℕ) → isGiven (answerFrom t value) ≡ false → tableFrom t value ≡ t
   pub event-in-value : (t : Stations) (value : List ℕ) → tableFrom t value ≡ run tableAfter t (andSteps (eventBy (of-value value)) [])

@@ -26,7 +26,8 @@ abbrev pub appliedOf : Applied → Answer Taken
 appliedOf (Applied.Heard h n) = gives (record { heard = h; consumed = n })
 appliedOf (Applied.Refused r) = told r
 
--- the association in a record that was read; any other record is of a kind that is not asked for, 16, and reading 0x92 gives none (see `reads-association`)
+-- the association in a record that was read; any other record is of a kind that is not asked for, 16, and reading 0x92
+-- gives none (see `reads-association`)
 abbrev pub associationOf : Record → Answer ClientAssociation
 associationOf (Record.ClientAssociation a) = gives a
 associationOf Record.EndOfMessage = refuses 16 []
@@ -46,18 +47,18 @@ associationCode = codeOf Kind.ClientAssociation
 
 -- the association in a value of kind 0x92, as the existing reader gives it: its 3 and 5; and how many bytes it took
 pub record AssociationRead : Type 0 where
-  pub association : ClientAssociation
+  pub client : ClientAssociation
   pub consumed : ℕ
 
 abbrev pub associationRead : List ℕ → Answer AssociationRead
-associationRead value = andThen (readRecord associationCode value) (λ x. mapped (λ a. record { association = a; consumed = x .consumed }) (associationOf (x .value)))
+associationRead value = andThen (readRecord associationCode value) (λ x. mapped (λ a. record { client = a; consumed = x .consumed }) (associationOf (x .value)))
 
 -- the event that was read, then 17
 abbrev pub answerToRead : Stations → Answer AssociationRead → Answer Taken
-answerToRead t read = andThen read (λ x. mapped (λ h. record { heard = h; consumed = x .consumed }) (answerTo t (eventOf (x .association))))
+answerToRead t read = andThen read (λ x. mapped (λ h. record { heard = h; consumed = x .consumed }) (answerTo t (eventOf (x .client))))
 
 abbrev pub tableAfterRead : Stations → Answer AssociationRead → Stations
-tableAfterRead t (gives x) = tableAfter t (eventOf (x .association))
+tableAfterRead t (gives x) = tableAfter t (eventOf (x .client))
 tableAfterRead t (refuses n vs) = t
 
 abbrev pub answerFrom : Stations → List ℕ → Answer Taken

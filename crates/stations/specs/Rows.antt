@@ -1,4 +1,5 @@
--- The table's rows: "up to 128 stations". Row n has a station in element n of the array and its access point in element 128 + n.
+-- The table's rows: "up to 128 stations". Row n has a station in element n of the array and its access point in element
+-- 128 + n.
 use mathlib.Core.Bool.{Bool, cond, not}
 use mathlib.Core.List.{List}
 use Prim.Native.Nat.{ℕ, zero, suc, _+_}
@@ -6,6 +7,7 @@ use lib.Dec.{eqb, ltb}
 use lib.ListN.{getD, set, replicate}
 use Rattle.numbers.specs.Numbers.{Answer}
 use Rattle.searching.specs.Search.{lowest}
+use Rattle.searching.specs.Count.{howMany}
 use Rattle.stations.specs.declared.Heard.{Heard}
 use Rattle.stations.specs.declared.Where.{Where}
 use Rattle.stations.specs.declared.Listed.{Listed}
@@ -28,9 +30,9 @@ markOf station = station + 1
 abbrev pub pointAt : Stations → ℕ → ℕ
 pointAt t row = getD t (rows + row) 0
 
--- the lowest row that has a code, the number of rows where none has
+-- the lowest row that has a mark, the number of rows where none has
 abbrev pub rowWith : Stations → ℕ → ℕ
-rowWith t code = lowest (λ row. eqb (getD t row 0) code) rows
+rowWith t mark = lowest (λ row. eqb (getD t row 0) mark) rows
 
 -- where the table says that a station is
 abbrev pub whereIn : Stations → ℕ → Whereabouts
@@ -47,10 +49,11 @@ abbrev pub answerTo : Stations → Event → Answer Heard
 answerTo t e = answerAt (allHeld t) e (whereOf t (e .station))
 
 -- the table with a row written
-abbrev pub withRow : Stations → (row code point : ℕ) → Stations
-withRow t row code point = set (set t row code) (rows + row) point
+abbrev pub withRow : Stations → (row mark point : ℕ) → Stations
+withRow t row mark point = set (set t row mark) (rows + row) point
 
--- the table after an event. A join of a station that is held alters its access point; of another one, it takes the lowest free row: "Freed rows are used again."
+-- the table after an event. A join of a station that is held alters its access point; of another one, it takes the
+-- lowest free row: "Freed rows are used again."
 unfoldable pub afterJoin : Stations → (station point : ℕ) → Stations
 afterJoin t station point =
     cond (ltb (rowWith t (markOf station)) rows) (set t (rows + rowWith t (markOf station)) point)
@@ -65,33 +68,29 @@ abbrev pub tableAfter : Stations → Event → Stations
 tableAfter t e = cond (e .is-join) (afterJoin t (e .station) (e .point)) (afterLeave t (e .station) (e .point))
 
 -- what a row holds
-pub data Row : Type 0 where
-  freeRow : Row
-  heldRow : (station point : ℕ) → Row
+pub data StationRow : Type 0 where
+  freeRow : StationRow
+  heldRow : (station point : ℕ) → StationRow
 
-abbrev pub rowFrom : (code point : ℕ) → Row
+abbrev pub rowFrom : (mark point : ℕ) → StationRow
 rowFrom zero point = freeRow
 rowFrom (suc station) point = heldRow station point
 
-abbrev pub rowAt : Stations → ℕ → Row
+abbrev pub rowAt : Stations → ℕ → StationRow
 rowAt t n = cond (ltb n rows) (rowFrom (getD t n 0) (pointAt t n)) freeRow
 
--- how many of the first n rows hold a station, and how many do at all
-abbrev pub oneIf : (code : ℕ) → ℕ
-oneIf code = cond (eqb code 0) 0 1
-
-unfoldable pub countBelow : Stations → ℕ → ℕ
-countBelow t zero = 0
-countBelow t (suc n) = countBelow t n + oneIf (getD t n 0)
+-- how many rows hold a station
+abbrev pub isHeld : Stations → ℕ → Bool
+isHeld t row = not (eqb (getD t row 0) 0)
 
 abbrev pub countOf : Stations → ℕ
-countOf t = countBelow t rows
+countOf t = howMany (isHeld t) rows
 
 -- what a call shows of a place and of a row
 abbrev pub whereShown : Whereabouts → Where
 whereShown nowhere = Where.Nowhere
 whereShown (at point) = Where.At (addressOf point)
 
-abbrev pub rowShown : Row → Listed
+abbrev pub rowShown : StationRow → Listed
 rowShown freeRow = Listed.Free
 rowShown (heldRow station point) = Listed.Held (addressOf station) (addressOf point)

@@ -39,7 +39,7 @@ stationContract o = eventMeets (o .was) (o .asked) (o .got) (o .became)
 
 -- the event that a call brings: none, where its value doesn't read
 abbrev pub eventRead : Answer AssociationRead → Asks Event
-eventRead (gives x) = asks-for (eventOf (x .association))
+eventRead (gives x) = asks-for (eventOf (x .client))
 eventRead (refuses n vs) = asks-nothing
 
 abbrev pub eventBy : EventAsked → Asks Event

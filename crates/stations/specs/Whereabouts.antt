@@ -34,11 +34,13 @@ abbrev pub isNowhere : Whereabouts → Bool
 isNowhere nowhere = true
 isNowhere (at p) = false
 
--- where the station of an event that is not refused is after it: "A joined event puts the station at that access point; a left event removes it only if it names the access point the table holds."
+-- where the station of an event that is not refused is after it: "A joined event puts the station at that access point;
+-- a left event removes it only if it names the access point the table holds."
 abbrev pub whereAfter : Event → Whereabouts → Whereabouts
 whereAfter e was = cond (e .is-join) (at (e .point)) (cond (isAt (e .point) was) nowhere was)
 
--- what is answered: a join says if the station is new, has moved, or was there already; "such a late leave, or a leave of a station not held, changes nothing and answers "stale""
+-- what is answered: a join says if the station is new, has moved, or was there already; "such a late leave, or a leave
+-- of a station not held, changes nothing and answers "stale""
 abbrev pub heardOfJoin : ℕ → Whereabouts → Heard
 heardOfJoin point nowhere = Heard.Placed
 heardOfJoin point (at p) = cond (eqb p point) Heard.Same (Heard.Moved (addressOf p))

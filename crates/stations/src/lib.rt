@@ -1,4 +1,5 @@
-// Which access point each station is on (request 2026-02): a table of up to 128 stations, which events of Multi-AP (client associations) alter.
+// Which access point each station is on (request 2026-02): a table of up to 128 stations, which events of Multi-AP
+// (client associations) alter.
 
 mod reading;
 mod rows;
@@ -25,8 +26,10 @@ ghost use Rattle.stations.specs.Events.{answeredOf, appliedOf, answerFro
 // How many stations a table holds, at most.
 pub const STATIONS: usize = 128;
 
-// The table: row n has a station in element n, as the number of its address plus 1, and its access point in element STATIONS + n, as the number of its address. A free row has 0 in both.
-// Both lists are one array, which a caller lends and the calls alter in place: 2,048 bytes are too many to copy on a small stack.
+// The table: row n has a station in element n, as the number of its address plus 1, and its access point in element
+// STATIONS + n, as the number of its address. A free row has 0 in both.
+// Both lists are one array, which a caller lends and the calls alter in place: 2,048 bytes are too many to copy on a
+// small stack.
 pub type Stations = [u64; 2 * STATIONS];
 
 // What an event did that was not refused.
@@ -49,7 +52,8 @@ pub enum Answered {
     Refused(Refusal),
 }
 
-// The same for an event that was read from a value: how many bytes of it the event took, and those behind them are the rest.
+// The same for an event that was read from a value: how many bytes of it the event took, and those behind them are the
+// rest.
 pub enum Applied {
     Heard { heard: Heard, consumed: usize },
     Refused(Refusal),
@@ -129,10 +133,10 @@ pub fn row(t: &Stations, n: usize) -> Listed
     ensures { λ r. ⌜ r ≡ rowShown (rowAt (now (t .entry)) n) ⌝ }
 {
     if n < STATIONS {
-        let code = t[n];
-        if code != 0 {
+        let mark = t[n];
+        if mark != 0 {
             return Listed::Held {
-                station: address_of(code - 1),
+                station: address_of(mark - 1),
                 point: address_of(t[STATIONS + n]),
             };
         }

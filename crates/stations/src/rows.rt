@@ -11,8 +11,9 @@ ghost use Prim.Native.Nat.{_<_, _≤_, _^_};
 ghost use Rattle.numbers.specs.Numbers.{gives};
 ghost use Rattle.stations.specs.Addresses.{numberOf, addressOf};
 ghost use Rattle.stations.specs.Whereabouts.{heardOfJoin, at};
-ghost use Rattle.stations.specs.Rows.{rowWith, answerTo, afterJoin, afterLeave, oneIf};
+ghost use Rattle.stations.specs.Rows.{rowWith, answerTo, afterJoin, afterLeave};
 ghost use Rattle.stations.specs.Events.{answeredOf};
+ghost use Rattle.stations.specs.PrivateEvents.{oneIf};
 
 // The number of an address, and the address with a number.
 pub(crate) fn number_of(m: MacAddr) -> u64
@@ -36,13 +37,13 @@ pub(crate) fn address_of(n: u64) -> MacAddr
     }
 }
 
-// The lowest row with a code, STATIONS where none has it.
-pub(crate) fn row_with(t: &Stations, code: u64) -> usize
-    ensures { λ r. ⌜ (r ≡ rowWith (now (t .entry)) code) × (r ≤ 128) ⌝ }
+// The lowest row with a mark, STATIONS where none has it.
+pub(crate) fn row_with(t: &Stations, mark: u64) -> usize
+    ensures { λ r. ⌜ (r ≡ rowWith (now (t .entry)) mark) × (r ≤ 128) ⌝ }
 {
     let mut row: usize = 0;
     while row < STATIONS {
-        if t[row] == code {
+        if t[row] == mark {
             return row;
         }
         row += 1;
@@ -101,8 +102,8 @@ pub(crate) fn leave(t: &mut Stations, station: u64, point: u64) -> Heard
 }
 
 // Whether a row holds a station, as a number to add.
-pub(crate) fn one_if(code: u64) -> usize
-    ensures { λ r. ⌜ (r ≡ oneIf code) × (r ≤ 1) ⌝ }
+pub(crate) fn one_if(mark: u64) -> usize
+    ensures { λ r. ⌜ (r ≡ oneIf mark) × (r ≤ 1) ⌝ }
 {
-    if code == 0 { 0 } else { 1 }
+    if mark == 0 { 0 } else { 1 }
 }

@@ -4,19 +4,21 @@ use Prim.Native.Nat.{_≤_, _-_}
 use native.Mathlib.Omega.{arith}
 use denote.Ref.{now}
 use borrow.Author.Needs.{needs}
-use Rattle.stations.specs.Rows.{countBelow}
-use Rattle.stations.proofs.Ways.{none-counted, one-counted}
+use Rattle.searching.specs.Count.{howMany}
+use Rattle.searching.proofs.Count.{count-before-all}
+use Rattle.stations.specs.Rows.{isHeld}
+use Rattle.stations.proofs.Ways.{one-counted}
 use Rattle.stations.proofs.count.Statement.{statement}
 use Rattle.stations.proofs.count.Tie as tie
 
 abbrev Inv-loop : tie.InvT-loop
-Inv-loop t many₀ row₀ many row = (row ≤ 128) × (many ≤ row) × (many ≡ countBelow t row)
+Inv-loop t many₀ row₀ many row = (row ≤ 128) × (many ≤ row) × (many ≡ howMany (isHeld t) row)
 
 abbrev μ-loop : tie.MeasureT-loop
 μ-loop t many₀ row₀ many row = 128 - row
 
 loop-holds : tie.Need-loop-holds Inv-loop μ-loop
-loop-holds c = (omega arith, omega arith, none-counted (now (c .args .t)))
+loop-holds c = (omega arith, omega arith, count-before-all (isHeld (now (c .args .t))))
 
 loop-again : tie.Need-loop-again Inv-loop μ-loop
 loop-again c =
@@ -27,7 +29,7 @@ returns : tie.Need-returns Inv-loop μ-loop
 returns c =
     let b = c .before in
     let end : b .loop .row ≡ 128 = omega arith in
-    b .loop .inv .2 ∙ ap (countBelow (now (b .before .args .t))) end
+    b .loop .inv .2 ∙ ap (howMany (isHeld (now (b .before .args .t)))) end
 
 pub count-spec : {M : Type 1} → statement M
 count-spec =

@@ -1,4 +1,5 @@
--- A leave that names the access point at which the station is, one that names another, and one of a station that is not held.
+-- A leave that names the access point at which the station is, one that names another, and one of a station that is not
+-- held.
 use denote.Ref.{now}
 use borrow.Author.Needs.{needs}
 use borrow.Author.Tests.{eq-eqb, ne-eqb}
