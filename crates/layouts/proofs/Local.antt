@@ -53,7 +53,7 @@ module _ (s t : List ℕ) (m : ℕ) (g : Agree m s t) where
       rw (g .same p (omega arith), g .same (p + 1) (omega arith)) (reaches (p + 2) t _ (omega arith) ∙ ap gives (a .1))
   count-local to-end h p x c l y = absurd c
 
-  list-local : (l : Layout) (p : ℕ) (x : ListAt) → T (allCounted l) → x .first ≤ m → listOf l s p ≡ gives x → listOf l t p ≡ gives x
+  pub list-local : (l : Layout) (p : ℕ) (x : ListAt) → T (allCounted l) → x .first ≤ m → listOf l s p ≡ gives x → listOf l t p ≡ gives x
   unfolding listOf
   list-local (bytes k) p x c b y = y
   list-local (entry k w e) p x c b y =

@@ -59,7 +59,7 @@ cons f n p r x =
     let m = mapped-gave (before (span p (g .first))) (spansFrom f n (g .first)) r (g .then) in
     record { stop = g .first; reads = g .is; others = m .first; are = m .is; all = given _ r (m .then) }
 
-none : (f : ℕ → Answer ℕ) (p : ℕ) (r : Spans) → spansFrom f 0 p ≡ gives r → record { each = []; end = p } ≡ r
+pub none : (f : ℕ → Answer ℕ) (p : ℕ) (r : Spans) → spansFrom f 0 p ≡ gives r → record { each = []; end = p } ≡ r
 unfolding spansFrom
 none f p r x = given _ r x
 

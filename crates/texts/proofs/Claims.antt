@@ -7,25 +7,29 @@ use native.Mathlib.Nat.{le-of-suc-le-suc}
 use native.Mathlib.Omega.{arith}
 use lib.ListN.{length, take}
 use lib.Seq.{length-take-le}
-use lib.Dec.{eqb, ltb, T, ltb→lt}
+use lib.Dec.{eqb}
 use borrow.Author.Tests.{eqb-true}
 use Rattle.numbers.specs.Numbers.{Answer, gives, refuses, mapped, isGiven}
 use Rattle.numbers.proofs.Firm.{by-equation, by-telling, both, never}
 use Rattle.numbers.proofs.Answers.{given, gave, mapped-gave, follows, stops, mapped-given, mapped-refused}
+use Rattle.layouts.specs.Layouts.{Layout, bytes}
 use Rattle.layouts.specs.Reading.{Consumed, readingOf}
-use Rattle.layouts.specs.Access.{Span, locatedOf, partOf, countedOf}
+use Rattle.layouts.specs.Access.{Span, locatedOf, partOf, nthOf, countedOf}
 use Rattle.layouts.specs.Claims.{Shown}
+use Rattle.layouts.proofs.Within.{end-within}
+use Rattle.layouts.proofs.Spans.{spans-many, nth-past}
 use Rattle.layouts.proofs.Claims.{reading-told, located-told, counted-told, part-alone}
 use Rattle.utf8.specs.Utf8.{isUtf8}
-use Rattle.texts.specs.Texts.{Piece, field, string, to-end, TextKind, textKind, isText}
-use Rattle.texts.specs.Reading.{ReadPiece, pieceAt, Pieces, before, piecesAt, radioList, Laid, textIn, allValid, wholeOf, consumedIn, readText}
-use Rattle.texts.specs.Access.{nthOf, wholeSpan, textSpan, ofText, radioIn, radioCount, locateRadio, countRadios, locateText, locateRadioText}
+use Rattle.texts.specs.Texts.{TextKind, string, textKind, radio, isText}
+use Rattle.texts.specs.Reading.{textSpan, radioList, Laid, textIn, allValid, wholeOf, consumedIn, readText}
+use Rattle.texts.specs.Access.{ofText, radioIn, radioCount, locateRadio, countRadios, locateText, locateRadioText}
 use Rattle.texts.specs.Claims.{Firmness, Text, Values, Alone, ConsumedAlone, Claims}
-use Rattle.texts.proofs.Whole.{parts, valid, list-within, each-within}
-use Rattle.texts.proofs.Asked.{answers, Among, text-among, radio-among, one-radio}
-use Rattle.texts.proofs.Local.{all-consumed, whole-alone}
+use Rattle.texts.proofs.Laws.{Among}
+use Rattle.texts.proofs.Whole.{Parts, parts, valid, list-within, each-within}
+use Rattle.texts.proofs.Asked.{answers, text-among, radio-among, one-radio, Inside, text-inside}
+use Rattle.texts.proofs.Local.{span-same, counted-alone, wholeValue, all-consumed, all-alone}
 
-pub firmness : Firmness
+firmness : Firmness
 firmness = record {
   is-text = λ code. by-equation _;
   read-value = λ code s. by-telling readingOf reading-told _;
@@ -38,21 +42,22 @@ firmness = record {
   radio-text = λ number s. both _ _ (by-equation _) (by-equation _);
 }
 
--- the three kinds, by what a code is compared with
-abbrev picked : Bool → Bool → Bool → Answer TextKind
-picked a b c =
-    cond a (gives (record { many = 3; piece = field 64; radios = false }))
-    (cond b (gives (record { many = 1; piece = to-end; radios = false }))
-    (cond c (gives (record { many = 3; piece = string 0; radios = true }))
-    (refuses 16 [])))
+-- the three kinds, and which one a code is compared with
+abbrev fields : TextKind
+fields = record { many = 3; piece = bytes 64; radios = false }
 
--- what a test says of each of them, it says of the kind of any code
-each : (f : TextKind → Bool) → T (f (record { many = 3; piece = field 64; radios = false })) → T (f (record { many = 1; piece = to-end; radios = false })) →
-    T (f (record { many = 3; piece = string 0; radios = true })) → (code : ℕ) (k : TextKind) → textKind code ≡ gives k → T (f k)
+abbrev inventory : TextKind
+inventory = record { many = 3; piece = string; radios = true }
+
+abbrev picked : Bool → Bool → Bool → Answer TextKind
+picked a b c = cond a (gives fields) (cond b (gives wholeValue) (cond c (gives inventory) (refuses 16 [])))
+
+-- what holds of each of them, holds of the kind of any code
+each : (P : TextKind → Type 0) → P fields → P wholeValue → P inventory → (code : ℕ) (k : TextKind) → textKind code ≡ gives k → P k
 unfolding textKind
-each f a b c code k e = go (eqb code 21) (eqb code 22) (eqb code 0xD4) e
+each P a b c code k e = go (eqb code 21) (eqb code 22) (eqb code 0xD4) e
   where
-    go : (x y z : Bool) → picked x y z ≡ gives k → T (f k)
+    go : (x y z : Bool) → picked x y z ≡ gives k → P k
     go true y z e = rw (← (given _ k e)) a
     go false true z e = rw (← (given _ k e)) b
     go false false true e = rw (← (given _ k e)) c
@@ -83,11 +88,7 @@ unknown code n = go (eqb code 21) (eqb code 22) (eqb code 0xD4) n
     go false false true e = absurdly e
     go false false false e = refl
 
--- every kind has a text
-some-text : (code : ℕ) (k : TextKind) → textKind code ≡ gives k → 0 < k .many
-some-text code k e = ltb→lt 0 (k .many) (each (λ k. ltb 0 (k .many)) tt tt tt code k e)
-
--- the kind and the value behind a reading
+-- the kind and the value that a reading came of
 record Read (code : ℕ) (s : List ℕ) (r : Consumed) : Type 0 where
   kind : TextKind
   is : textKind code ≡ gives kind
@@ -102,52 +103,35 @@ read code s r e =
     let v = mapped-gave (consumedIn s) (wholeOf (k .first) s) r (k .then) in
     record { kind = k .first; is = k .is; value = v .first; reads = v .is; says = given _ r (v .then) }
 
--- so many pieces as were asked for, each with its number
-pieces-many : (n : ℕ) (x : Piece) (s : List ℕ) (p : ℕ) (r : Pieces) → piecesAt n x s p ≡ gives r → length (r .each) ≡ n
-unfolding piecesAt
-pieces-many zero x s p r e = rw (← (given _ r e))
-pieces-many (suc n) x s p r e =
-    let g = gave (pieceAt x s p) (λ h. mapped (before h) (piecesAt n x s (h .end))) r e in
-    let m = mapped-gave (before (g .first)) (piecesAt n x s (g .first .end)) r (g .then) in
-    rw (← (given _ r (m .then))) (ap suc (pieces-many n x s (g .first .end) (m .first) (m .is)))
+-- a number below how many there are
+record Numbered (rs : List Span) (i : ℕ) : Type 0 where
+  one : Span
+  is : nthOf rs i ≡ gives one
 
-record Numbered (hs : List ReadPiece) (i : ℕ) : Type 0 where
-  readPiece : ReadPiece
-  is : nthOf hs i ≡ gives readPiece
-
-some-number : (hs : List ReadPiece) (i : ℕ) → i < length hs → Numbered hs i
+some-number : (rs : List Span) (i : ℕ) → i < length rs → Numbered rs i
 some-number [] i l = absurd (omega arith)
-some-number (h ∷ hs) zero l = record { readPiece = h; is = refl }
-some-number (h ∷ hs) (suc i) l = let n = some-number hs i (le-of-suc-le-suc l) in record { readPiece = n .readPiece; is = n .is }
+some-number (r ∷ rs) zero l = record { one = r; is = refl }
+some-number (r ∷ rs) (suc i) l = let n = some-number rs i (le-of-suc-le-suc l) in record { one = n .one; is = n .is }
 
-past-number : (hs : List ReadPiece) (i : ℕ) → length hs ≤ i → nthOf hs i ≡ refuses 6 []
-past-number [] i l = refl
-past-number (h ∷ hs) zero l = absurd (omega arith)
-past-number (h ∷ hs) (suc i) l = past-number hs i (le-of-suc-le-suc l)
-
-valid-number : (s : List ℕ) (hs : List ReadPiece) (i : ℕ) (h : ReadPiece) → allValid s hs ≡ true → nthOf hs i ≡ gives h → isUtf8 (textIn s h) ≡ true
-valid-number s [] i h a e = never h 6 [] (sym e)
-valid-number s (g ∷ hs) i h a e = go i (isUtf8 (textIn s g)) refl a e (λ j. valid-number s hs j h)
+valid-number : (l : Layout) (s : List ℕ) (rs : List Span) (i : ℕ) (r : Span) → allValid l s rs ≡ true → nthOf rs i ≡ gives r → isUtf8 (textIn l s r) ≡ true
+valid-number l s [] i r a e = never r 6 [] (sym e)
+valid-number l s (g ∷ rs) i r a e = go i (isUtf8 (textIn l s g)) refl a e (λ j. valid-number l s rs j r)
   where
-    go : (i : ℕ) (t : Bool) → isUtf8 (textIn s g) ≡ t → cond t (allValid s hs) false ≡ true → nthOf (g ∷ hs) i ≡ gives h →
-        ((j : ℕ) → allValid s hs ≡ true → nthOf hs j ≡ gives h → isUtf8 (textIn s h) ≡ true) → isUtf8 (textIn s h) ≡ true
-    go zero true t a e on = rw (← (given g h e)) t
+    go : (i : ℕ) (t : Bool) → isUtf8 (textIn l s g) ≡ t → cond t (allValid l s rs) false ≡ true → nthOf (g ∷ rs) i ≡ gives r →
+        ((j : ℕ) → allValid l s rs ≡ true → nthOf rs j ≡ gives r → isUtf8 (textIn l s r) ≡ true) → isUtf8 (textIn l s r) ≡ true
+    go zero true t a e on = rw (← (given g r e)) t
     go (suc i) true t a e on = on i a e
     go i false t a e on = let z : _≡_ {A = ℕ} 0 1 = cc in absurd (omega arith)
 
--- a span in the first q bytes, whose part is the same in them
-abbrev Inside : Span → ℕ → Type 0
-Inside r q = (r .start ≤ r .end) × (r .end ≤ q)
-
+-- a part in the first q bytes is the same in them
 part-same : (x : Answer Span) (s : List ℕ) (q : ℕ) → q ≤ length s → ((r : Span) → x ≡ gives r → Inside r q) → partOf x (take q s) ≡ partOf x s
 part-same (gives r) s q l inside = let i = inside r refl in part-alone s (r .start) q (r .end) (i .0) (i .1) l
 part-same (refuses n vs) s q l inside = refl
 
-whole-inside : {s : List ℕ} {p q : ℕ} (h : ReadPiece) → Among s p q h → Inside (wholeSpan h) q
-whole-inside h a = let b = a .lies in let c = b .low in let d = b .ordered in let e = b .high in (omega arith, a .high)
-
-text-inside : {s : List ℕ} {p q : ℕ} (h : ReadPiece) (n : ℕ) → Among s p q h → q ≤ n → Inside (h .text) n
-text-inside h n a l = let b = a .lies in let d = b .ordered in let e = b .high in let f = a .high in (d, omega arith)
+-- a radio's text is asked of its radio
+radio-text-is : (i : ℕ) (s : List ℕ) → locateRadioText i s ≡ mapped (textSpan radio s) (ofText 0xD4 (λ k v. radioIn (i ∷ []) v) s)
+unfolding locateRadio locateRadioText
+radio-text-is i s = refl
 
 -- a value that reads
 module _ (code : ℕ) (s : List ℕ) (r : Consumed) (a : Read code s r) where
@@ -165,11 +149,14 @@ module _ (code : ℕ) (s : List ℕ) (r : Consumed) (a : Read code s r) where
       let e = end in
       (omega arith, omega arith)
 
+  from : Parts (a .kind) s (a .value)
+  from = parts (a .kind) s (a .value) (valid (a .kind) s (a .value) (a .reads) .laid)
+
   radios : length (a .value .radios .each) ≡ r .entries
-  radios = let l = valid (a .kind) s (a .value) (a .reads) .laid in pieces-many _ _ s _ (a .value .radios) (parts (a .kind) s (a .value) l .each) ∙ many
+  radios = spans-many _ _ _ (a .value .radios) (from .each) ∙ many
 
   texts : length (a .value .texts .each) ≡ a .kind .many
-  texts = let l = valid (a .kind) s (a .value) (a .reads) .laid in pieces-many _ _ s 0 (a .value .texts) (parts (a .kind) s (a .value) l .own)
+  texts = spans-many _ _ _ (a .value .texts) (from .own)
 
   says : {A : Type 0} (f : TextKind → Laid → Answer A) → ofText code f s ≡ f (a .kind) (a .value)
   says f = answers code f s (a .kind) (a .value) (a .is) (a .reads)
@@ -178,19 +165,43 @@ module _ (code : ℕ) (s : List ℕ) (r : Consumed) (a : Read code s r) where
   radio-lies : (is : List ℕ) (p : Span) → radioIn is (a .value) ≡ gives p → Inside p (r .consumed)
   radio-lies is p e =
       let f = one-radio is (a .value) p e in
-      let b = radio-among (a .kind) s (a .value) (a .reads) (f .number) (f .piece) (f .is) in
-      rw (← (f .span), ← end) (whole-inside (f .piece) b)
-
-  text-lies : (i : ℕ) (p : Span) → mapped textSpan (nthOf (a .value .texts .each) i) ≡ gives p → Inside p (r .consumed)
-  text-lies i p e =
-      let m = mapped-gave textSpan (nthOf (a .value .texts .each) i) p e in
-      rw (← (given _ p (m .then))) (text-inside (m .first) (r .consumed) (text-among (a .kind) s (a .value) (a .reads) i (m .first) (m .is)) (ends .0))
-
-  radio-text-lies : (i : ℕ) (p : Span) → mapped textSpan (nthOf (a .value .radios .each) i) ≡ gives p → Inside p (r .consumed)
-  radio-text-lies i p e =
-      let m = mapped-gave textSpan (nthOf (a .value .radios .each) i) p e in
+      let b = radio-among (a .kind) s (a .value) (a .reads) (f .number) p (f .is) in
+      let h = b .high in
       let z = end in
-      rw (← (given _ p (m .then))) (text-inside (m .first) (r .consumed) (radio-among (a .kind) s (a .value) (a .reads) i (m .first) (m .is)) (omega arith))
+      (end-within radio s (p .start) (p .end) (b .reads) .0, omega arith)
+
+  text-lies : (i : ℕ) (p : Span) → mapped (textSpan (a .kind .piece) s) (nthOf (a .value .texts .each) i) ≡ gives p → Inside p (r .consumed)
+  text-lies i p e =
+      let m = mapped-gave (textSpan (a .kind .piece) s) (nthOf (a .value .texts .each) i) p e in
+      let b = text-inside (a .kind .piece) s _ _ (m .first) (text-among (a .kind) s (a .value) (a .reads) i (m .first) (m .is)) in
+      let z = ends in
+      rw (← (given _ p (m .then))) (b .0, omega arith)
+
+  radio-text-lies : (i : ℕ) (p : Span) → mapped (textSpan radio s) (nthOf (a .value .radios .each) i) ≡ gives p → Inside p (r .consumed)
+  radio-text-lies i p e =
+      let m = mapped-gave (textSpan radio s) (nthOf (a .value .radios .each) i) p e in
+      let b = text-inside radio s _ _ (m .first) (radio-among (a .kind) s (a .value) (a .reads) i (m .first) (m .is)) in
+      let z = end in
+      rw (← (given _ p (m .then))) (b .0, omega arith)
+
+  text-asked : (i : ℕ) → locateText code i s ≡ mapped (textSpan (a .kind .piece) s) (nthOf (a .value .texts .each) i)
+  unfolding locateText
+  text-asked i = says (λ k v. mapped (textSpan (k .piece) s) (nthOf (v .texts .each) i))
+
+  radio-text-asked : code ≡ 0xD4 → (i : ℕ) → locateRadioText i s ≡ mapped (textSpan radio s) (nthOf (a .value .radios .each) i)
+  radio-text-asked c i = radio-text-is i s ∙ ap (mapped (textSpan radio s)) (ap (λ n. ofText n (λ k v. radioIn (i ∷ []) v) s) (sym c) ∙ says (λ k v. radioIn (i ∷ []) v))
+
+  -- the text of one that has this number
+  shown-text : (x : Answer Span) (l : Layout) (rs : List Span) (i : ℕ) → x ≡ mapped (textSpan l s) (nthOf rs i) → allValid l s rs ≡ true → i < length rs →
+      ((p : Span) → mapped (textSpan l s) (nthOf rs i) ≡ gives p → Inside p (r .consumed)) → Text x s (r .consumed)
+  shown-text x l rs i is good less inside =
+      let n = some-number rs i less in
+      let e = mapped-given (textSpan l s) _ _ (n .is) in
+      let b = inside _ e in
+      record {
+        shown = record { span = textSpan l s (n .one); shown = is ∙ e; ordered = b .0; inside = b .1 };
+        valid = ap (λ x. isUtf8 (partOf x s)) (is ∙ e) ∙ valid-number l s rs i (n .one) good (n .is);
+      }
 
 -- 16 for every other code
 module _ (code : ℕ) (s : List ℕ) (n : isText code ≡ false) where
@@ -212,16 +223,12 @@ consumed-within code s r x =
     let rest : length s - a .value .radios .end ≡ r .rest = ap (λ r. r .rest) (a .says) in
     (e .1, omega arith)
 
--- the kind of 22, which takes all
-whole-value : textKind 22 ≡ gives (record { many = 1; piece = to-end; radios = false })
-unfolding textKind
-whole-value = refl
-
 no-rest : (s : List ℕ) (r : Consumed) → readText 22 s ≡ gives r → r .rest ≡ 0
+unfolding textKind
 no-rest s r x =
     let a = read 22 s r x in
-    let piece = ap (λ k. k .piece) (given (a .kind) _ (sym (a .is) ∙ whole-value)) in
-    let all = all-consumed (a .kind) s (a .value) (a .reads) (some-text 22 (a .kind) (a .is)) piece in
+    let k : wholeValue ≡ a .kind = given _ (a .kind) (a .is) in
+    let all = all-consumed s (a .value) (ap (λ k. wholeOf k s) k ∙ a .reads) in
     let rest : length s - a .value .radios .end ≡ r .rest = ap (λ r. r .rest) (a .says) in
     omega arith
 
@@ -247,34 +254,23 @@ every-radio code s r i x l =
     let a = read code s r x in
     let z = radios code s r a in
     let n = some-number (a .value .radios .each) i (omega arith) in
-    let e = mapped-given wholeSpan _ _ (n .is) in
-    let b = radio-lies code s r a (i ∷ []) _ e in
-    record { span = wholeSpan (n .readPiece); shown = says code s r a (λ k v. radioIn (i ∷ []) v) ∙ e; ordered = b .0; inside = b .1 }
+    let b = radio-lies code s r a (i ∷ []) (n .one) (n .is) in
+    record { span = n .one; shown = says code s r a (λ k v. radioIn (i ∷ []) v) ∙ n .is; ordered = b .0; inside = b .1 }
 
 every-radio-text : (s : List ℕ) (r : Consumed) (i : ℕ) → readText 0xD4 s ≡ gives r → i < r .entries → Text (locateRadioText i s) s (r .consumed)
-unfolding locateRadioText
 every-radio-text s r i x l =
     let a = read 0xD4 s r x in
     let z = radios 0xD4 s r a in
-    let n = some-number (a .value .radios .each) i (omega arith) in
-    let e = mapped-given textSpan _ _ (n .is) in
-    let b = radio-text-lies 0xD4 s r a i _ e in
-    let shown = says 0xD4 s r a (λ k v. mapped textSpan (nthOf (v .radios .each) i)) ∙ e in
-    record {
-      shown = record { span = n .readPiece .text; shown = shown; ordered = b .0; inside = b .1 };
-      valid = ap (λ x. isUtf8 (partOf x s)) shown ∙ valid-number s (a .value .radios .each) i (n .readPiece) (valid (a .kind) s (a .value) (a .reads) .radios) (n .is);
-    }
+    shown-text 0xD4 s r a (locateRadioText i s) radio (a .value .radios .each) i (radio-text-asked 0xD4 s r a refl i) (valid (a .kind) s (a .value) (a .reads) .radios) (omega arith) (radio-text-lies 0xD4 s r a i)
 
 no-other : (code i : ℕ) (s : List ℕ) (r : Consumed) → readText code s ≡ gives r → r .entries ≤ i →
     (locateRadio code (i ∷ []) s ≡ refuses 6 []) × (code ≡ 0xD4 → locateRadioText i s ≡ refuses 6 [])
-unfolding locateRadio locateRadioText
+unfolding locateRadio
 no-other code i s r x l =
     let a = read code s r x in
     let z = radios code s r a in
-    let p = past-number (a .value .radios .each) i (omega arith) in (
-      says code s r a (λ k v. radioIn (i ∷ []) v) ∙ mapped-refused wholeSpan _ 6 [] p,
-      λ e. rw (← e) (says code s r a (λ k v. mapped textSpan (nthOf (v .radios .each) i)) ∙ mapped-refused textSpan _ 6 [] p),
-    )
+    let p = nth-past (a .value .radios .each) i (omega arith) in
+    (says code s r a (λ k v. radioIn (i ∷ []) v) ∙ p, λ e. radio-text-asked code s r a e i ∙ mapped-refused (textSpan radio s) _ 6 [] p)
 
 one-number : (code i j : ℕ) (is s : List ℕ) (r : Consumed) → readText code s ≡ gives r → (locateRadio code [] s ≡ refuses 6 []) × (locateRadio code (i ∷ j ∷ is) s ≡ refuses 6 [])
 unfolding locateRadio
@@ -285,25 +281,20 @@ module _ (code : ℕ) (s : List ℕ) (k : TextKind) (r : Consumed) (i : ℕ) (y 
   so-many = let a = read code s r x in texts code s r a ∙ ap (λ k. k .many) (given _ k (sym (a .is) ∙ y))
 
   every-text : i < k .many → Text (locateText code i s) s (r .consumed)
-  unfolding locateText
   every-text l =
       let a = read code s r x in
       let z = so-many in
-      let n = some-number (a .value .texts .each) i (omega arith) in
-      let e = mapped-given textSpan _ _ (n .is) in
-      let b = text-lies code s r a i _ e in
-      let shown = says code s r a (λ k v. mapped textSpan (nthOf (v .texts .each) i)) ∙ e in
-      record {
-        shown = record { span = n .readPiece .text; shown = shown; ordered = b .0; inside = b .1 };
-        valid = ap (λ x. isUtf8 (partOf x s)) shown ∙ valid-number s (a .value .texts .each) i (n .readPiece) (valid (a .kind) s (a .value) (a .reads) .own) (n .is);
-      }
+      shown-text code s r a (locateText code i s) (a .kind .piece) (a .value .texts .each) i (text-asked code s r a i) (valid (a .kind) s (a .value) (a .reads) .own) (omega arith) (text-lies code s r a i)
 
   beyond : k .many ≤ i → locateText code i s ≡ refuses 6 []
-  unfolding locateText
   beyond l =
       let a = read code s r x in
       let z = so-many in
-      says code s r a (λ k v. mapped textSpan (nthOf (v .texts .each) i)) ∙ mapped-refused textSpan _ 6 [] (past-number (a .value .texts .each) i (omega arith))
+      text-asked code s r a i ∙ mapped-refused _ _ 6 [] (nth-past (a .value .texts .each) i (omega arith))
+
+whole-alone : (code : ℕ) (k : TextKind) → textKind code ≡ gives k → (s : List ℕ) (v : Laid) → wholeOf k s ≡ gives v → wholeOf k (take (v .radios .end) s) ≡ gives v
+whole-alone = each (λ k. (s : List ℕ) (v : Laid) → wholeOf k s ≡ gives v → wholeOf k (take (v .radios .end) s) ≡ gives v)
+    (λ s v e. counted-alone fields s v e tt) all-alone (λ s v e. counted-alone inventory s v e tt)
 
 -- what is asked of the consumed bytes is what is asked of the value
 module _ (code : ℕ) (s : List ℕ) (r : Consumed) (x : readText code s ≡ gives r) where
@@ -314,31 +305,52 @@ module _ (code : ℕ) (s : List ℕ) (r : Consumed) (x : readText code s ≡ giv
   a = read code s r x
 
   alone-reads : wholeOf (a .kind) t ≡ gives (a .value)
-  alone-reads = ap (λ q. wholeOf (a .kind) (take q s)) (sym (end code s r a)) ∙ whole-alone (a .kind) s (a .value) (a .reads) (some-text code (a .kind) (a .is))
+  alone-reads = ap (λ q. wholeOf (a .kind) (take q s)) (sym (end code s r a)) ∙ whole-alone code (a .kind) (a .is) s (a .value) (a .reads)
 
-  same : {A : Type 0} (f : TextKind → Laid → Answer A) → ofText code f t ≡ ofText code f s
-  same f = answers code f t (a .kind) (a .value) (a .is) alone-reads ∙ sym (says code s r a f)
+  fits : r .consumed ≤ length s
+  fits = ends code s r a .1
 
-  part : (f : TextKind → Laid → Answer Span) → ((p : Span) → f (a .kind) (a .value) ≡ gives p → Inside p (r .consumed)) → partOf (ofText code f t) t ≡ partOf (ofText code f s) s
-  part f inside = ap (λ y. partOf y t) (same f) ∙ part-same (ofText code f s) s (r .consumed) (ends code s r a .1) (λ p e. inside p (sym (says code s r a f) ∙ e))
+  same : {A : Type 0} (f : TextKind → Laid → Answer A) → ofText code f t ≡ f (a .kind) (a .value)
+  same f = answers code f t (a .kind) (a .value) (a .is) alone-reads
+
+  -- a text is where it was
+  still : (l : Layout) (rs : List Span) (i p q : ℕ) → q ≤ r .consumed → ((e : Span) → nthOf rs i ≡ gives e → Among l s p q e) →
+      mapped (textSpan l t) (nthOf rs i) ≡ mapped (textSpan l s) (nthOf rs i)
+  still l rs i p q b lies = go (nthOf rs i) refl where
+    go : (y : Answer Span) → nthOf rs i ≡ y → mapped (textSpan l t) y ≡ mapped (textSpan l s) y
+    go (gives e) x = let c = lies e x in let h = c .high in ap gives (span-same s (r .consumed) fits l (e .start) (e .end) (omega arith) (c .reads))
+    go (refuses n vs) x = refl
+
+  text : (i : ℕ) → locateText code i t ≡ mapped (textSpan (a .kind .piece) s) (nthOf (a .value .texts .each) i)
+  unfolding locateText
+  text i = same (λ k v. mapped (textSpan (k .piece) t) (nthOf (v .texts .each) i)) ∙ still (a .kind .piece) (a .value .texts .each) i _ _ (ends code s r a .0) (text-among (a .kind) s (a .value) (a .reads) i)
+
+  radio-text : code ≡ 0xD4 → (i : ℕ) → locateRadioText i t ≡ mapped (textSpan radio s) (nthOf (a .value .radios .each) i)
+  radio-text c i =
+      let z = end code s r a in
+      radio-text-is i t ∙ ap (mapped (textSpan radio t)) (ap (λ n. ofText n (λ k v. radioIn (i ∷ []) v) t) (sym c) ∙ same (λ k v. radioIn (i ∷ []) v)) ∙
+      still radio (a .value .radios .each) i _ _ (omega arith) (radio-among (a .kind) s (a .value) (a .reads) i)
+
+  part : (x y z : Answer Span) → x ≡ z → y ≡ z → ((p : Span) → z ≡ gives p → Inside p (r .consumed)) → partOf x t ≡ partOf y s
+  part x y z d e inside = ap (λ y. partOf y t) d ∙ part-same z s (r .consumed) fits inside ∙ ap (λ y. partOf y s) (sym e)
 
   alone : Alone code s r
-  unfolding readText locateRadio countRadios locateText locateRadioText
+  unfolding readText locateRadio countRadios
   alone =
-      let w = ends code s r a .1 in
+      let w = fits in
       let l : length t ≡ r .consumed = length-take-le (r .consumed) s w in
       let e = end code s r a in
       let none : length t - a .value .radios .end ≡ 0 = omega arith in
       let m = many code s r a in
       record {
         reads = follows (textKind code) (a .kind) _ (a .is) ∙ mapped-given (consumedIn t) _ _ alone-reads ∙ rw (none, e, m);
-        counts = λ is. same (λ k v. radioCount is v);
-        located = λ is. same (λ k v. radioIn is v);
-        parts = λ is. part (λ k v. radioIn is v) (radio-lies code s r a is);
-        texts = λ i. same (λ k v. mapped textSpan (nthOf (v .texts .each) i));
-        text-parts = λ i. part (λ k v. mapped textSpan (nthOf (v .texts .each) i)) (text-lies code s r a i);
-        radio-texts = λ c i. rw (← c) (same (λ k v. mapped textSpan (nthOf (v .radios .each) i)));
-        radio-text-parts = λ c i. rw (← c) (part (λ k v. mapped textSpan (nthOf (v .radios .each) i)) (radio-text-lies code s r a i));
+        counts = λ is. same (λ k v. radioCount is v) ∙ sym (says code s r a (λ k v. radioCount is v));
+        located = λ is. same (λ k v. radioIn is v) ∙ sym (says code s r a (λ k v. radioIn is v));
+        parts = λ is. part _ _ _ (same (λ k v. radioIn is v)) (says code s r a (λ k v. radioIn is v)) (radio-lies code s r a is);
+        texts = λ i. text i ∙ sym (text-asked code s r a i);
+        text-parts = λ i. part _ _ _ (text i) (text-asked code s r a i) (text-lies code s r a i);
+        radio-texts = λ c i. radio-text c i ∙ sym (radio-text-asked code s r a c i);
+        radio-text-parts = λ c i. part _ _ _ (radio-text c i) (radio-text-asked code s r a c i) (radio-text-lies code s r a i);
       }
 
 pub consumed-alone : ConsumedAlone

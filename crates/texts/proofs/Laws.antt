@@ -1,8 +1,8 @@
--- How the definitions of reading go on by a byte and by a piece, and that what is read lies in the value.
+-- How the definitions of reading go on by a byte and by an entry, and that what is read lies in the value.
 use mathlib.Core.Path.{_≡_, refl, sym, ap, _∙_}
 use mathlib.Core.Bool.{Bool, true, false, cond}
 use mathlib.Core.List.{List, [], _∷_}
-use Prim.Native.Nat.{ℕ, zero, suc, _+_, _-_, _<_, _≤_}
+use Prim.Native.Nat.{ℕ, suc, _+_, _-_, _<_, _≤_}
 use native.Mathlib.Nat.{sub-zero}
 use native.Mathlib.Numerals.{add-one}
 use native.Mathlib.Omega.{arith}
@@ -11,14 +11,16 @@ use lib.Seq.{drop-cons, length-take-le}
 use lib.Dec.{eqb, ltb}
 use borrow.Author.Tests.{eq-eqb, ne-eqb, lt-ltb, le-ltb, ltb-true, ltb-false}
 use Rattle.numbers.specs.Numbers.{Answer, gives, refuses, andThen, mapped}
-use Rattle.numbers.proofs.Answers.{Given, given, gave, mapped-gave, follows, stops}
-use Rattle.layouts.specs.Reading.{reaching, ListAt}
-use Rattle.layouts.proofs.Within.{Within, reaches, cut, reached}
+use Rattle.numbers.proofs.Firm.{never}
+use Rattle.numbers.proofs.Answers.{given, follows, stops, mapped-given}
+use Rattle.layouts.specs.Layouts.{Counting, c1, c2, to-end, Layout, bytes, entry}
+use Rattle.layouts.specs.Reading.{ListAt, countAt, listOf, entriesEnd, endOf}
+use Rattle.layouts.specs.Access.{Span, nthOf, Spans, before, spansFrom}
+use Rattle.layouts.proofs.Within.{reached, behind-head, list-within, entries-within, ends-in, end-within}
+use Rattle.layouts.proofs.Spans.{span, spans-many, nth-past, nth}
 use Rattle.utf8.specs.Utf8.{isUtf8}
-use Rattle.texts.specs.Texts.{Piece, field, string, to-end}
-use Rattle.texts.specs.Reading.{untilZero, ReadPiece, readPiece, stringAt, pieceAt, Pieces, before, piecesAt, radioList, textIn}
-use Rattle.texts.specs.Access.{nthOf}
-use Rattle.texts.specs.PrivatePieces.{endIn, validIn, nthAt}
+use Rattle.texts.specs.Reading.{untilZero, countSize, textSpan, textIn}
+use Rattle.texts.specs.PrivateSteps.{validIn, nthAt}
 
 -- a byte that is none, a zero byte, and the end
 pub until-on : (s : List ℕ) (i : ℕ) → i < length s → (getD s i 0 ≡ 0 → ⊥) → untilZero (drop i s) ≡ suc (untilZero (drop (i + 1) s))
@@ -41,159 +43,106 @@ until-within (b ∷ s) = go (eqb b 0) (until-within s) where
   go true h = omega arith
   go false h = omega arith
 
--- a field and a string that are there, and those that are cut
-module _ (s : List ℕ) (p n : ℕ) where
-  pub field-there : p + n ≤ length s → pieceAt (field n) s p ≡ gives (readPiece p p (p + untilZero (take n (drop p s))) (p + n))
-  unfolding pieceAt
-  field-there h = reaches (p + n) s _ h
+-- a list starts after the head and the count
+list-first : (n : ℕ) (w : Counting) (e : Layout) (s : List ℕ) (p : ℕ) (m : ListAt) → listOf (entry n w e) s p ≡ gives m → m .first ≡ p + n + countSize w
+unfolding countAt
+list-first n c1 e s p m x = let r = reached _ s _ m (behind-head n c1 e s p m x .counts) in sym (ap (λ m. m .first) (r .1))
+list-first n c2 e s p m x = let r = reached _ s _ m (behind-head n c2 e s p m x .counts) in sym (ap (λ m. m .first) (r .1))
+list-first n to-end e s p m x = let y : p + n ≡ m .first = ap (λ m. m .first) (given _ m (behind-head n to-end e s p m x .counts)) in omega arith
 
-  pub field-cut : length s < p + n → pieceAt (field n) s p ≡ refuses 3 []
-  unfolding pieceAt
-  field-cut h = cut (p + n) s _ h
+-- the text of an entry that reads lies in it
+pub record TextLies (p q : ℕ) (t : Span) : Type 0 where
+  pub low : p ≤ t .start
+  pub ordered : t .start ≤ t .end
+  pub high : t .end ≤ q
 
-  string-on : p + n + 1 ≤ length s → pieceAt (string n) s p ≡ stringAt p (p + n + 1) (getD s (p + n) 0) s
-  unfolding pieceAt
-  string-on h = follows _ (p + n + 1) _ (reaches (p + n + 1) s (p + n + 1) h)
-
-  pub string-there : p + n + 1 + getD s (p + n) 0 ≤ length s →
-      pieceAt (string n) s p ≡ gives (readPiece p (p + n + 1) (p + n + 1 + getD s (p + n) 0) (p + n + 1 + getD s (p + n) 0))
-  string-there h = string-on (omega arith) ∙ reaches _ s _ h
-
-  pub string-headless : length s < p + n + 1 → pieceAt (string n) s p ≡ refuses 3 []
-  unfolding pieceAt
-  string-headless h = stops _ 3 [] _ (cut (p + n + 1) s (p + n + 1) h)
-
-  pub string-cut : p + n + 1 ≤ length s → length s < p + n + 1 + getD s (p + n) 0 → pieceAt (string n) s p ≡ refuses 3 []
-  string-cut h l = string-on h ∙ cut _ s _ l
-
--- a piece that was read lies in the value, and its text in it
-pub record Lies (s : List ℕ) (p : ℕ) (h : ReadPiece) : Type 0 where
-  pub from : h .start ≡ p
-  pub low : p ≤ h .text .start
-  pub ordered : h .text .start ≤ h .text .end
-  pub high : h .text .end ≤ h .end
-  pub inside : h .end ≤ length s
-
-pub piece-lies : (x : Piece) (s : List ℕ) (p : ℕ) (h : ReadPiece) → p ≤ length s → pieceAt x s p ≡ gives h → Lies s p h
-unfolding pieceAt
-piece-lies (field n) s p h l e =
-    let r = reached (p + n) s _ h e in
-    let w = until-within (take n (drop p s)) in
+pub text-lies : (l : Layout) (s : List ℕ) (p q : ℕ) → endOf l s p ≡ gives q → TextLies p q (textSpan l s (span p q))
+unfolding textSpan
+text-lies (bytes n) s p q x =
+    let w = end-within (bytes n) s p q x in
     let d = length-drop p s in
-    let b = r .0 in
-    let t = length-take-le n (drop p s) (omega arith) in
-    rw (← (r .1)) (record { from = refl; low = omega arith; ordered = omega arith; high = omega arith; inside = b })
-piece-lies (string n) s p h l e =
-    let g = gave (reaching (p + n + 1) s (p + n + 1)) (λ q. stringAt p q (getD s (p + n) 0) s) h e in
-    let a = reached (p + n + 1) s (p + n + 1) (g .first) (g .is) in
-    let r = reached _ s _ h (g .then) in
-    let b = r .0 in
-    let q : p + n + 1 ≡ g .first = a .1 in
-    rw (← (r .1)) (record { from = refl; low = omega arith; ordered = omega arith; high = omega arith; inside = b })
-piece-lies to-end s p h l e = rw (← (given _ h e)) (record { from = refl; low = omega arith; ordered = l; high = omega arith; inside = omega arith })
+    let t = length-take-le (q - p) (drop p s) (omega arith) in
+    let u = until-within (take (q - p) (drop p s)) in
+    record { low = omega arith; ordered = omega arith; high = omega arith }
+text-lies (entry n w e) s p q x =
+    let g = ends-in n w e s p q x in
+    let f = list-first n w e s p (g .list) (g .has) in
+    let v = list-within (entry n w e) s p (g .list) (g .has) in
+    let u = entries-within (endOf e s) s (end-within e s) (g .list .many) (g .list .first) q (v .1) (g .ends) in
+    record { low = omega arith; ordered = omega arith; high = omega arith }
 
--- of the pieces i to n: none is left, or one and those behind it
-pub pieces-none : (x : Piece) (s : List ℕ) (n i p : ℕ) → n ≤ i → piecesAt (n - i) x s p ≡ gives (record { each = []; end = p })
-unfolding piecesAt
-pieces-none x s n i p h = let e : n - i ≡ 0 = omega arith in rw e
+-- A loop over n entries that start at `at`, which finds out whether their texts are valid: those from i on, the next of which starts at p, say what all do.
+module _ (l : Layout) (s : List ℕ) where
+  abbrev pub Left : ℕ → ℕ → ℕ → ℕ → Type 0
+  Left n at i p = (i ≤ n) × (validIn l s (spansFrom (endOf l s) n at) ≡ validIn l s (spansFrom (endOf l s) (n - i) p))
 
-pub pieces-more : (x : Piece) (s : List ℕ) (n i p : ℕ) → i < n → piecesAt (n - i) x s p ≡ andThen (pieceAt x s p) (λ h. mapped (before h) (piecesAt (n - (i + 1)) x s (h .end)))
-unfolding piecesAt
-pieces-more x s n i p h = let e : n - i ≡ suc (n - (i + 1)) = omega arith in rw e
+  pub left-all : (n at : ℕ) → Left n at 0 at
+  left-all n at = (omega arith, rw sub-zero)
 
--- A loop over n pieces that start at `at`, which finds out f of them: those from i on, the next of which starts at p, say what all do.
-abbrev pub Left : {B : Type 0} → (Answer Pieces → B) → Piece → List ℕ → ℕ → ℕ → ℕ → ℕ → Type 0
-Left f x s n at i p = (i ≤ n) × (p ≤ length s) × (f (piecesAt n x s at) ≡ f (piecesAt (n - i) x s p))
+  module _ (n at i p : ℕ) (left : Left n at i p) where
+    pub left-none : n ≤ i → true ≡ validIn l s (spansFrom (endOf l s) n at)
+    unfolding spansFrom
+    left-none h = let e : n - i ≡ 0 = omega arith in sym (left .1 ∙ rw e)
 
-pub left-all : {B : Type 0} (f : Answer Pieces → B) (x : Piece) (s : List ℕ) (n at : ℕ) → at ≤ length s → Left f x s n at 0 at
-left-all f x s n at h = (omega arith, h, rw sub-zero)
+    next : i < n → validIn l s (spansFrom (endOf l s) n at) ≡ validIn l s (andThen (endOf l s p) (λ q. mapped (before (span p q)) (spansFrom (endOf l s) (n - (i + 1)) q)))
+    unfolding spansFrom
+    next h = let e : n - i ≡ suc (n - (i + 1)) = omega arith in left .1 ∙ rw e
 
-module _ {B : Type 0} (f : Answer Pieces → B) (x : Piece) (s : List ℕ) (n at i p : ℕ) (left : Left f x s n at i p) where
-  pub left-none : n ≤ i → f (gives (record { each = []; end = p })) ≡ f (piecesAt n x s at)
-  left-none h = sym (left .2 ∙ ap f (pieces-none x s n i p h))
+    pub left-cut : (m : ℕ) (vs : List ℕ) → i < n → endOf l s p ≡ refuses m vs → false ≡ validIn l s (spansFrom (endOf l s) n at)
+    left-cut m vs h e = sym (next h ∙ ap (validIn l s) (stops _ m vs _ e))
 
-  pub left-cut : (m : ℕ) (vs : List ℕ) → i < n → pieceAt x s p ≡ refuses m vs → f (refuses m vs) ≡ f (piecesAt n x s at)
-  left-cut m vs h e = sym (left .2 ∙ ap f (pieces-more x s n i p h ∙ stops _ m vs _ e))
+    module _ (q : ℕ) (h : i < n) (e : endOf l s p ≡ gives q) where
+      on : validIn l s (spansFrom (endOf l s) n at) ≡ validIn l s (mapped (before (span p q)) (spansFrom (endOf l s) (n - (i + 1)) q))
+      on = next h ∙ ap (validIn l s) (follows _ q _ e)
 
-  pub left-then : (h : ReadPiece) → i < n → pieceAt x s p ≡ gives h → f (mapped (before h) (piecesAt (n - (i + 1)) x s (h .end))) ≡ f (piecesAt n x s at)
-  left-then h l e = sym (left .2 ∙ ap f (pieces-more x s n i p l ∙ follows _ h _ e))
+      pub left-bad : isUtf8 (textIn l s (span p q)) ≡ false → false ≡ validIn l s (spansFrom (endOf l s) n at)
+      left-bad bad = sym (on ∙ go (spansFrom (endOf l s) (n - (i + 1)) q)) where
+        go : (y : Answer Spans) → validIn l s (mapped (before (span p q)) y) ≡ false
+        go (gives r) = rw bad
+        go (refuses m vs) = refl
 
-  pub left-more : (h : ReadPiece) → i < n → pieceAt x s p ≡ gives h → ((y : Answer Pieces) → f (mapped (before h) y) ≡ f y) → Left f x s n at (i + 1) (h .end)
-  left-more h l e same = (omega arith, piece-lies x s p h (left .1) e .inside, sym (left-then h l e) ∙ same (piecesAt (n - (i + 1)) x s (h .end)))
+      pub left-more : isUtf8 (textIn l s (span p q)) ≡ true → Left n at (i + 1) q
+      left-more good = (omega arith, on ∙ go (spansFrom (endOf l s) (n - (i + 1)) q)) where
+        go : (y : Answer Spans) → validIn l s (mapped (before (span p q)) y) ≡ validIn l s y
+        go (gives r) = rw good
+        go (refuses m vs) = refl
 
--- what a piece in front changes: not where the last one ends, and not whether all are valid, if it is
-pub end-before : (h : ReadPiece) (y : Answer Pieces) → mapped endIn (mapped (before h) y) ≡ mapped endIn y
-end-before h (gives r) = refl
-end-before h (refuses n vs) = refl
+-- an entry that reads and lies between p and q
+pub record Among (l : Layout) (s : List ℕ) (p q : ℕ) (a : Span) : Type 0 where
+  pub low : p ≤ a .start
+  pub reads : endOf l s (a .start) ≡ gives (a .end)
+  pub high : a .end ≤ q
 
-pub valid-before : (s : List ℕ) (h : ReadPiece) → isUtf8 (textIn s h) ≡ true → (y : Answer Pieces) → validIn s (mapped (before h) y) ≡ validIn s y
-valid-before s h e (gives r) = rw e
-valid-before s h e (refuses n vs) = refl
-
-pub bad-before : (s : List ℕ) (h : ReadPiece) → isUtf8 (textIn s h) ≡ false → (y : Answer Pieces) → validIn s (mapped (before h) y) ≡ false
-bad-before s h e (gives r) = rw e
-bad-before s h e (refuses n vs) = refl
-
--- pieces end at or behind their start, in the value
-pub pieces-within : (n : ℕ) (x : Piece) (s : List ℕ) (p : ℕ) (r : Pieces) → p ≤ length s → piecesAt n x s p ≡ gives r → Within p (r .end) s
-unfolding piecesAt
-pieces-within zero x s p r l e = let y : p ≡ r .end = ap (λ r. r .end) (given _ r e) in omega arith
-pieces-within (suc n) x s p r l e =
-    let g = gave (pieceAt x s p) (λ h. mapped (before h) (piecesAt n x s (h .end))) r e in
-    let h = g .first in
-    let m = mapped-gave (before h) (piecesAt n x s (h .end)) r (g .then) in
-    let a = piece-lies x s p h l (g .is) in
-    let b = pieces-within n x s (h .end) (m .first) (a .inside) (m .is) in
-    let z : m .first .end ≡ r .end = ap (λ r. r .end) (given _ r (m .then)) in
-    omega arith
-
-pub ends-within : (n : ℕ) (x : Piece) (s : List ℕ) (p q : ℕ) → p ≤ length s → mapped endIn (piecesAt n x s p) ≡ gives q → Within p q s
-ends-within n x s p q l e =
-    let m = mapped-gave endIn (piecesAt n x s p) q e in
-    let w = pieces-within n x s p (m .first) l (m .is) in
-    let z : m .first .end ≡ q = given _ q (m .then) in
-    omega arith
-
-pub radios-within : (b : Bool) (s : List ℕ) (p : ℕ) (m : ListAt) → p ≤ length s → radioList b s p ≡ gives m → Within p (m .first) s
-unfolding radioList
-radios-within false s p m l e = let y : p ≡ m .first = ap (λ m. m .first) (given _ m e) in omega arith
-radios-within true s p m l e = let r = reached (p + 1) s _ m e in let y : p + 1 ≡ m .first = ap (λ m. m .first) (r .1) in let z = r .0 in omega arith
-
--- piece i of n: there is none, or those before it are passed
-module _ (x : Piece) (n i : ℕ) (s : List ℕ) (p : ℕ) where
-  pub nth-none : n ≤ i → nthAt x n i s p ≡ refuses 6 []
+-- entry i of n: there is none, or those before it are passed
+module _ (l : Layout) (n i : ℕ) (s : List ℕ) (p : ℕ) where
+  pub nth-none : n ≤ i → nthAt l n i s p ≡ refuses 6 []
   unfolding nthAt
   nth-none h = rw (le-ltb i n h)
 
-  pub nth-behind : i < n → nthAt x n i s p ≡ andThen (mapped endIn (piecesAt i x s p)) (λ q. pieceAt x s q)
+  pub nth-after : i < n → nthAt l n i s p ≡ andThen (entriesEnd (endOf l s) i p) (λ a. mapped (span a) (endOf l s a))
   unfolding nthAt
-  nth-behind h = rw (lt-ltb i n h)
+  nth-after h = rw (lt-ltb i n h)
 
--- of pieces that are there, it is the one with this number
-pub nth-held : (x : Piece) (n i : ℕ) (s : List ℕ) (p : ℕ) (r : Pieces) → piecesAt n x s p ≡ gives r → nthAt x n i s p ≡ nthOf (r .each) i
-unfolding piecesAt
-nth-held x zero i s p r e = nth-none x 0 i s p (omega arith) ∙ ap (λ r. nthOf (r .each) i) (given _ r e)
-nth-held x (suc n) i s p r e = go i (λ j. nth-held x n j s (h .end) (m .first) (m .is)) ∙ ap (λ r. nthOf (r .each) i) (given _ r (m .then))
-  where
-    g : Given (pieceAt x s p) (λ h. mapped (before h) (piecesAt n x s (h .end))) r
-    g = gave (pieceAt x s p) (λ h. mapped (before h) (piecesAt n x s (h .end))) r e
+  -- of entries that are there, it is the one with this number
+  module _ (r : Spans) (e : spansFrom (endOf l s) n p ≡ gives r) where
+    pub nth-held : nthAt l n i s p ≡ nthOf (r .each) i
+    nth-held = go (ltb i n) refl where
+      go : (t : Bool) → ltb i n ≡ t → nthAt l n i s p ≡ nthOf (r .each) i
+      go true t =
+          let h = ltb-true i n t in
+          let a = nth (endOf l s) s (end-within l s) n p r i h e in
+          nth-after h ∙ follows _ (a .start) _ (a .starts) ∙ mapped-given _ _ (a .lies .stop) (a .lies .reads) ∙ sym (a .is)
+      go false t = let h = ltb-false i n t in let m = spans-many (endOf l s) n p r e in nth-none h ∙ sym (nth-past (r .each) i (omega arith))
 
-    h : ReadPiece
-    h = g .first
-
-    m : Given (piecesAt n x s (h .end)) (λ a. gives (before h a)) r
-    m = mapped-gave (before h) (piecesAt n x s (h .end)) r (g .then)
-
-    shift : (y : Answer Pieces) (k : ℕ → Answer ReadPiece) → andThen (mapped endIn (mapped (before h) y)) k ≡ andThen (mapped endIn y) k
-    shift y k = rw (end-before h y)
-
-    go : (i : ℕ) → ((j : ℕ) → nthAt x n j s (h .end) ≡ nthOf (m .first .each) j) → nthAt x (suc n) i s p ≡ nthOf (h ∷ m .first .each) i
-    go zero on = nth-behind x (suc n) 0 s p (omega arith) ∙ g .is
-    go (suc j) on = by-number (ltb j n) refl
-      where
-        by-number : (t : Bool) → ltb j n ≡ t → nthAt x (suc n) (suc j) s p ≡ nthOf (m .first .each) j
-        by-number true t =
-            let l = ltb-true j n t in
-            nth-behind x (suc n) (suc j) s p (omega arith) ∙ ap (λ y. andThen (mapped endIn y) (λ q. pieceAt x s q)) (follows _ h _ (g .is)) ∙
-            shift (piecesAt j x s (h .end)) (λ q. pieceAt x s q) ∙ sym (nth-behind x n j s (h .end) l) ∙ on j
-        by-number false t = let l = ltb-false j n t in nth-none x (suc n) (suc j) s p (omega arith) ∙ sym (nth-none x n j s (h .end) l) ∙ on j
+    -- and lies among them
+    pub among : (a : Span) → nthOf (r .each) i ≡ gives a → Among l s p (r .end) a
+    among a x = go (ltb i n) refl where
+      go : (t : Bool) → ltb i n ≡ t → Among l s p (r .end) a
+      go true t =
+          let b = nth (endOf l s) s (end-within l s) n p r i (ltb-true i n t) e in
+          let c = b .lies in
+          rw (← (given _ a (sym (b .is) ∙ x))) (record { low = c .low; reads = c .reads; high = c .high })
+      go false t =
+          let h = ltb-false i n t in
+          let m = spans-many (endOf l s) n p r e in
+          never a 6 [] (sym x ∙ nth-past (r .each) i (omega arith))

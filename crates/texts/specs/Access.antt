@@ -1,23 +1,10 @@
 -- Access by numbers: a radio of a value as an entry, and each text as its own part. "16, 3, 18" and then 6: the whole value has to read.
 use mathlib.Core.List.{List, [], _∷_}
-use Prim.Native.Nat.{ℕ, zero, suc}
+use Prim.Native.Nat.{ℕ}
 use Rattle.numbers.specs.Numbers.{Answer, gives, refuses, andThen, mapped}
-use Rattle.layouts.specs.Access.{Span}
-use Rattle.texts.specs.Texts.{TextKind, textKind}
-use Rattle.texts.specs.Reading.{ReadPiece, Laid, wholeOf}
-
--- number i of these, from 0; 6 where there is none
-abbrev pub nthOf : List ReadPiece → ℕ → Answer ReadPiece
-nthOf [] i = refuses 6 []
-nthOf (h ∷ hs) zero = gives h
-nthOf (h ∷ hs) (suc i) = nthOf hs i
-
--- a piece from its start to its end
-abbrev pub wholeSpan : ReadPiece → Span
-wholeSpan h = record { start = h .start; end = h .end }
-
-abbrev pub textSpan : ReadPiece → Span
-textSpan h = h .text
+use Rattle.layouts.specs.Access.{Span, nthOf}
+use Rattle.texts.specs.Texts.{TextKind, textKind, radio}
+use Rattle.texts.specs.Reading.{textSpan, Laid, wholeOf}
 
 -- what is asked of a value that reads
 unfoldable pub ofText : {A : Type 0} → ℕ → (TextKind → Laid → Answer A) → List ℕ → Answer A
@@ -26,7 +13,7 @@ ofText code f s = andThen (textKind code) (λ k. andThen (wholeOf k s) (λ v. f 
 -- "the radios are entries": the radio with this number, its id and its string; without a number, and with a second one, no entry is asked for
 abbrev pub radioIn : List ℕ → Laid → Answer Span
 radioIn [] v = refuses 6 []
-radioIn (i ∷ []) v = mapped wholeSpan (nthOf (v .radios .each) i)
+radioIn (i ∷ []) v = nthOf (v .radios .each) i
 radioIn (i ∷ j ∷ is) v = refuses 6 []
 
 unfoldable pub locateRadio : ℕ → List ℕ → List ℕ → Answer Span
@@ -42,7 +29,7 @@ countRadios code is s = ofText code (λ k v. radioCount is v) s
 
 -- the value's own text with this number, and the text of the radio with this number
 unfoldable pub locateText : ℕ → ℕ → List ℕ → Answer Span
-locateText code i s = ofText code (λ k v. mapped textSpan (nthOf (v .texts .each) i)) s
+locateText code i s = ofText code (λ k v. mapped (textSpan (k .piece) s) (nthOf (v .texts .each) i)) s
 
 unfoldable pub locateRadioText : ℕ → List ℕ → Answer Span
-locateRadioText i s = ofText 0xD4 (λ k v. mapped textSpan (nthOf (v .radios .each) i)) s
+locateRadioText i s = mapped (textSpan radio s) (locateRadio 0xD4 (i ∷ []) s)

@@ -18,19 +18,19 @@ use Rattle.texts.specs.Reading.{readText}
 use Rattle.texts.specs.Access.{locateRadio, countRadios, locateText, locateRadioText}
 
 -- each public call by its name: any two answers that its contract allows are one. A part is its bytes and its place.
-abbrev pub FirmPart : Answer Span → RefT (List ℕ) → Type 0
-FirmPart x s = Firm {A = List ℕ × (ℕ × ℕ)} (λ r. (r .0 ≡ partOf x (now s)) × (r .1 ≡ behind (startIn x) s))
-
 pub record Firmness : Type 0 where
   pub is-text : (code : ℕ) → Firm (λ r. r ≡ isText code)
   pub read-value : (code : ℕ) (s : List ℕ) → Firm (λ r. readingOf r ≡ readText code s)
   pub locate : (code : ℕ) (path : Path) (s : List ℕ) → Firm (λ r. locatedOf r ≡ locateRadio code (numbersOf path) s)
-  pub entry : (code : ℕ) (path : Path) (s : RefT (List ℕ)) → FirmPart (locateRadio code (numbersOf path) (now s)) s
+  pub entry : (code : ℕ) (path : Path) (s : RefT (List ℕ)) → Firm {A = List ℕ × (ℕ × ℕ)} (λ r.
+      (r .0 ≡ partOf (locateRadio code (numbersOf path) (now s)) (now s)) × (r .1 ≡ behind (startIn (locateRadio code (numbersOf path) (now s))) s))
   pub count : (code : ℕ) (path : Path) (s : List ℕ) → Firm (λ r. countedOf r ≡ countRadios code (numbersOf path) s)
   pub locate-text : (code number : ℕ) (s : List ℕ) → Firm (λ r. locatedOf r ≡ locateText code number s)
-  pub text : (code number : ℕ) (s : RefT (List ℕ)) → FirmPart (locateText code number (now s)) s
+  pub text : (code number : ℕ) (s : RefT (List ℕ)) → Firm {A = List ℕ × (ℕ × ℕ)} (λ r.
+      (r .0 ≡ partOf (locateText code number (now s)) (now s)) × (r .1 ≡ behind (startIn (locateText code number (now s))) s))
   pub locate-radio-text : (number : ℕ) (s : List ℕ) → Firm (λ r. locatedOf r ≡ locateRadioText number s)
-  pub radio-text : (number : ℕ) (s : RefT (List ℕ)) → FirmPart (locateRadioText number (now s)) s
+  pub radio-text : (number : ℕ) (s : RefT (List ℕ)) → Firm {A = List ℕ × (ℕ × ℕ)} (λ r.
+      (r .0 ≡ partOf (locateRadioText number (now s)) (now s)) × (r .1 ≡ behind (startIn (locateRadioText number (now s))) s))
 
 -- a text that is found lies in the q bytes consumed, and is valid
 pub record Text (x : Answer Span) (s : List ℕ) (q : ℕ) : Type 0 where

@@ -1,5 +1,5 @@
 pub mod Texts
 pub mod Reading
 pub mod Access
-pub mod PrivatePieces
+pub mod PrivateSteps
 pub mod Claims

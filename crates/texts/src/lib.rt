@@ -8,8 +8,8 @@ use layouts::Counted;
 use layouts::Located;
 use layouts::Path;
 use layouts::Reading;
-use reading::Laid;
-use rows::KindRow;
+use reading::Outlined;
+use rows::TextKindRow;
 ghost use mathlib.Core.Path.{_≡_};
 ghost use Rattle.numbers.specs.Parts.{behind};
 ghost use Rattle.layouts.specs.Reading.{readingOf};
@@ -23,8 +23,8 @@ pub fn is_text(code: u8) -> bool
     ensures { λ r. ⌜ r ≡ isText code ⌝ }
 {
     match rows::row_of(code) {
-        KindRow::Text(_) => true,
-        KindRow::Refused(_) => false,
+        TextKindRow::Text(_) => true,
+        TextKindRow::Refused(_) => false,
     }
 }
 
@@ -33,15 +33,15 @@ pub fn read_value(code: u8, s: &[u8]) -> Reading
     ensures { λ r. ⌜ readingOf r ≡ readText code (now (s .entry)) ⌝ }
 {
     match rows::row_of(code) {
-        KindRow::Text(row) => match reading::read_row(row, s) {
-            Laid::Of { n, first: _, end } => Reading::Value {
+        TextKindRow::Text(row) => match reading::read_row(row, s) {
+            Outlined::Of { n, first: _, end } => Reading::Value {
                 consumed: end,
                 rest: s.len() - end,
                 entries: n,
             },
-            Laid::Refused(r) => Reading::Refused(r),
+            Outlined::Refused(r) => Reading::Refused(r),
         },
-        KindRow::Refused(r) => Reading::Refused(r),
+        TextKindRow::Refused(r) => Reading::Refused(r),
     }
 }
 
@@ -50,8 +50,8 @@ pub fn locate(code: u8, path: Path, s: &[u8]) -> Located
     ensures { λ r. ⌜ locatedOf r ≡ locateRadio code (numbersOf path) (now (s .entry)) ⌝ }
 {
     match rows::row_of(code) {
-        KindRow::Text(row) => access::radio_in(row, path, s),
-        KindRow::Refused(r) => Located::Refused(r),
+        TextKindRow::Text(row) => access::radio_in(row, path, s),
+        TextKindRow::Refused(r) => Located::Refused(r),
     }
 }
 
@@ -68,8 +68,8 @@ pub fn count(code: u8, path: Path, s: &[u8]) -> Counted
     ensures { λ r. ⌜ countedOf r ≡ countRadios code (numbersOf path) (now (s .entry)) ⌝ }
 {
     match rows::row_of(code) {
-        KindRow::Text(row) => access::count_in(row, path, s),
-        KindRow::Refused(r) => Counted::Refused(r),
+        TextKindRow::Text(row) => access::count_in(row, path, s),
+        TextKindRow::Refused(r) => Counted::Refused(r),
     }
 }
 
@@ -78,8 +78,8 @@ pub fn locate_text(code: u8, number: usize, s: &[u8]) -> Located
     ensures { λ r. ⌜ locatedOf r ≡ locateText code number (now (s .entry)) ⌝ }
 {
     match rows::row_of(code) {
-        KindRow::Text(row) => access::text_in(row, number, s),
-        KindRow::Refused(r) => Located::Refused(r),
+        TextKindRow::Text(row) => access::text_in(row, number, s),
+        TextKindRow::Refused(r) => Located::Refused(r),
     }
 }
 
@@ -95,10 +95,13 @@ pub fn text(code: u8, number: usize, s: &[u8]) -> &[u8]
 pub fn locate_radio_text(number: usize, s: &[u8]) -> Located
     ensures { λ r. ⌜ locatedOf r ≡ locateRadioText number (now (s .entry)) ⌝ }
 {
-    match rows::row_of(0xD4) {
-        KindRow::Text(row) => access::radio_text_in(row, number, s),
-        KindRow::Refused(r) => Located::Refused(r),
-    }
+    let path = Path {
+        depth: 1,
+        i0: number,
+        i1: 0,
+        i2: 0,
+    };
+    pieces::text_of(rows::radio(), locate(0xD4, path, s), s)
 }
 
 // That text as its own part of s; the empty start of s where `locate_radio_text` refuses.

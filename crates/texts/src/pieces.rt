@@ -1,30 +1,25 @@
-// Pieces that hold text, one behind the other.
-use crate::rows::Piece;
-use crate::rows::wide;
+// The text of an entry, and entries one after the other.
+use layouts::End;
+use layouts::Located;
+use layouts::Row;
+use layouts::read_entry;
+use layouts::read_list;
 use numbers::Refusal;
 use utf8::is_utf8;
 ghost use mathlib.Core.Path.{_≡_};
-ghost use Prim.Native.Nat.{_≤_, _<_};
+ghost use Prim.Native.Nat.{_≤_};
 ghost use lib.ListN.{length};
 ghost use Rattle.numbers.specs.Numbers.{mapped};
-ghost use Rattle.texts.specs.Reading.{untilZero, pieceAt, piecesAt};
-ghost use Rattle.texts.specs.PrivatePieces.{pieceOf, pieceTold, endTold, endIn, validIn, nthAt};
+ghost use Rattle.layouts.specs.Rows.{counting, rowLayout};
+ghost use Rattle.layouts.specs.Reading.{endOf};
+ghost use Rattle.layouts.specs.Access.{locatedOf, spansFrom};
+ghost use Rattle.texts.specs.Reading.{untilZero, countSize, textSpan};
+ghost use Rattle.texts.specs.PrivateSteps.{textAt, validIn, nthAt, InValue};
 
-// A piece that was read: where it starts, where its text starts and ends, and where it ends.
-pub(crate) enum ReadPiece {
-    Of {
-        at: usize,
-        start: usize,
-        stop: usize,
-        end: usize,
-    },
-    Refused(Refusal),
-}
-
-// Where a piece, or the last of several, ends.
-pub(crate) enum End {
-    At(usize),
-    Refused(Refusal),
+// Where a text starts and ends.
+pub(crate) struct TextAt {
+    pub start: usize,
+    pub end: usize,
 }
 
 // How many bytes stand before the first zero byte; all of them, without one.
@@ -41,110 +36,72 @@ fn until_zero(s: &[u8]) -> usize
     i
 }
 
-// The field of n bytes that starts at `at`.
-fn field_at(n: usize, s: &[u8], at: usize) -> ReadPiece
-    requires { ⌜ at ≤ length (now s) ⌝ }
-    ensures { λ r. ⌜ pieceTold r ≡ pieceAt (pieceOf (Piece.Field n)) (now (s .entry)) at ⌝ }
+// The bytes of a count.
+fn count_size(w: u8) -> usize
+    ensures { λ r. ⌜ (r ≡ countSize (counting w)) × (r ≤ 2) ⌝ }
 {
-    if s.len() - at < n {
-        return ReadPiece::Refused(Refusal::CutShort);
+    if w == 0 {
+        return 0;
     }
-    let end = at + n;
-    let field = &s[at..end];
-    ReadPiece::Of {
-        at,
-        start: at,
-        stop: at + until_zero(field),
+    if w == 1 {
+        return 1;
+    }
+    2
+}
+
+// The text of the entry of this row that lies from `start` to `end`.
+fn text_span(row: Row, s: &[u8], start: usize, end: usize) -> TextAt
+    requires { ⌜ (start ≤ end) × (end ≤ length (now s)) ⌝ }
+    ensures { λ r. ⌜ textAt r ≡ textSpan (rowLayout row) (now (s .entry)) (record { start = start; end = end }) ⌝ }
+{
+    if row.levels == 0 {
+        let field = &s[start..end];
+        return TextAt {
+            start,
+            end: start + until_zero(field),
+        };
+    }
+    TextAt {
+        start: start + wide(row.h0) + count_size(row.w0),
         end,
     }
 }
 
-// The string that stands behind n bytes and its one-byte length.
-fn string_at(n: usize, s: &[u8], at: usize) -> ReadPiece
-    requires { ⌜ at ≤ length (now s) ⌝ }
-    ensures { λ r. ⌜ pieceTold r ≡ pieceAt (pieceOf (Piece.Counted n)) (now (s .entry)) at ⌝ }
+// The text of an entry that was located.
+pub(crate) fn text_of(row: Row, located: Located, s: &[u8]) -> Located
+    requires { ⌜ InValue (locatedOf located) (now s) ⌝ }
+    ensures { λ r. ⌜ locatedOf r ≡ mapped (textSpan (rowLayout row) (now (s .entry))) (locatedOf located) ⌝ }
 {
-    if s.len() - at <= n {
-        return ReadPiece::Refused(Refusal::CutShort);
-    }
-    let size = wide(s[at + n]);
-    let start = at + n + 1;
-    if s.len() - start < size {
-        return ReadPiece::Refused(Refusal::CutShort);
-    }
-    let end = start + size;
-    ReadPiece::Of {
-        at,
-        start,
-        stop: end,
-        end,
-    }
-}
-
-// The piece that starts at `at`.
-pub(crate) fn piece_at(piece: Piece, s: &[u8], at: usize) -> ReadPiece
-    requires { ⌜ at ≤ length (now s) ⌝ }
-    ensures { λ r. ⌜ pieceTold r ≡ pieceAt (pieceOf piece) (now (s .entry)) at ⌝ }
-{
-    match piece {
-        Piece::Field(n) => field_at(n, s, at),
-        Piece::Counted(n) => string_at(n, s, at),
-        Piece::ToEnd => ReadPiece::Of {
-            at,
-            start: at,
-            stop: s.len(),
-            end: s.len(),
-        },
-    }
-}
-
-// Where n pieces end, the first of which starts at `at`.
-pub(crate) fn skip(piece: Piece, n: usize, s: &[u8], at: usize) -> End
-    requires { ⌜ at ≤ length (now s) ⌝ }
-    ensures { λ r. ⌜ endTold r ≡ mapped endIn (piecesAt n (pieceOf piece) (now (s .entry)) at) ⌝ }
-{
-    let mut p = at;
-    let mut i = 0;
-    while i < n {
-        match piece_at(piece, s, p) {
-            ReadPiece::Of {
-                at: _,
-                start: _,
-                stop: _,
-                end,
-            } => {
-                p = end;
-            }
-            ReadPiece::Refused(r) => {
-                return End::Refused(r);
+    match located {
+        Located::Entry { start, end } => {
+            let text = text_span(row, s, start, end);
+            Located::Entry {
+                start: text.start,
+                end: text.end,
             }
         }
-        i += 1;
+        Located::Refused(r) => Located::Refused(r),
     }
-    End::At(p)
 }
 
-// Whether the texts of n pieces that are there, the first of which starts at `at`, are UTF-8.
-pub(crate) fn all_valid(piece: Piece, n: usize, s: &[u8], at: usize) -> bool
-    requires { ⌜ at ≤ length (now s) ⌝ }
-    ensures { λ r. ⌜ r ≡ validIn (now (s .entry)) (piecesAt n (pieceOf piece) (now (s .entry)) at) ⌝ }
+// Whether the texts of n entries that are there, the first of which starts at `at`, are UTF-8.
+pub(crate) fn all_valid(row: Row, n: usize, s: &[u8], at: usize) -> bool
+    ensures { λ r. ⌜ r ≡ validIn (rowLayout row) (now (s .entry)) (spansFrom (endOf (rowLayout row) (now (s .entry))) n at) ⌝ }
 {
     let mut p = at;
     let mut i = 0;
     while i < n {
-        match piece_at(piece, s, p) {
-            ReadPiece::Of {
-                at: _,
-                start,
-                stop,
-                end,
-            } => {
-                if !is_utf8(&s[start..stop]) {
+        match read_entry(row, s, p) {
+            End::At(q) => {
+                let text = text_span(row, s, p, q);
+                let start = text.start;
+                let end = text.end;
+                if !is_utf8(&s[start..end]) {
                     return false;
                 }
-                p = end;
+                p = q;
             }
-            ReadPiece::Refused(_) => {
+            End::Refused(_) => {
                 return false;
             }
         }
@@ -153,20 +110,24 @@ pub(crate) fn all_valid(piece: Piece, n: usize, s: &[u8], at: usize) -> bool
     true
 }
 
-// Piece i of n, the first of which starts at `at`.
-pub(crate) fn nth(piece: Piece, n: usize, i: usize, s: &[u8], at: usize) -> ReadPiece
-    requires { ⌜ at ≤ length (now s) ⌝ }
-    ensures { λ r. ⌜ pieceTold r ≡ nthAt (pieceOf piece) n i (now (s .entry)) at ⌝ }
+// Entry i of n, the first of which starts at `at`.
+pub(crate) fn nth(row: Row, n: usize, i: usize, s: &[u8], at: usize) -> Located
+    ensures { λ r. ⌜ locatedOf r ≡ nthAt (rowLayout row) n i (now (s .entry)) at ⌝ }
 {
-    if i < n {
-        match skip(piece, i, s, at) {
-            End::At(p) => {
-                return piece_at(piece, s, p);
-            }
-            End::Refused(r) => {
-                return ReadPiece::Refused(r);
-            }
-        }
+    if n <= i {
+        return Located::Refused(Refusal::NoEntry);
     }
-    ReadPiece::Refused(Refusal::NoEntry)
+    match read_list(row, i, s, at) {
+        End::At(start) => match read_entry(row, s, start) {
+            End::At(end) => Located::Entry { start, end },
+            End::Refused(r) => Located::Refused(r),
+        },
+        End::Refused(r) => Located::Refused(r),
+    }
+}
+
+fn wide(x: u8) -> usize
+    ensures { λ r. ⌜ (r ≡ x) × (r ≤ 255) ⌝ }
+{
+    x as usize
 }

@@ -1,65 +1,84 @@
 // The table of the kinds that hold text.
+use layouts::Row;
 use numbers::Refusal;
 ghost use mathlib.Core.Path.{_≡_};
-ghost use Prim.Native.Nat.{_<_};
-ghost use Rattle.texts.specs.Texts.{textKind};
-ghost use Rattle.texts.specs.PrivatePieces.{rowTold};
+ghost use Rattle.layouts.specs.Layouts.{c1-of};
+ghost use Rattle.layouts.specs.Rows.{rowLayout};
+ghost use Rattle.texts.specs.Texts.{textKind, radio};
+ghost use Rattle.texts.specs.PrivateSteps.{rowTold};
 
-// What a text stands in: a field of so many bytes, so many bytes and then a string with a one-byte length, or all bytes to the end.
-pub(crate) enum Piece {
-    Field(usize),
-    Counted(usize),
-    ToEnd,
-}
-
-// A row of the table: so many pieces, and then the radios, where there are any.
-pub(crate) struct Row {
+// A row of the table: so many pieces of this layout, and then the radios, where there are any.
+pub(crate) struct TextRow {
     pub many: usize,
-    pub piece: Piece,
+    pub piece: Row,
     pub radios: bool,
 }
 
-pub(crate) enum KindRow {
-    Text(Row),
+pub(crate) enum TextKindRow {
+    Text(TextRow),
     Refused(Refusal),
 }
 
-// The row of the kind with this code.
-pub(crate) fn row_of(code: u8) -> KindRow
-    ensures { λ r. ⌜ rowTold r ≡ textKind code ⌝ }
+// A piece of so many bytes; and then, at level 1, a list of bytes whose count has w bytes, or that goes to the end where w is 0.
+fn piece(levels: u8, h: u8, w: u8) -> Row
+    ensures { λ r. ⌜ r ≡ record { levels = levels; h0 = h; w0 = w; h1 = 1; w1 = 0; h2 = 0; w2 = 0; h3 = 0 } ⌝ }
 {
-    match code {
-        // DeviceIdentificationType
-        21 => KindRow::Text(Row {
-            many: 3,
-            piece: Piece::Field(64),
-            radios: false,
-        }),
-        // ControlUrl
-        22 => KindRow::Text(Row {
-            many: 1,
-            piece: Piece::ToEnd,
-            radios: false,
-        }),
-        // DeviceInventory
-        0xD4 => KindRow::Text(Row {
-            many: 3,
-            piece: Piece::Counted(0),
-            radios: true,
-        }),
-        _ => KindRow::Refused(Refusal::UnknownKind),
+    Row {
+        levels,
+        h0: h,
+        w0: w,
+        h1: 1,
+        w1: 0,
+        h2: 0,
+        w2: 0,
+        h3: 0,
     }
 }
 
 // A radio: its id of 6 bytes, and a string.
-pub(crate) fn radio() -> Piece
-    ensures { λ r. ⌜ r ≡ Piece.Counted 6 ⌝ }
+pub(crate) fn radio() -> Row
+    ensures { λ r. ⌜ rowLayout r ≡ radio ⌝ }
 {
-    Piece::Counted(6)
+    piece(1, 6, 1)
 }
 
-pub(crate) fn wide(x: u8) -> usize
-    ensures { λ r. ⌜ (r ≡ x) × (r < 256) ⌝ }
+// The list of the radios.
+pub(crate) fn radio_list() -> Row
+    ensures { λ r. ⌜ rowLayout r ≡ c1-of radio ⌝ }
 {
-    x as usize
+    Row {
+        levels: 2,
+        h0: 0,
+        w0: 1,
+        h1: 6,
+        w1: 1,
+        h2: 1,
+        w2: 0,
+        h3: 0,
+    }
+}
+
+fn text_row(many: usize, piece: Row, radios: bool) -> TextKindRow
+    ensures { λ r. ⌜ r ≡ TextKindRow.Text (record { many = many; piece = piece; radios = radios }) ⌝ }
+{
+    TextKindRow::Text(TextRow {
+        many,
+        piece,
+        radios,
+    })
+}
+
+// The row of the kind with this code.
+pub(crate) fn row_of(code: u8) -> TextKindRow
+    ensures { λ r. ⌜ rowTold r ≡ textKind code ⌝ }
+{
+    match code {
+        // DeviceIdentificationType
+        21 => text_row(3, piece(0, 64, 0), false),
+        // ControlUrl
+        22 => text_row(1, piece(1, 0, 0), false),
+        // DeviceInventory
+        0xD4 => text_row(3, piece(1, 0, 1), true),
+        _ => TextKindRow::Refused(Refusal::UnknownKind),
+    }
 }

@@ -1,27 +1,20 @@
--- The row of the code is asked, or its refusal is passed on.
+-- The text of the radio that `locate` finds.
 use borrow.Author.Needs.{needs}
 use Rattle.texts.proofs.locate_radio_text.Statement.{statement}
 use Rattle.texts.proofs.locate_radio_text.Tie as tie
-use mathlib.Core.Path.{_≡_, sym, _∙_}
-use Rattle.numbers.specs.Numbers.{gives}
-use Rattle.numbers.proofs.Answers.{follows, stops}
-use Rattle.texts.specs.Texts.{textKind}
-use Rattle.texts.specs.Access.{ofText, locateRadioText}
-use Rattle.texts.specs.PrivatePieces.{rowKind}
+use mathlib.Core.List.{[], _∷_}
+use mathlib.Core.Path.{_∙_}
+use Rattle.texts.specs.Access.{locateRadio, locateRadioText}
+use Rattle.texts.proofs.Asked.{in-value, radio-within}
 
--- the row that was found
-has : (c : tie.After-row) → textKind 0xD4 ≡ gives (rowKind (c .row .given .0 .0))
-has c = sym (rw (c .row .given .1) at (c .before .before .row-of .ensures))
+text-of-requires : tie.Need-text-of-requires
+text-of-requires c κs =
+    let a = c .before .before .before .args in
+    rw (c .locate .ensures) (in-value (locateRadio 0xD4 (a .number ∷ []) (a .s .now)) (a .s .now) (radio-within 0xD4 (a .number ∷ []) (a .s .now)))
 
 returns : tie.Need-returns
-unfolding ofText locateRadioText
-returns c = c .radio-text-in .ensures ∙ sym (follows _ _ _ (has (c .before .before)))
-
-returns-2 : tie.Need-returns-2
-unfolding ofText locateRadioText
-returns-2 c = sym (stops _ _ _ _ (sym (rw (c .before .r .given .1) at (c .before .before .before .row-of .ensures))))
+unfolding locateRadioText
+returns c = c .text-of .ensures ∙ rw (c .before .before .radio .ensures, c .before .locate .ensures)
 
 pub locate-radio-text-spec : {M : Type 1} → statement M
-locate-radio-text-spec =
-    tie.close
-    (tie.spec (λ c κs. search needs) (λ c. search needs) (λ c κs. search needs) (λ c. search needs) returns returns-2)
+locate-radio-text-spec = tie.close (tie.spec (λ c κs. search needs) (λ c κs. search needs) text-of-requires returns)

@@ -7,8 +7,8 @@ use Rattle.numbers.specs.Numbers.{gives}
 use Rattle.numbers.proofs.Answers.{follows, stops, mapped-given, mapped-refused}
 use Rattle.texts.specs.Texts.{textKind}
 use Rattle.texts.specs.Reading.{consumedIn, wholeOf, readText}
-use Rattle.texts.specs.PrivatePieces.{rowKind}
-use Rattle.texts.proofs.Whole.{Outlined, outlined-of, not-outlined, end-within}
+use Rattle.texts.specs.PrivateSteps.{rowKind}
+use Rattle.texts.proofs.Whole.{Whole, whole-of, not-outlined, whole-end}
 
 -- the row that was found, and the value that was read
 has : (c : tie.After-row) → textKind (c .before .before .before .before .args .code) ≡ gives (rowKind (c .row .given .0 .0))
@@ -17,15 +17,15 @@ has c = sym (rw (c .row .given .1) at (c .before .before .row-of .ensures))
 whole : (c : tie.After-n) →
     let r = c .before .before .before .before in
     let g = c .n .given .0 in
-    Outlined (wholeOf (rowKind (r .row .given .0 .0)) (r .before .before .before .before .args .s .now)) (record { list = record { many = g .0; first = g .1 .0 }; end = g .1 .1 .0 })
-whole c = outlined-of _ _ (sym (rw (c .n .given .1) at (c .before .before .read-row .ensures)))
+    Whole (wholeOf (rowKind (r .row .given .0 .0)) (r .before .before .before .before .args .s .now)) (record { list = record { many = g .0; first = g .1 .0 }; end = g .1 .1 .0 })
+whole c = whole-of _ _ (sym (rw (c .n .given .1) at (c .before .before .read-row .ensures)))
 
 sub-t13 : tie.Need-sub-t13
 sub-t13 c =
     let k = c .before in
     let r = k .before .before .before .before in
     let a = r .before .before .before .before .args in
-    let w = end-within (rowKind (r .row .given .0 .0)) (a .s .now) _ (whole k) in
+    let w = whole-end (rowKind (r .row .given .0 .0)) (a .s .now) _ (whole k) in
     search needs
 
 returns : tie.Need-returns

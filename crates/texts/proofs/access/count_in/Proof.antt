@@ -8,16 +8,16 @@ use Rattle.texts.specs.Reading.{wholeOf}
 use Rattle.numbers.specs.Numbers.{gives}
 use Rattle.layouts.specs.Access.{numbersOf}
 use Rattle.texts.specs.Access.{radioCount}
-use Rattle.texts.specs.PrivatePieces.{rowKind}
-use Rattle.texts.proofs.Whole.{Outlined, outlined-of, not-read}
+use Rattle.texts.specs.PrivateSteps.{rowKind}
+use Rattle.texts.proofs.Whole.{Whole, whole-of, not-read}
 use Rattle.texts.proofs.Asked.{count-all, count-under}
 
 -- the value that was read
 whole : (c : tie.After-n) →
     let a = c .before .before .before .before .args in
     let g = c .n .given .0 in
-    Outlined (wholeOf (rowKind (a .row)) (a .s .now)) (record { list = record { many = g .0; first = g .1 .0 }; end = g .1 .1 .0 })
-whole c = outlined-of _ _ (sym (rw (c .n .given .1) at (c .before .before .read-row .ensures)))
+    Whole (wholeOf (rowKind (a .row)) (a .s .now)) (record { list = record { many = g .0; first = g .1 .0 }; end = g .1 .1 .0 })
+whole c = whole-of _ _ (sym (rw (c .n .given .1) at (c .before .before .read-row .ensures)))
 
 returns : tie.Need-returns
 returns c =

@@ -1,83 +1,104 @@
--- The texts of the pieces i to n behind p decide over all n.
+-- The texts of the entries from i on decide over all n.
+use borrow.Author.Needs.{needs}
 use Rattle.texts.proofs.pieces.all_valid.Statement.{statement}
 use Rattle.texts.proofs.pieces.all_valid.Tie as tie
-use borrow.Author.Needs.{needs}
 use borrow.Author.Tests.{not-true, not-false}
-use mathlib.Core.Path.{_≡_, sym, _∙_}
-use Prim.Native.Nat.{_+_, _-_}
+use mathlib.Core.Path.{_≡_, sym, ap, _∙_}
+use Prim.Native.Nat.{_-_, _≤_}
+use lib.ListN.{length}
 use Rattle.numbers.specs.Numbers.{gives}
-use Rattle.texts.specs.Reading.{ReadPiece, readPiece, pieceAt, piecesAt}
-use Rattle.texts.specs.PrivatePieces.{pieceOf, validIn}
-use Rattle.texts.proofs.Laws.{Lies, piece-lies, Left, left-all, left-none, left-cut, left-then, left-more, valid-before, bad-before}
+use Rattle.layouts.specs.Rows.{rowLayout}
+use Rattle.layouts.specs.Reading.{endOf}
+use Rattle.layouts.proofs.Within.{end-within}
+use Rattle.utf8.specs.Utf8.{isUtf8}
+use Rattle.texts.specs.Reading.{textIn}
+use Rattle.texts.proofs.Laws.{text-lies, Left, left-all, left-none, left-cut, left-bad, left-more}
 
 abbrev Inv-loop : tie.InvT-loop
-Inv-loop piece n s at p₀ i₀ p i = Left (validIn s) (pieceOf piece) s n at i p
+Inv-loop row n s at p₀ i₀ p i = Left (rowLayout row) s n at i p
 
 abbrev μ-loop : tie.MeasureT-loop
-μ-loop piece n s at p₀ i₀ p i = n - i
+μ-loop row n s at p₀ i₀ p i = n - i
 
 loop-holds : tie.Need-loop-holds Inv-loop μ-loop
-loop-holds c = let a = c .before .args in left-all (validIn (a .s .now)) (pieceOf (a .piece)) (a .s .now) (a .n) (a .at) (search needs)
+loop-holds c = let a = c .before .args in left-all (rowLayout (a .row)) (a .s .now) (a .n) (a .at)
 
--- the piece that was read, which lies in the value
-abbrev piece : tie.After-start Inv-loop μ-loop → ReadPiece
-piece c = let g = c .start .given .0 in readPiece (g .0) (g .1 .0) (g .1 .1 .0) (g .1 .1 .1 .0)
-
-has : (c : tie.After-start Inv-loop μ-loop) →
+-- the entry that was read
+has : (c : tie.After-q Inv-loop μ-loop) →
     let l = c .before .before .before .before in
     let a = l .before .before .args in
-    pieceAt (pieceOf (a .piece)) (a .s .now) (l .loop .p) ≡ gives (piece c)
-has c = sym (rw (c .start .given .1) at (c .before .before .piece-at .ensures))
+    endOf (rowLayout (a .row)) (a .s .now) (l .loop .p) ≡ gives (c .q .given .0 .0)
+has c = sym (rw (c .q .given .1) at (c .before .before .read-entry .ensures))
 
-lies : (c : tie.After-start Inv-loop μ-loop) →
-    let l = c .before .before .before .before in
-    Lies (l .before .before .args .s .now) (l .loop .p) (piece c)
+text-span-requires : tie.Need-text-span-requires Inv-loop μ-loop
+text-span-requires c κs =
+    let k = c .before in
+    let l = k .before .before .before .before in
+    let a = l .before .before .args in
+    end-within (rowLayout (a .row)) (a .s .now) (l .loop .p) _ (has k)
+
+-- its text lies in the value
+lies : (c : tie.After-text-span Inv-loop μ-loop) →
+    let t = c .text-span .result in
+    (t .start ≤ t .end) × (t .end ≤ length (c .before .before .before .before .before .before .before .before .args .s .now))
 lies c =
-    let l = c .before .before .before .before in
+    let k = c .before .before in
+    let l = k .before .before .before .before in
     let a = l .before .before .args in
-    piece-lies (pieceOf (a .piece)) (a .s .now) (l .loop .p) (piece c) (l .loop .inv .1) (has c)
+    let e = c .text-span .ensures in
+    let t = text-lies (rowLayout (a .row)) (a .s .now) (l .loop .p) _ (has k) in
+    let w = end-within (rowLayout (a .row)) (a .s .now) (l .loop .p) _ (has k) in
+    rw (ap (λ r. r .start) e, ap (λ r. r .end) e) (t .ordered, search needs)
 
 sub-is-utf8 : tie.Need-sub-is-utf8 Inv-loop μ-loop
-sub-is-utf8 c = let w = lies (c .before) in search needs
+sub-is-utf8 c = let w = lies c in search needs
 
 part-is-utf8-start : tie.Need-part-is-utf8-start Inv-loop μ-loop
-part-is-utf8-start c = let w = lies (c .before) in search needs
+part-is-utf8-start c = let w = lies c in search needs
 
 part-is-utf8-end : tie.Need-part-is-utf8-end Inv-loop μ-loop
-part-is-utf8-end c = let w = lies (c .before) in search needs
+part-is-utf8-end c = let w = lies c in search needs
 
-returns : tie.Need-returns Inv-loop μ-loop
-returns c =
+-- what was found out of it
+text : (c : tie.After-is-utf8 Inv-loop μ-loop) →
     let k = c .before .before .before .before in
     let l = k .before .before .before .before in
     let a = l .before .before .args in
+    c .is-utf8 .result ≡ isUtf8 (textIn (rowLayout (a .row)) (a .s .now) (record { start = l .loop .p; end = k .q .given .0 .0 }))
+text c =
+    let e = c .before .before .text-span .ensures in
+    c .is-utf8 .ensures ∙ rw (ap (λ r. r .start) e, ap (λ r. r .end) e)
+
+returns : tie.Need-returns Inv-loop μ-loop
+returns c =
+    let k = c .before .before .before .before .before in
+    let l = k .before .before .before .before in
+    let a = l .before .before .args in
     let v = l .loop in
-    sym (bad-before (a .s .now) (piece k) (sym (c .before .is-utf8 .ensures) ∙ not-true _ (c .if1 .taken)) (piecesAt (a .n - (v .i + 1)) (pieceOf (a .piece)) (a .s .now) (piece k .end))) ∙
-    left-then (validIn (a .s .now)) (pieceOf (a .piece)) (a .s .now) (a .n) (a .at) (v .i) (v .p) (v .inv) (piece k) (k .before .before .before .loop-test .taken) (has k)
+    left-bad (rowLayout (a .row)) (a .s .now) (a .n) (a .at) (v .i) (v .p) (v .inv) _ (k .before .before .before .loop-test .taken) (has k) (sym (text (c .before)) ∙ not-true _ (c .if1 .taken))
 
 returns-2 : tie.Need-returns-2 Inv-loop μ-loop
 returns-2 c =
     let l = c .before .before .before .before in
     let a = l .before .before .args in
     let v = l .loop in
-    let e = sym (rw (c .enum-told .given .1) at (c .before .before .piece-at .ensures)) in
-    left-cut (validIn (a .s .now)) (pieceOf (a .piece)) (a .s .now) (a .n) (a .at) (v .i) (v .p) (v .inv) _ _ (c .before .before .before .loop-test .taken) e
+    let e = sym (rw (c .enum-told .given .1) at (c .before .before .read-entry .ensures)) in
+    left-cut (rowLayout (a .row)) (a .s .now) (a .n) (a .at) (v .i) (v .p) (v .inv) _ _ (c .before .before .before .loop-test .taken) e
 
 loop-again : tie.Need-loop-again Inv-loop μ-loop
 loop-again c =
-    let k = c .before .before .before .before in
+    let k = c .before .before .before .before .before in
     let l = k .before .before .before .before in
     let a = l .before .before .args in
     let v = l .loop in
-    left-more (validIn (a .s .now)) (pieceOf (a .piece)) (a .s .now) (a .n) (a .at) (v .i) (v .p) (v .inv) (piece k) (k .before .before .before .loop-test .taken) (has k)
-    (valid-before (a .s .now) (piece k) (sym (c .before .is-utf8 .ensures) ∙ not-false _ (c .if1 .left)))
+    left-more (rowLayout (a .row)) (a .s .now) (a .n) (a .at) (v .i) (v .p) (v .inv) _ (k .before .before .before .loop-test .taken) (has k) (sym (text (c .before)) ∙ not-false _ (c .if1 .left))
 
 returns-3 : tie.Need-returns-3 Inv-loop μ-loop
 returns-3 c =
     let l = c .before in
     let a = l .before .before .args in
     let v = l .loop in
-    left-none (validIn (a .s .now)) (pieceOf (a .piece)) (a .s .now) (a .n) (a .at) (v .i) (v .p) (v .inv) (c .loop-test .left)
+    left-none (rowLayout (a .row)) (a .s .now) (a .n) (a .at) (v .i) (v .p) (v .inv) (c .loop-test .left)
 
 pub all-valid-spec : {M : Type 1} → statement M
 all-valid-spec =
@@ -88,6 +109,7 @@ all-valid-spec =
     loop-holds
     (λ c κs. search needs)
     (λ c. search needs)
+    text-span-requires
     sub-is-utf8
     part-is-utf8-start
     part-is-utf8-end

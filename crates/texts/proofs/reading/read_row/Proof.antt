@@ -4,54 +4,50 @@ use Rattle.texts.proofs.reading.read_row.Statement.{statement}
 use Rattle.texts.proofs.reading.read_row.Tie as tie
 use borrow.Author.Tests.{not-true, not-false}
 use mathlib.Core.Bool.{true}
-use mathlib.Core.Path.{_≡_, sym, ap, _∙_}
+use mathlib.Core.Path.{_≡_, sym, _∙_}
 use Rattle.numbers.proofs.Answers.{mapped-given, mapped-refused}
+use Rattle.layouts.specs.Rows.{rowLayout}
+use Rattle.layouts.specs.Reading.{endOf}
+use Rattle.layouts.specs.Access.{spansFrom}
 use Rattle.texts.specs.Texts.{radio}
-use Rattle.texts.specs.Reading.{piecesAt, laidOf}
-use Rattle.texts.specs.PrivatePieces.{pieceOf, rowKind, validIn, outlineOf}
-use Rattle.texts.proofs.Whole.{Outlined, outlined-of, not-outlined, whole-cut, whole-good, whole-bad-own, whole-bad-radio, list-within}
+use Rattle.texts.specs.Reading.{laidOf}
+use Rattle.texts.specs.PrivateSteps.{rowKind, validIn, outlineOf}
+use Rattle.texts.proofs.Whole.{Whole, whole-of, not-outlined, whole-cut, whole-good, whole-bad-own, whole-bad-radio}
 
 -- the layout that was found
 laid : (c : tie.After-n) →
     let a = c .before .before .before .before .args in
     let g = c .n .given .0 in
-    Outlined (laidOf (rowKind (a .row)) (a .s .now)) (record { list = record { many = g .0; first = g .1 .0 }; end = g .1 .1 .0 })
-laid c = outlined-of _ _ (sym (rw (c .n .given .1) at (c .before .before .lay .ensures)))
+    Whole (laidOf (rowKind (a .row)) (a .s .now)) (record { list = record { many = g .0; first = g .1 .0 }; end = g .1 .1 .0 })
+laid c = whole-of _ _ (sym (rw (c .n .given .1) at (c .before .before .lay .ensures)))
 
 -- what was found out of the value's own texts, and of those of its radios
 own : (c : tie.Else1) →
-    let a = c .before .before .before .before .before .before .before .args in
-    validIn (a .s .now) (piecesAt (a .row .many) (pieceOf (a .row .piece)) (a .s .now) 0) ≡ true
+    let a = c .before .before .before .before .before .before .before .before .args in
+    validIn (rowLayout (a .row .piece)) (a .s .now) (spansFrom (endOf (rowLayout (a .row .piece)) (a .s .now)) (a .row .many) 0) ≡ true
 own c = sym (c .before .all-valid .ensures) ∙ not-false _ (c .if1 .left)
 
 radios : (c : tie.After-all-valid2) →
-    let k = c .before .before .before .before .before in
+    let k = c .before .before .before .before .before .before in
     let a = k .before .before .before .before .args in
     let v = laid k .value in
-    c .all-valid2 .result ≡ validIn (a .s .now) (piecesAt (v .list .many) radio (a .s .now) (v .list .first))
+    c .all-valid2 .result ≡ validIn radio (a .s .now) (spansFrom (endOf radio (a .s .now)) (v .list .many) (v .list .first))
 radios c =
-    let k = c .before .before .before .before .before in
+    let k = c .before .before .before .before .before .before in
     let l = laid k .list in
     c .all-valid2 .ensures ∙ rw (c .before .radio .ensures, l)
 
 returns : tie.Need-returns
 returns c =
-    let k = c .before .before .before in
+    let k = c .before .before .before .before in
     let a = k .before .before .before .before .args in
     let o = laid k in
     let bad = sym (c .before .all-valid .ensures) ∙ not-true _ (c .if1 .taken) in
     sym (mapped-refused outlineOf _ _ _ (whole-bad-own (rowKind (a .row)) (a .s .now) (o .value) (o .is) bad))
 
-all-valid-requires-2 : tie.Need-all-valid-requires-2
-all-valid-requires-2 c κs =
-    let k = c .before .before .before .before in
-    let a = k .before .before .before .before .args in
-    let o = laid k in
-    rw (ap (λ m. m .first) (o .list)) at (list-within (rowKind (a .row)) (a .s .now) (o .value) (o .is) .1)
-
 returns-2 : tie.Need-returns-2
 returns-2 c =
-    let k = c .before .before .before .before .before .before in
+    let k = c .before .before .before .before .before .before .before in
     let a = k .before .before .before .before .args in
     let o = laid k in
     let bad = sym (radios (c .before)) ∙ not-true _ (c .if2 .taken) in
@@ -59,7 +55,7 @@ returns-2 c =
 
 returns-3 : tie.Need-returns-3
 returns-3 c =
-    let k = c .before .before .before .before .before .before in
+    let k = c .before .before .before .before .before .before .before in
     let a = k .before .before .before .before .args in
     let o = laid k in
     let good = sym (radios (c .before)) ∙ not-false _ (c .if2 .left) in
@@ -80,7 +76,7 @@ read-row-spec =
     (λ c κs. search needs)
     returns
     (λ c κs. search needs)
-    all-valid-requires-2
+    (λ c κs. search needs)
     returns-2
     (λ c. search needs)
     returns-3
