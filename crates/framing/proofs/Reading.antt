@@ -6,8 +6,10 @@ use Prim.Native.Nat.{ℕ, _+_, _-_, _<_, _≤_}
 use native.Mathlib.Omega.{arith}
 use lib.Dec.{ltb}
 use lib.ListN.{length, getD, take, drop}
+use lib.Seq.{getD-take}
 use borrow.Author.Tests.{ltb-false, lt-ltb, le-ltb}
 use Rattle.numbers.specs.Numbers.{gives, refuses}
+use Rattle.numbers.proofs.Bytes.{number-at}
 use Rattle.framing.specs.Tlv.{TlvRead, readTlv, declared, valueIn, valueFrom}
 
 pub short : (s : List ℕ) → length s < 3 → refuses 1 ((3 - length s) ∷ []) ≡ readTlv s
@@ -51,6 +53,19 @@ reads s t e =
       all = ap (λ (u : TlvRead). u .consumed) (h .1 .1) ∙ ap (λ (n : ℕ). 3 + n) (sym (ap (λ (u : TlvRead). u .value-length) (h .1 .1)));
       inside = omega (arith, ap (λ (u : TlvRead). u .consumed) (h .1 .1), long, fits);
     }
+
+-- what reads reads the same wherever its bytes stand
+pub reads-same : (s u : List ℕ) (t : TlvRead) → gives t ≡ readTlv s → t .consumed ≤ length u → take (t .consumed) u ≡ take (t .consumed) s → gives t ≡ readTlv u
+reads-same s u t e l same = rw (r .all, r .typed, ← byte 0 (omega arith)) (whole u (t .value-length) d (omega (arith, r .all)) (omega (arith, r .all)))
+  where
+    r : Reads s t
+    r = reads s t e
+
+    byte : (i : ℕ) → i < 3 → getD u i 0 ≡ getD s i 0
+    byte i h = sym (getD-take (t .consumed) u i 0 (omega (arith, r .all))) ∙ ap (λ (b : List ℕ). getD b i 0) same ∙ getD-take (t .consumed) s i 0 (omega (arith, r .all))
+
+    d : t .value-length ≡ declared u
+    d = r .long ∙ sym (number-at 2 1 s (omega (arith, r .all, r .inside))) ∙ rw (← byte 1 (omega arith), ← byte 2 (omega arith)) (number-at 2 1 u (omega (arith, r .all)))
 
 -- the part that holds the value, its bytes and where it starts
 module _ (s : List ℕ) where

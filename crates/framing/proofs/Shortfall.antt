@@ -5,7 +5,8 @@ use mathlib.Core.List.{List, [], _∷_, _++_}
 use Prim.Native.Nat.{ℕ, _+_, _-_, _<_, _≤_}
 use native.Mathlib.Omega.{arith}
 use lib.Dec.{ltb}
-use lib.ListN.{length, length-append, List·getD-append}
+use lib.ListN.{length, length-append}
+use lib.Seq.{take-append-le}
 use borrow.Author.Tests.{ltb-true, ltb-false}
 use Rattle.numbers.specs.Numbers.{Answer, gives, refuses}
 use Rattle.numbers.proofs.Firm.{never}
@@ -24,55 +25,73 @@ one-number n m k l e = (cc, cc)
 declared-same : (s more : List ℕ) → 3 ≤ length s → declared s ≡ declared (s ++ more)
 declared-same s more h = number-longer 2 1 s h more
 
--- what reads reads the same with more behind it
+-- what reads reads the same with more after it
 pub longer : (s more : List ℕ) (t : TlvRead) → gives t ≡ readTlv s → gives t ≡ readTlv (s ++ more)
 longer s more t e =
     let r = tlv.reads s t e in
-    let d = declared-same s more (omega (arith, r .all, r .inside)) in
-    let g = List·getD-append s more 0 0 (omega (arith, r .all, r .inside)) in
-    let w = tlv.whole (s ++ more) (t .value-length) (r .long ∙ d) (omega (arith, r .all, r .inside, length-append s more)) (omega (arith, r .all, r .inside, length-append s more)) in
-    rw (r .all, r .typed, ← g) w
+    tlv.reads-same s (s ++ more) t e (omega (arith, r .inside, length-append s more)) (take-append-le (t .consumed) s more (r .inside))
+
+-- the three cases of a reading
+data Case (s : List ℕ) : Type 0 where
+  few : length s < 3 → Case s
+  past : 3 ≤ length s → length s - 3 < declared s → Case s
+  all : 3 ≤ length s → declared s ≤ length s - 3 → Case s
+
+case-of : (s : List ℕ) → Case s
+case-of s = go (ltb (length s) 3) (ltb (length s - 3) (declared s)) refl refl
+  where
+    go : (x y : Bool) → ltb (length s) 3 ≡ x → ltb (length s - 3) (declared s) ≡ y → Case s
+    go true y f g = few (ltb-true (length s) 3 f)
+    go false true f g = past (ltb-false (length s) 3 f) (ltb-true (length s - 3) (declared s) g)
+    go false false f g = all (ltb-false (length s) 3 f) (ltb-false (length s - 3) (declared s) g)
 
 -- a refusal of a TLV has a number of its own
 pub numbered : (s : List ℕ) (n : ℕ) (vs : List ℕ) → readTlv s ≡ refuses n vs → 0 < n
-numbered s n vs e = go (ltb (length s) 3) (ltb (length s - 3) (declared s)) refl refl
+numbered s n vs e = go (case-of s)
   where
-    go : (x y : Bool) → ltb (length s) 3 ≡ x → ltb (length s - 3) (declared s) ≡ y → 0 < n
-    go true y f g = omega (arith, ap numberIn (tlv.short s (ltb-true (length s) 3 f) ∙ e))
-    go false true f g = omega (arith, ap numberIn (tlv.past s (declared s) refl (ltb-false (length s) 3 f) (ltb-true (length s - 3) (declared s) g) ∙ e))
-    go false false f g = never _ _ _ (tlv.whole s (declared s) refl (ltb-false (length s) 3 f) (ltb-false (length s - 3) (declared s) g) ∙ e)
+    go : Case s → 0 < n
+    go (few h) = omega (arith, ap numberIn (tlv.short s h ∙ e))
+    go (past h l) = omega (arith, ap numberIn (tlv.past s (declared s) refl h l ∙ e))
+    go (all h l) = never _ _ _ (tlv.whole s (declared s) refl h l ∙ e)
 
 not-one : (s : List ℕ) → 3 ≤ length s → numberIn (readTlv s) ≡ 1 → ⊥
-not-one s h e = go (ltb (length s - 3) (declared s)) refl
+not-one s k e = go (case-of s)
   where
-    go : (b : Bool) → ltb (length s - 3) (declared s) ≡ b → ⊥
-    go true f = omega (arith, ap numberIn (tlv.past s (declared s) refl h (ltb-true (length s - 3) (declared s) f)), e)
-    go false f = omega (arith, ap numberIn (tlv.whole s (declared s) refl h (ltb-false (length s - 3) (declared s) f)), e)
+    go : Case s → ⊥
+    go (few h) = omega arith
+    go (past h l) = omega (arith, ap numberIn (tlv.past s (declared s) refl h l), e)
+    go (all h l) = omega (arith, ap numberIn (tlv.whole s (declared s) refl h l), e)
 
 module _ (s : List ℕ) where
-  few : length s < 3 → Missing readTlv s 1 (3 - length s)
-  few h = record {
-    again = λ more l. sym (ap numberIn (tlv.short (s ++ more) (omega (arith, length-append s more))));
-    no-longer = λ more l e. not-one (s ++ more) (omega (arith, length-append s more)) e;
-  }
-
-  past : 3 ≤ length s → length s - 3 < declared s → Missing readTlv s 2 (declared s - (length s - 3))
-  past h l = record {
-    again = λ more f. sym (ap numberIn (tlv.past (s ++ more) (declared s) (declared-same s more h) (omega (arith, length-append s more)) (omega (arith, length-append s more))));
-    no-longer = λ more f e. omega (arith, ap numberIn (tlv.whole (s ++ more) (declared s) (declared-same s more h) (omega (arith, length-append s more)) (omega (arith, length-append s more))), e);
-  }
-
   pub of-tlv : (n missing : ℕ) → readTlv s ≡ refuses n (missing ∷ []) → Missing readTlv s n missing
-  of-tlv n missing e = go (ltb (length s) 3) (ltb (length s - 3) (declared s)) refl refl
+  of-tlv n missing e = go (case-of s)
     where
-      go : (x y : Bool) → ltb (length s) 3 ≡ x → ltb (length s - 3) (declared s) ≡ y → Missing readTlv s n missing
-      go true y f g = let h = ltb-true (length s) 3 f in let o = one-number _ _ _ _ (sym e ∙ sym (tlv.short s h)) in rw (o .0, o .1) (few h)
-      go false true f g =
-          let h = ltb-false (length s) 3 f in
-          let l = ltb-true (length s - 3) (declared s) g in
+      go : Case s → Missing readTlv s n missing
+      go (few h) =
+          let o = one-number _ _ _ _ (sym e ∙ sym (tlv.short s h)) in
+          rw (o .0, o .1) (record {
+            again = λ more l. sym (ap numberIn (tlv.short (s ++ more) (omega (arith, length-append s more))));
+            no-longer = λ more l e. not-one (s ++ more) (omega (arith, length-append s more)) e;
+          })
+      go (past h l) =
           let o = one-number _ _ _ _ (sym e ∙ sym (tlv.past s (declared s) refl h l)) in
-          rw (o .0, o .1) (past h l)
-      go false false f g = never _ _ _ (tlv.whole s (declared s) refl (ltb-false (length s) 3 f) (ltb-false (length s - 3) (declared s) g) ∙ e)
+          rw (o .0, o .1) (record {
+            again = λ more f. sym (ap numberIn (tlv.past (s ++ more) (declared s) (declared-same s more h) (omega (arith, length-append s more)) (omega (arith, length-append s more))));
+            no-longer = λ more f e. omega (arith, ap numberIn (tlv.whole (s ++ more) (declared s) (declared-same s more h) (omega (arith, length-append s more)) (omega (arith, length-append s more))), e);
+          })
+      go (all h l) = never _ _ _ (tlv.whole s (declared s) refl h l ∙ e)
+
+  -- with just the missing bytes a TLV that then reads takes all
+  pub fills-up : (n missing : ℕ) → readTlv s ≡ refuses n (missing ∷ []) → (more : List ℕ) → length more ≡ missing → (t : TlvRead) → gives t ≡ readTlv (s ++ more) → t .consumed ≡ length (s ++ more)
+  fills-up n missing e more k t is = go (case-of s)
+    where
+      r : tlv.Reads (s ++ more) t
+      r = tlv.reads (s ++ more) t is
+
+      go : Case s → t .consumed ≡ length (s ++ more)
+      go (few h) = omega (arith, one-number _ _ _ _ (sym e ∙ sym (tlv.short s h)) .1, r .all, r .inside, length-append s more)
+      go (past h l) = omega (arith, one-number _ _ _ _ (sym e ∙ sym (tlv.past s (declared s) refl h l)) .1, r .all, r .long, declared-same s more h, length-append s more)
+      go (all h l) = never _ _ _ (tlv.whole s (declared s) refl h l ∙ e)
 
   few-of-header : length s < 8 → Missing readHeader s 1 (8 - length s)
   few-of-header h = record {

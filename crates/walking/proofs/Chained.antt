@@ -1,56 +1,76 @@
--- The TLVs of a walk follow each other: a step passes each of them, and the next one stands where that step goes on. The marker is the last.
-use mathlib.Core.Path.{_≡_, refl, sym, ap, _∙_, subst}
+-- The TLVs of a walk follow each other: a step goes over each of them, and the next one stands where that step goes on. The marker is the last.
+use mathlib.Core.Path.{_≡_, sym, _∙_, ap, subst}
 use mathlib.Core.List.{List, [], _∷_}
-use Prim.Native.Nat.{ℕ, zero, suc, _<_}
+use Prim.Native.Nat.{ℕ, zero, suc, _+_, _<_}
 use native.Mathlib.Omega.{arith}
-use lib.ListN.{length, getD}
-use Rattle.numbers.specs.Numbers.{Answer, gives, refuses}
+use lib.ListN.{length, getD, drop, length-drop}
+use lib.Seq.{drop-cons}
+use Rattle.numbers.specs.Numbers.{Answer}
 use Rattle.walking.specs.declared.Tlv.{Tlv}
-use Rattle.walking.specs.Walk.{Ahead, ended, passed, last, stepAt, Walk, walkBy, walkFrom, walkOf, noTlv}
-use Rattle.walking.specs.PrivateSteps.{tlvBy, nextTo}
+use Rattle.walking.specs.Walk.{stepAt, walkOf, noTlv, offsetAt}
+use Rattle.walking.specs.PrivateSteps.{tlvBy, nextBy}
+use Rattle.walking.proofs.Going.{Goes, at-end, onward, final, stopped, Forward, of-steps, is-walk}
 use Rattle.walking.proofs.Stepping.{Passes, passes, lasts}
-
-pub data Chained (p : List ℕ) : ℕ → List Tlv → Type 0 where
-  none : {at : ℕ} → Chained p at []
-  final : {at : ℕ} {t : Tlv} {end : ℕ} → gives (last t end) ≡ stepAt p at → Chained p at (t ∷ [])
-  more : {at : ℕ} {t : Tlv} {next : ℕ} {ts : List Tlv} → gives (passed t next) ≡ stepAt p at → Chained p next ts → Chained p at (t ∷ ts)
+use Rattle.walking.proofs.Stepping as step
 
 module _ (p : List ℕ) where
-  by-step : (at : ℕ) (on : ℕ → Walk) → ((next : ℕ) → Chained p next (on next .tlvs)) → (a : Answer Ahead) → a ≡ stepAt p at → Chained p at (walkBy (length p) a on .tlvs)
-  by-step at on then (gives ended) e = none
-  by-step at on then (gives (passed t next)) e = more e (then next)
-  by-step at on then (gives (last t end)) e = final e
-  by-step at on then (refuses n vs) e = none
+  -- from `at` on a walk of p has these TLVs, and this end
+  abbrev pub Has : ℕ → List Tlv → Answer ℕ → Type 0
+  Has = Goes (stepAt p) (length p)
 
-  chained : (most at : ℕ) → Chained p at (walkFrom most p at .tlvs)
-  unfolding walkFrom
-  chained zero at = none
-  chained (suc most) at = by-step at (walkFrom most p) (chained most) (stepAt p at) refl
+  forward : Forward (stepAt p) (length p)
+  forward = record { ends = λ at h. step.at-end p at h; moves = λ at t next e. omega (arith, passes p at t next e .behind) }
 
-  pub of-walk : Chained p 0 (walkOf p .tlvs)
+  pub of-walk : Has 0 (walkOf p .items) (walkOf p .end)
   unfolding walkOf
-  of-walk = chained (length p) 0
+  of-walk = of-steps (stepAt p) (length p) forward
 
-  -- the first record, each record, and the next
-  pub first : {at : ℕ} {ts : List Tlv} → Chained p at ts → 0 < length ts → tlvBy (stepAt p at) ≡ getD ts 0 noTlv
-  first none h = absurd (omega arith)
-  first (final e) h = ap tlvBy (sym e)
-  first (more e c) h = ap tlvBy (sym e)
+  pub the-walk : (ts : List Tlv) (end : Answer ℕ) → Has 0 ts end → walkOf p ≡ record { items = ts; end = end }
+  unfolding walkOf
+  the-walk = is-walk (stepAt p) (length p) forward
 
-  there : (at : ℕ) (t : Tlv) (next : ℕ) → Passes p at t next → Passes p (t .offset) t (nextTo t)
+  -- where a TLV stands: by its own record
+  abbrev endOf : Tlv → ℕ
+  endOf t = t .offset + 3 + t .length
+
+  there : (at : ℕ) (t : Tlv) (next : ℕ) → Passes p at t next → Passes p (t .offset) t (endOf t)
   there at t next o = subst (λ (n : ℕ). Passes p (t .offset) t n) (o .behind ∙ rw (o .starts)) (subst (λ (n : ℕ). Passes p n t next) (sym (o .starts)) o)
 
-  pub stands : {at : ℕ} {ts : List Tlv} → Chained p at ts → (i : ℕ) → i < length ts → Passes p (getD ts i noTlv .offset) (getD ts i noTlv) (nextTo (getD ts i noTlv))
-  stands none i h = absurd (omega arith)
-  stands (final {at} {t} {end} e) zero h = there at t end (lasts p at t end e)
+  pub stands : {at : ℕ} {ts : List Tlv} {end : Answer ℕ} → Has at ts end → (i : ℕ) → i < length ts → Passes p (offsetAt ts i) (getD ts i noTlv) (endOf (getD ts i noTlv))
+  stands (at-end e) i h = absurd (omega arith)
+  stands (stopped e) i h = absurd (omega arith)
+  stands (final {at} {t} {to} e) zero h = there at t to (lasts p at t to e)
   stands (final e) (suc i) h = absurd (omega arith)
-  stands (more {at} {t} {next} e c) zero h = there at t next (passes p at t next e)
-  stands (more e c) (suc i) h = stands c i (omega arith)
+  stands (onward {at} {t} {next} e g) zero h = there at t next (passes p at t next e)
+  stands (onward e g) (suc i) h = stands g i (omega arith)
 
-  pub next : {at : ℕ} {ts : List Tlv} → Chained p at ts → (i : ℕ) → suc i < length ts → tlvBy (stepAt p (nextTo (getD ts i noTlv))) ≡ getD ts (suc i) noTlv
-  next none i h = absurd (omega arith)
-  next (final e) i h = absurd (omega arith)
-  next (more {at} {t} {next = n} e c) zero h =
-      let o = passes p at t n e in
-      ap (λ (m : ℕ). tlvBy (stepAt p m)) (sym (o .behind ∙ rw (o .starts))) ∙ first c (omega arith)
-  next (more e c) (suc i) h = next c i (omega arith)
+  -- Where a walk has a TLV number k, it stands at `at`: what a loop that goes by steps keeps.
+  abbrev pub Stands : ℕ → ℕ → Type 0
+  Stands k at = k < length (walkOf p .items) → Has at (drop k (walkOf p .items)) (walkOf p .end)
+
+  pub stands-first : Stands 0 0
+  stands-first h = of-walk
+
+  record Over (at : ℕ) (t : Tlv) (ts : List Tlv) (end : Answer ℕ) : Type 0 where
+    is : tlvBy (stepAt p at) ≡ t
+    starts : t .offset ≡ at
+    then : 0 < length ts → Has (nextBy (stepAt p at)) ts end
+
+  over : {at : ℕ} {t : Tlv} {ts : List Tlv} {end : Answer ℕ} → Has at (t ∷ ts) end → Over at t ts end
+  over (onward {at} {t} {next} {ts} {end} e g) = record { is = ap tlvBy (sym e); starts = passes p at t next e .starts; then = λ h. subst (λ (n : ℕ). Has n ts end) (ap nextBy e) g }
+  over (final {at} {t} {to} e) = record { is = ap tlvBy (sym e); starts = lasts p at t to e .starts; then = λ h. absurd (omega arith) }
+
+  module _ (k at : ℕ) (here : Stands k at) (l : k < length (walkOf p .items)) where
+    here-over : Over at (getD (walkOf p .items) k noTlv) (drop (suc k) (walkOf p .items)) (walkOf p .end)
+    here-over = over (rw (drop-cons (walkOf p .items) k noTlv l) at (here l))
+
+    pub stands-at : at ≡ offsetAt (walkOf p .items) k
+    stands-at = sym (here-over .starts)
+
+    pub tlv-is : (t : Tlv) → t ≡ tlvBy (stepAt p at) → t ≡ getD (walkOf p .items) k noTlv
+    tlv-is t said = said ∙ here-over .is
+
+    pub stands-next : (next : ℕ) → next ≡ nextBy (stepAt p at) → Stands (k + 1) next
+    stands-next next said h =
+        let n : k + 1 ≡ suc k = omega arith in
+        subst (λ (m : ℕ). Has next (drop m (walkOf p .items)) (walkOf p .end)) (sym n) (rw said (here-over .then (omega (arith, length-drop (suc k) (walkOf p .items)))))

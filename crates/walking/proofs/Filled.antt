@@ -1,66 +1,44 @@
--- What the loops over the records keep: the record at hand is the next of the walk's, and what `fill` has written are those before it.
-use mathlib.Core.Path.{_≡_, refl, sym, _∙_, ap, subst}
+-- What the loop that fills the list keeps: the walk's TLV number i stands at `at`, and the entries before i are written.
+use mathlib.Core.Path.{_≡_, refl, sym, _∙_, ap}
 use mathlib.Core.List.{List, _++_}
 use Prim.Native.Nat.{ℕ, _+_, _≤_, _<_}
 use native.Mathlib.Omega.{arith}
 use native.Mathlib.Numerals.{add-one}
-use lib.ListN.{length, getD, take, drop, set, length-set, take-append-drop}
+use lib.ListN.{length, take, drop, set, length-set, take-append-drop}
 use lib.Seq.{take-suc, take-suc-set, drop-set-lt}
 use Rattle.walking.specs.declared.Tlv.{Tlv}
 use Rattle.walking.specs.Walk.{stepAt, walkOf, noTlv}
-use Rattle.walking.specs.PrivateSteps.{tlvBy, nextTo, IsNumber, Fillable}
-use Rattle.walking.proofs.Chained.{of-walk, first, stands, next}
+use Rattle.walking.specs.PrivateSteps.{tlvBy, nextBy}
+use Rattle.walking.proofs.Chained.{Stands, stands-first, tlv-is, stands-next}
 
-module _ (p : List ℕ) where
-  abbrev pub ts : List Tlv
-  ts = walkOf p .tlvs
+module _ (p : List ℕ) (n : ℕ) (ys : List Tlv) where
+  abbrev ts : List Tlv
+  ts = walkOf p .items
 
-  abbrev pub Is : ℕ → Tlv → Type 0
-  Is = IsNumber p
+  pub record Filled (i at : ℕ) (zs : List Tlv) : Type 0 where
+    pub within : i ≤ n
+    pub long : length zs ≡ length ys
+    pub front : take i zs ≡ take i ts
+    pub back : drop n zs ≡ drop n ys
+    pub here : Stands p i at
 
-  pub is-first : (r : Tlv) → r ≡ tlvBy (stepAt p 0) → Is 0 r
-  is-first r said l = said ∙ first p (of-walk p) l
+  pub begins : Filled 0 0 ys
+  begins = record { within = omega arith; long = refl; front = refl; back = refl; here = stands-first p }
 
-  module _ (i : ℕ) (t : Tlv) (is : Is i t) (l : i < length ts) where
-    pub fits : nextTo t ≤ length p
-    fits = subst (λ (u : Tlv). nextTo u ≤ length p) (sym (is l)) (stands p (of-walk p) i l .inside)
+  module _ (i at : ℕ) (zs : List Tlv) (f : Filled i at zs) where
+    pub goes-on : n ≤ length ts → n ≤ length ys → i < n → (t : Tlv) (next : ℕ) → t ≡ tlvBy (stepAt p at) → next ≡ nextBy (stepAt p at) → Filled (i + 1) next (set zs i t)
+    goes-on few room l t next said goes =
+        let h : i < length zs = omega (arith, f .long) in
+        let k : i < length ts = omega arith in
+        record {
+          within = omega arith;
+          long = length-set zs i t ∙ f .long;
+          front = ap (λ (m : ℕ). take m (set zs i t)) (add-one i) ∙ take-suc-set zs i t h ∙ rw (f .front, tlv-is p i at (f .here) k t said) (sym (take-suc ts i noTlv k)) ∙ ap (λ (m : ℕ). take m ts) (sym (add-one i));
+          back = drop-set-lt n zs i t l ∙ f .back;
+          here = stands-next p i at (f .here) k next goes;
+        }
 
-    pub is-next : (r : Tlv) → r ≡ tlvBy (stepAt p (nextTo t)) → Is (i + 1) r
-    is-next r said l′ =
-        said
-        ∙ ap (λ (u : Tlv). tlvBy (stepAt p (nextTo u))) (is l)
-        ∙ next p (of-walk p) i (omega (arith, add-one i))
-        ∙ ap (λ (n : ℕ). getD ts n noTlv) (sym (add-one i))
-
-  module _ (n : ℕ) (ys : List Tlv) where
-    pub record Filled (i : ℕ) (t : Tlv) (zs : List Tlv) : Type 0 where
-      pub within : i ≤ n
-      pub long : length zs ≡ length ys
-      pub front : take i zs ≡ take i ts
-      pub back : drop n zs ≡ drop n ys
-      pub is : Is i t
-
-    module _ (first : Tlv) (able : Fillable p first n (length ys)) where
-      pub begins : Filled 0 first ys
-      begins = record { within = omega arith; long = refl; front = refl; back = refl; is = able .starts }
-
-      module _ (i : ℕ) (t : Tlv) (zs : List Tlv) (f : Filled i t zs) where
-        pub goes-on : i < n → (r : Tlv) → r ≡ tlvBy (stepAt p (nextTo t)) → Filled (i + 1) r (set zs i t)
-        goes-on l r said =
-            let h : i < length zs = omega (arith, f .long, able .fits) in
-            let k : i < length ts = omega (arith, able .few) in
-            record {
-              within = omega arith;
-              long = length-set zs i t ∙ f .long;
-              front = ap (λ (m : ℕ). take m (set zs i t)) (add-one i) ∙ take-suc-set zs i t h ∙ rw (f .front, f .is k) (sym (take-suc ts i noTlv k)) ∙ ap (λ (m : ℕ). take m ts) (sym (add-one i));
-              back = drop-set-lt n zs i t l ∙ f .back;
-              is = is-next i t (f .is) k r said;
-            }
-
-        pub has-next : i < n → nextTo t ≤ length p
-        has-next l = fits i t (f .is) (omega (arith, able .few))
-
-        pub ends : n ≤ i → zs ≡ take n ts ++ drop n ys
-        ends l =
-            let m : i ≡ n = omega (arith, f .within) in
-            sym (take-append-drop n zs) ∙ rw (f .back, ← m, f .front)
+    pub ends : n ≤ i → zs ≡ take n ts ++ drop n ys
+    ends l =
+        let m : i ≡ n = omega (arith, f .within) in
+        sym (take-append-drop n zs) ∙ rw (f .back, ← m, f .front)

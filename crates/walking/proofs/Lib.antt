@@ -1,11 +1,14 @@
 pub mod Body
+pub mod Carried
 pub mod Chained
 pub mod Claims
 pub mod Elem
 pub mod Filled
 pub mod Firm
+pub mod Going
 pub mod Listed
 pub mod Marked
+pub mod Pieces
 pub mod Shortfall
 pub mod Stepping
 pub mod Walking

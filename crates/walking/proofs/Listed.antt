@@ -12,12 +12,13 @@ use Rattle.numbers.specs.Numbers.{Answer, gives, refuses, andThen, mapped}
 use Rattle.numbers.proofs.Firm.{never}
 use Rattle.numbers.proofs.Answers.{given, mapped-gave}
 use Rattle.walking.specs.declared.Tlv.{Tlv}
-use Rattle.walking.specs.Walk.{WalkCount, Walk, walkOf, counted, listed, filled, offsetAt}
-use Rattle.walking.specs.PrivateSteps.{fills, Plan, Fillable}
+use Rattle.walking.specs.Steps.{Walk}
+use Rattle.walking.specs.Walk.{WalkCount, walkOf, counted, listed, filled, offsetAt}
+use Rattle.walking.specs.PrivateSteps.{fills, Plan}
 
 -- how a walk that was counted ended, and one that was not
-module _ (w : Walk) where
-  pub ended-with : (c : WalkCount) → gives c ≡ counted w → (w .end ≡ gives (c .padding)) × (c .count ≡ length (w .tlvs))
+module _ (w : Walk Tlv) where
+  pub ended-with : (c : WalkCount) → gives c ≡ counted w → (w .end ≡ gives (c .padding)) × (c .count ≡ length (w .items))
   ended-with c e =
       let g = mapped-gave _ (w .end) c (sym e) in
       let i = given _ _ (g .then) in
@@ -26,18 +27,18 @@ module _ (w : Walk) where
   pub ended-by : (n : ℕ) (vs : List ℕ) → refuses n vs ≡ counted w → w .end ≡ refuses n vs
   ended-by n vs e = by-end (w .end) e
     where
-      by-end : (end : Answer ℕ) → _≡_ {A = Answer WalkCount} (refuses n vs) (mapped (λ (k : ℕ). record { count = length (w .tlvs); padding = k }) end) → end ≡ refuses n vs
+      by-end : (end : Answer ℕ) → _≡_ {A = Answer WalkCount} (refuses n vs) (mapped (λ (k : ℕ). record { count = length (w .items); padding = k }) end) → end ≡ refuses n vs
       by-end (gives k) e = never _ _ _ (sym e)
       by-end (refuses m us) e = let i : n ≡ m = cc in let j : vs ≡ us = cc in rw (i, j)
 
   abbrev roomFor : ℕ → WalkCount → Answer WalkCount
-  roomFor room c = cond (ltb room (c .count)) (refuses 14 (offsetAt (w .tlvs) room ∷ [])) (gives c)
+  roomFor room c = cond (ltb room (c .count)) (refuses 14 (offsetAt (w .items) room ∷ [])) (gives c)
 
   pub refused : (room n : ℕ) (vs : List ℕ) → refuses n vs ≡ counted w → refuses n vs ≡ listed room w
   refused room n vs e = ap (λ (a : Answer WalkCount). andThen a (roomFor room)) e
 
   module _ (c : WalkCount) (e : gives c ≡ counted w) where
-    pub too-short : (room : ℕ) → room < c .count → refuses 14 (offsetAt (w .tlvs) room ∷ []) ≡ listed room w
+    pub too-short : (room : ℕ) → room < c .count → refuses 14 (offsetAt (w .items) room ∷ []) ≡ listed room w
     too-short room l = sym (rw (lt-ltb room (c .count) l)) ∙ ap (λ (a : Answer WalkCount). andThen a (roomFor room)) e
 
     pub enough : (room : ℕ) → c .count ≤ room → gives c ≡ listed room w
@@ -54,15 +55,18 @@ by-case (gives k) true vs ts room h = rw h (record { there = omega arith; room-f
 by-case (gives k) false vs ts room h = rw h (record { there = omega arith; room-for = ltb-false room (length ts) h; holds-all = λ ys. rw take-length })
 by-case (refuses m us) b vs ts room h = record { there = omega arith; room-for = omega arith; holds-all = λ ys. refl }
 
-module _ (p : List ℕ) (room count : ℕ) (first : Tlv) (a : Answer WalkCount) (plan : Plan p room count first a) where
-  abbrev w : Walk
+module _ (p : List ℕ) (room count : ℕ) (a : Answer WalkCount) (plan : Plan p room count a) where
+  abbrev w : Walk Tlv
   w = walkOf p
 
-  fit : Fits (listed room w) (w .tlvs) room
-  fit = by-case (w .end) (ltb room (length (w .tlvs))) _ (w .tlvs) room refl
+  fit : Fits (listed room w) (w .items) room
+  fit = by-case (w .end) (ltb room (length (w .items))) _ (w .items) room refl
 
-  pub able : Fillable p first count room
-  able = record { fits = rw (plan .counts) (fit .room-for); few = rw (plan .counts) (fit .there); starts = plan .starts }
+  pub fits : count ≤ room
+  fits = rw (plan .counts) (fit .room-for)
 
-  pub holds : (ys : List Tlv) → take count (w .tlvs) ++ drop count ys ≡ filled (listed room w) (w .tlvs) ys
+  pub few : count ≤ length (w .items)
+  few = rw (plan .counts) (fit .there)
+
+  pub holds : (ys : List Tlv) → take count (w .items) ++ drop count ys ≡ filled (listed room w) (w .items) ys
   holds ys = rw (plan .counts) (fit .holds-all ys)

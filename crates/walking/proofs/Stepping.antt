@@ -14,7 +14,8 @@ use Rattle.numbers.proofs.Bytes.{number-at}
 use Rattle.framing.specs.Tlv.{TlvRead, readTlv}
 use Rattle.framing.proofs.Reading.{reads}
 use Rattle.walking.specs.declared.Tlv.{Tlv}
-use Rattle.walking.specs.Walk.{isMarker, Ahead, ended, passed, last, stepBy, stepAt, walkBy, walkFrom, walkOf}
+use Rattle.walking.specs.Steps.{Ahead, ended, passed, last}
+use Rattle.walking.specs.Walk.{isMarker, stepBy, stepAt}
 
 -- the marker has no value
 pub empty : (t : Tlv) → isMarker t ≡ true → t .length ≡ 0
@@ -38,7 +39,7 @@ module _ (p : List ℕ) (at : ℕ) where
   by-reading h a e = rw (lt-ltb at (length p) h) (ap (stepBy at) e)
 
   -- what a step finds that goes over a TLV, the marker or another
-  abbrev over : Bool → Tlv → ℕ → Ahead
+  abbrev over : Bool → Tlv → ℕ → Ahead Tlv
   over b t next = cond b (last t next) (passed t next)
 
   abbrev recordOf : TlvRead → Tlv
@@ -53,11 +54,11 @@ module _ (p : List ℕ) (at : ℕ) where
       let n : at + 3 ≡ at + r .consumed = omega (arith, reads (drop at p) r e .all, empty (recordOf r) (sym m)) in
       ap (λ (k : ℕ). gives (last (recordOf r) k)) n ∙ by-mark h r e true m
 
-  not-ended : {B : Type 0} (b : Bool) (t : Tlv) (next : ℕ) → _≡_ {A = Answer Ahead} (gives (over b t next)) (gives ended) → B
+  not-ended : {B : Type 0} (b : Bool) (t : Tlv) (next : ℕ) → _≡_ {A = Answer (Ahead Tlv)} (gives (over b t next)) (gives ended) → B
   not-ended true t next e = let z : _≡_ {A = ℕ} 0 1 = cc in absurd (omega arith)
   not-ended false t next e = let z : _≡_ {A = ℕ} 0 1 = cc in absurd (omega arith)
 
-  over-one : (b m : Bool) (t u : Tlv) (n k : ℕ) → _≡_ {A = Answer Ahead} (gives (over b t n)) (gives (over m u k)) → (b ≡ m) × (t ≡ u) × (n ≡ k)
+  over-one : (b m : Bool) (t u : Tlv) (n k : ℕ) → _≡_ {A = Answer (Ahead Tlv)} (gives (over b t n)) (gives (over m u k)) → (b ≡ m) × (t ≡ u) × (n ≡ k)
   over-one true true t u n k e = (refl, cc, cc)
   over-one false false t u n k e = (refl, cc, cc)
   over-one true false t u n k e = let z : _≡_ {A = ℕ} 0 1 = cc in absurd (omega arith)
@@ -128,14 +129,3 @@ steps-same p at b t next o q h e =
     let n : next ≡ at + (3 + t .length) = omega (arith, o .passing .behind) in
     let i : t ≡ record { «tlv_type» = t .«tlv_type»; length = t .length; offset = at } = ap (λ (k : ℕ). record { «tlv_type» = t .«tlv_type»; length = t .length; offset = k }) (o .passing .starts) in
     ap (λ (k : ℕ). gives (over q at b t k)) n ∙ ap (λ (u : Tlv). gives (over q at b u (at + (3 + t .length)))) i ∙ by-mark q at h _ e b (sym (o .marks) ∙ ap isMarker i)
-
--- a walk that may still pass as many TLVs as bytes are left takes a step and goes on by it
-pub turn : (most : ℕ) (p : List ℕ) (at : ℕ) → length p - at ≤ most → walkFrom most p at ≡ walkBy (length p) (stepAt p at) (λ next. walkFrom (most - 1) p next)
-unfolding walkFrom
-turn zero p at h = rw (← at-end p at (omega arith))
-turn (suc most) p at h = let e : suc most - 1 ≡ most = omega arith in rw e
-
--- a walk begins at the payload's start
-pub begun : (p : List ℕ) → walkFrom (length p) p 0 ≡ walkOf p
-unfolding walkOf
-begun p = refl

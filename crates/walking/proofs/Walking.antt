@@ -1,60 +1,54 @@
--- What the walk's loop keeps, and how a turn goes on or ends.
-use mathlib.Core.Path.{_≡_, sym, _∙_, ap}
-use mathlib.Core.List.{List}
-use Prim.Native.Nat.{ℕ, suc, _+_, _-_, _≤_}
+-- What the counting walk's loop keeps, and how a turn goes on or ends: from `at` on stand the TLVs from number k on.
+use mathlib.Core.Path.{_≡_, sym, _∙_, ap, subst}
+use mathlib.Core.List.{List, [], _∷_}
+use Prim.Native.Nat.{ℕ, _+_, _-_, _≤_}
 use native.Mathlib.Omega.{arith}
-use lib.ListN.{length}
-use Rattle.numbers.specs.Numbers.{Answer, gives, refuses, mapped}
+use lib.ListN.{length, drop, length-drop}
+use lib.Seq.{drop-drop}
+use Rattle.numbers.specs.Numbers.{Answer, gives, refuses}
 use Rattle.walking.specs.declared.Tlv.{Tlv}
-use Rattle.walking.specs.Walk.{Ahead, ended, passed, last, WalkCount, stepAt, Walk, walkBy, walkFrom, walkOf, counted}
-use Rattle.walking.proofs.Stepping.{passes, turn}
+use Rattle.walking.specs.Steps.{ended, passed, last}
+use Rattle.walking.specs.Walk.{stepAt, walkOf, counted}
+use Rattle.walking.proofs.Chained.{Has, of-walk}
+use Rattle.walking.proofs.Going.{turned}
+use Rattle.walking.proofs.Stepping.{passes}
 
--- the answer of a walk w that had passed k TLVs before it
-abbrev countedFrom : ℕ → Walk → Answer WalkCount
-countedFrom k w = mapped (λ padding. record { count = k + length (w .tlvs); padding = padding }) (w .end)
+module _ (p : List ℕ) where
+  abbrev tlvs : List Tlv
+  tlvs = walkOf p .items
 
-pub record Walking (p : List ℕ) (at k : ℕ) : Type 0 where
-  pub within : at ≤ length p
-  pub few : k ≤ at
-  pub most : ℕ
-  pub enough : length p - at ≤ most
-  pub will : countedFrom k (walkFrom most p at) ≡ counted (walkOf p)
+  pub record Walking (at k : ℕ) : Type 0 where
+    pub goes : Has p at (drop k tlvs) (walkOf p .end)
+    pub few : k ≤ length tlvs
+    pub slow : k ≤ at
 
-pub begins : (p : List ℕ) → Walking p 0 0
-unfolding walkOf
-begins p = record {
-  within = omega arith;
-  few = omega arith;
-  most = length p;
-  enough = omega arith;
-  will = ap (λ (n : ℕ). mapped (λ (k : ℕ). record { count = n; padding = k }) (walkFrom (length p) p 0 .end)) (omega arith);
-}
+  pub begins : Walking 0 0
+  begins = record { goes = of-walk p; few = omega arith; slow = omega arith }
 
-module _ (p : List ℕ) (at k : ℕ) (w : Walking p at k) where
-  abbrev on : ℕ → Walk
-  on next = walkFrom (w .most - 1) p next
+  module _ (at k : ℕ) (w : Walking at k) where
+    -- the answer, by what is left and how it ends
+    answers : (rest : List Tlv) (padding : ℕ) → drop k tlvs ≡ rest → walkOf p .end ≡ gives padding → gives (record { count = k + length rest; padding = padding }) ≡ counted (walkOf p)
+    answers rest padding e f =
+        let n : k + length rest ≡ length tlvs = omega (arith, w .few, length-drop k tlvs, ap length e) in
+        rw (f, n)
 
-  -- what the step at `at` finds, the walk answers by
-  by-step : (a : Answer Ahead) → a ≡ stepAt p at → countedFrom k (walkBy (length p) a on) ≡ counted (walkOf p)
-  by-step a e = ap (λ (x : Answer Ahead). countedFrom k (walkBy (length p) x on)) e ∙ sym (ap (countedFrom k) (turn (w .most) p at (w .enough))) ∙ w .will
+    pub ends : gives ended ≡ stepAt p at → gives (record { count = k; padding = 0 }) ≡ counted (walkOf p)
+    ends e =
+        let t = turned (stepAt p) (length p) (w .goes) (gives ended) e in
+        let n : k ≡ k + 0 = omega arith in
+        ap (λ (m : ℕ). gives (record { count = m; padding = 0 })) n ∙ answers [] 0 (t .0) (t .1)
 
-  pub ends : gives ended ≡ stepAt p at → gives (record { count = k; padding = 0 }) ≡ counted (walkOf p)
-  ends e = let n : k ≡ k + 0 = omega arith in ap (λ (m : ℕ). gives (record { count = m; padding = 0 })) n ∙ by-step (gives ended) e
+    pub ends-at : (t : Tlv) (to : ℕ) → gives (last t to) ≡ stepAt p at → gives (record { count = k + 1; padding = length p - to }) ≡ counted (walkOf p)
+    ends-at t to e = let u = turned (stepAt p) (length p) (w .goes) (gives (last t to)) e in answers (t ∷ []) (length p - to) (u .0) (u .1)
 
-  pub ends-at : (t : Tlv) (end : ℕ) → gives (last t end) ≡ stepAt p at → gives (record { count = k + 1; padding = length p - end }) ≡ counted (walkOf p)
-  ends-at t end e = by-step (gives (last t end)) e
+    pub stops : (n : ℕ) (vs : List ℕ) → refuses n vs ≡ stepAt p at → refuses n vs ≡ counted (walkOf p)
+    stops n vs e = rw (turned (stepAt p) (length p) (w .goes) (refuses n vs) e .1)
 
-  pub stops : (n : ℕ) (vs : List ℕ) → refuses n vs ≡ stepAt p at → refuses n vs ≡ counted (walkOf p)
-  stops n vs e = by-step (refuses n vs) e
-
-  pub goes-on : (t : Tlv) (next : ℕ) → gives (passed t next) ≡ stepAt p at → Walking p next (k + 1)
-  goes-on t next e =
-      let o = passes p at t next e in
-      let n : k + 1 + length (on next .tlvs) ≡ k + suc (length (on next .tlvs)) = omega arith in
-      record {
-        within = o .inside;
-        few = omega (arith, o .behind, w .few);
-        most = w .most - 1;
-        enough = omega (arith, o .behind, w .enough);
-        will = ap (λ (m : ℕ). mapped (λ (l : ℕ). record { count = m; padding = l }) (on next .end)) n ∙ by-step (gives (passed t next)) e;
-      }
+    pub goes-on : (t : Tlv) (next : ℕ) → gives (passed t next) ≡ stepAt p at → Walking next (k + 1)
+    goes-on t next e =
+        let u = turned (stepAt p) (length p) (w .goes) (gives (passed t next)) e in
+        record {
+          goes = subst (λ (l : List Tlv). Has p next l (walkOf p .end)) (sym (sym (drop-drop 1 k tlvs) ∙ ap (λ (l : List Tlv). drop 1 l) (u .1 .0))) (u .1 .1);
+          few = omega (arith, length-drop k tlvs, ap length (u .1 .0));
+          slow = omega (arith, passes p at t next e .behind, w .slow);
+        }

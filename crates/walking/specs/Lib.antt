@@ -1,3 +1,5 @@
 pub mod Claims
+pub mod Pieces
 pub mod PrivateSteps
+pub mod Steps
 pub mod Walk

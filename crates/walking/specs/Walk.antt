@@ -2,11 +2,12 @@
 -- with the first TLV of type 0 and length 0; what follows is padding, is not looked at, and its length is given" (document 02, 2026-03).
 use mathlib.Core.Bool.{Bool, false, cond}
 use mathlib.Core.List.{List, [], _∷_, _++_}
-use Prim.Native.Nat.{ℕ, zero, suc, _+_, _-_}
+use Prim.Native.Nat.{ℕ, _+_}
 use lib.Dec.{eqb, ltb}
 use lib.ListN.{length, drop, getD}
 use Rattle.numbers.specs.Numbers.{Answer, gives, refuses, andThen, mapped, number, values}
 use Rattle.framing.specs.Tlv.{TlvRead, readTlv}
+use Rattle.walking.specs.Steps.{Ahead, ended, passed, last, Walk, walkFrom}
 use Rattle.walking.specs.declared.Tlv.{Tlv}
 use Rattle.walking.specs.declared.Stepped.{Stepped}
 use Rattle.walking.specs.declared.Stepped.the-variants as Stepped
@@ -17,19 +18,13 @@ use Rattle.walking.specs.declared.Walked.the-variants as Walked
 abbrev pub isMarker : Tlv → Bool
 isMarker t = cond (eqb (t .«tlv_type») 0) (eqb (t .length) 0) false
 
--- what a step of the walk finds ahead: the payload's end; a TLV, and where the next step is taken; the marker, and where the message ends
-pub data Ahead : Type 0 where
-  ended : Ahead
-  passed : Tlv → ℕ → Ahead
-  last : Tlv → ℕ → Ahead
-
 -- the number of TLVs, and the padding's length
 pub record WalkCount : Type 0 where
   pub count : ℕ
   pub padding : ℕ
 
 -- what each answer of a step and of a walk says: "Walk refusals give the offset of the failing TLV"
-abbrev pub steppedOf : Stepped → Answer Ahead
+abbrev pub steppedOf : Stepped → Answer (Ahead Tlv)
 steppedOf Stepped.End = gives ended
 steppedOf (Stepped.Tlv t next) = gives (passed t next)
 steppedOf (Stepped.Last t end) = gives (last t end)
@@ -39,42 +34,25 @@ abbrev pub walkedOf : Walked → Answer WalkCount
 walkedOf (Walked.Count n padding) = gives (record { count = n; padding = padding })
 walkedOf (Walked.Refused r at) = refuses (number r) (at ∷ values r)
 
--- the step over a TLV that ends so far into the payload, and over what reads as said at the offset `at`
-abbrev pub stepOver : Tlv → ℕ → Ahead
-stepOver t behind = cond (isMarker t) (last t behind) (passed t behind)
+-- the step over a TLV that ends there, the marker or another, and over what reads as said at the offset `at`
+abbrev pub stepOver : Tlv → ℕ → Ahead Tlv
+stepOver t end = cond (isMarker t) (last t end) (passed t end)
 
-abbrev pub stepBy : ℕ → Answer TlvRead → Answer Ahead
+abbrev pub stepBy : ℕ → Answer TlvRead → Answer (Ahead Tlv)
 stepBy at (gives t) = gives (stepOver (record { «tlv_type» = t .tlv-type; length = t .value-length; offset = at }) (at + t .consumed))
 stepBy at (refuses n vs) = refuses n (at ∷ vs)
 
 -- one step of the walk, at the offset `at` of a payload
-unfoldable pub stepAt : List ℕ → ℕ → Answer Ahead
+unfoldable pub stepAt : List ℕ → ℕ → Answer (Ahead Tlv)
 stepAt p at = cond (ltb at (length p)) (stepBy at (readTlv (drop at p))) (gives ended)
 
--- the TLVs that a walk read, and how it ended: with so many bytes of padding behind them, or with a refusal
-pub record Walk : Type 0 where
-  pub tlvs : List Tlv
-  pub end : Answer ℕ
-
--- the walk of a payload of this size whose step finds what is said; `on` is the walk from where the next step is taken
-abbrev pub walkBy : ℕ → Answer Ahead → (ℕ → Walk) → Walk
-walkBy size (gives ended) on = record { tlvs = []; end = gives 0 }
-walkBy size (gives (passed t next)) on = record { tlvs = t ∷ on next .tlvs; end = on next .end }
-walkBy size (gives (last t end)) on = record { tlvs = t ∷ []; end = gives (size - end) }
-walkBy size (refuses n vs) on = record { tlvs = []; end = refuses n vs }
-
--- the walk of a payload from the offset `at` on, over so many TLVs at most
-unfoldable pub walkFrom : ℕ → List ℕ → ℕ → Walk
-walkFrom zero p at = record { tlvs = []; end = gives 0 }
-walkFrom (suc most) p at = walkBy (length p) (stepAt p at) (λ next. walkFrom most p next)
-
 -- the walk of a payload: there are no more TLVs in it than bytes
-unfoldable pub walkOf : List ℕ → Walk
-walkOf p = walkFrom (length p) p 0
+unfoldable pub walkOf : List ℕ → Walk Tlv
+walkOf p = walkFrom (stepAt p) (length p) (length p) 0
 
 -- "The answer is the number of TLVs", and the padding's length
-abbrev pub counted : Walk → Answer WalkCount
-counted w = mapped (λ padding. record { count = length (w .tlvs); padding = padding }) (w .end)
+abbrev pub counted : Walk Tlv → Answer WalkCount
+counted w = mapped (λ padding. record { count = length (w .items); padding = padding }) (w .end)
 
 -- the offset of a TLV of the list, by its number from 0
 abbrev pub noTlv : Tlv
@@ -84,8 +62,8 @@ abbrev pub offsetAt : List Tlv → ℕ → ℕ
 offsetAt tlvs k = getD tlvs k noTlv .offset
 
 -- the same with a list that has room for so many: 1 or 2 wherever it occurs, before 14 with the offset of the first TLV without a place
-abbrev pub listed : ℕ → Walk → Answer WalkCount
-listed room w = andThen (counted w) (λ c. cond (ltb room (c .count)) (refuses 14 (offsetAt (w .tlvs) room ∷ [])) (gives c))
+abbrev pub listed : ℕ → Walk Tlv → Answer WalkCount
+listed room w = andThen (counted w) (λ c. cond (ltb room (c .count)) (refuses 14 (offsetAt (w .items) room ∷ [])) (gives c))
 
 -- what the list then holds: "List entries past the last TLV stay as lent", on a refusal all do
 abbrev pub filled : Answer WalkCount → List Tlv → List Tlv → List Tlv

@@ -3,11 +3,10 @@
 use framing::Read;
 use numbers::Refusal;
 ghost use mathlib.Core.Path.{_≡_};
-ghost use mathlib.Core.List.{_++_};
-ghost use Prim.Native.Nat.{_<_, _≤_};
-ghost use lib.ListN.{length, take, drop};
+ghost use Prim.Native.Nat.{_<_};
+ghost use lib.ListN.{length};
 ghost use Rattle.walking.specs.Walk.{isMarker, steppedOf, stepAt, walkedOf, walkOf, counted, listed, filled, offsetAt};
-ghost use Rattle.walking.specs.PrivateSteps.{Plan, Fillable, tlvBy, nextTo};
+ghost use Rattle.walking.specs.PrivateSteps.{Plan, tlvBy, nextBy};
 
 // A TLV of a payload, as a walk lists it: its type, the length of its value, and the offset of its type byte.
 #[repr(C)]
@@ -102,9 +101,15 @@ pub fn walk(payload: &[u8]) -> Walked
     }
 }
 
-// The TLV that a step at `at` passes; where it passes none, one that is not to be used.
-fn tlv_at(payload: &[u8], at: usize) -> Tlv
-    ensures { λ r. ⌜ r ≡ tlvBy (stepAt (now (payload .entry)) at) ⌝ }
+// A TLV that a step goes over, and where it ends.
+struct Passed {
+    tlv: Tlv,
+    next: usize,
+}
+
+// What the step at `at` goes over; where it goes over none, what is not to be used.
+fn pass(payload: &[u8], at: usize) -> Passed
+    ensures { λ r. ⌜ (r .tlv ≡ tlvBy (stepAt (now (payload .entry)) at)) × (r .next ≡ nextBy (stepAt (now (payload .entry)) at)) ⌝ }
 {
     let none = Tlv {
         tlv_type: 0,
@@ -112,46 +117,36 @@ fn tlv_at(payload: &[u8], at: usize) -> Tlv
         offset: 0,
     };
     match step(payload, at) {
-        Stepped::End => none,
-        Stepped::Tlv { tlv, next: _ } => tlv,
-        Stepped::Last { tlv, end: _ } => tlv,
-        Stepped::Refused { refusal: _, at: _ } => none,
+        Stepped::End => Passed { tlv: none, next: 0 },
+        Stepped::Tlv { tlv, next } => Passed { tlv, next },
+        Stepped::Last { tlv, end } => Passed { tlv, next: end },
+        Stepped::Refused { refusal: _, at: _ } => Passed { tlv: none, next: 0 },
     }
-}
-
-// The TLV behind t.
-fn next_of(t: Tlv, payload: &[u8]) -> Tlv
-    requires { ⌜ nextTo t ≤ length (now payload) ⌝ }
-    ensures { λ r. ⌜ r ≡ tlvBy (stepAt (now (payload .entry)) (nextTo t)) ⌝ }
-{
-    tlv_at(payload, t.offset + 3 + (t.length as usize))
 }
 
 // The offset of TLV number k, from 0, of those that a walk reads.
 fn offset_of(payload: &[u8], k: usize) -> usize
-    requires { ⌜ k < length (walkOf (now payload) .tlvs) ⌝ }
-    ensures { λ r. ⌜ r ≡ offsetAt (walkOf (now (payload .entry)) .tlvs) k ⌝ }
+    requires { ⌜ k < length (walkOf (now payload) .items) ⌝ }
+    ensures { λ r. ⌜ r ≡ offsetAt (walkOf (now (payload .entry)) .items) k ⌝ }
 {
-    let mut t = tlv_at(payload, 0);
+    let mut at = 0;
     let mut i = 0;
     while i < k {
-        t = next_of(t, payload);
+        at = pass(payload, at).next;
         i += 1;
     }
-    t.offset
+    at
 }
 
-// What a walk with a list answers, how many entries it fills, and the record of the payload's first TLV, from which the filling goes on.
+// What a walk with a list answers, and how many entries it fills.
 struct Planned {
     count: usize,
-    first: Tlv,
     answer: Walked,
 }
 
 fn plan(payload: &[u8], room: usize) -> Planned
-    ensures { λ r. ⌜ Plan (now (payload .entry)) room (r .count) (r .first) (walkedOf (r .answer)) ⌝ }
+    ensures { λ r. ⌜ Plan (now (payload .entry)) room (r .count) (walkedOf (r .answer)) ⌝ }
 {
-    let first = tlv_at(payload, 0);
     match walk(payload) {
         Walked::Count { count, padding } => {
             if room < count {
@@ -160,53 +155,36 @@ fn plan(payload: &[u8], room: usize) -> Planned
                     refusal: Refusal::ListTooShort,
                     at,
                 };
-                return Planned {
-                    count: 0,
-                    first,
-                    answer,
-                };
+                return Planned { count: 0, answer };
             }
             let entries = count;
             let answer = Walked::Count { count, padding };
             Planned {
                 count: entries,
-                first,
                 answer,
             }
         }
         Walked::Refused { refusal, at } => {
             let answer = Walked::Refused { refusal, at };
-            Planned {
-                count: 0,
-                first,
-                answer,
-            }
+            Planned { count: 0, answer }
         }
-    }
-}
-
-// Fills so many entries with the payload's first records, of which the first is given.
-fn fill(list: &mut [Tlv], payload: &[u8], first: Tlv, count: usize)
-    requires { ⌜ Fillable (now payload) first count (length (now list)) ⌝ }
-    ensures { λ _. ⌜ now (list .exit) ≡ take count (walkOf (now (payload .entry)) .tlvs) ++ drop count (now (list .entry)) ⌝ }
-{
-    let mut t = first;
-    let mut i = 0;
-    while i < count {
-        list[i] = t;
-        t = next_of(t, payload);
-        i += 1;
     }
 }
 
 // The TLVs of a payload, counted and listed. Nothing is filled in before the whole payload has been walked, so that a refusal leaves the list as lent.
 pub fn walk_into(list: &mut [Tlv], payload: &[u8]) -> Walked
     ensures { λ r. ⌜ (walkedOf r ≡ listed (length (now (list .entry))) (walkOf (now (payload .entry))))
-        × (now (list .exit) ≡ filled (listed (length (now (list .entry))) (walkOf (now (payload .entry)))) (walkOf (now (payload .entry)) .tlvs) (now (list .entry))) ⌝ }
+        × (now (list .exit) ≡ filled (listed (length (now (list .entry))) (walkOf (now (payload .entry)))) (walkOf (now (payload .entry)) .items) (now (list .entry))) ⌝ }
 {
     let planned = plan(payload, list.len());
     let count = planned.count;
-    let first = planned.first;
-    fill(list, payload, first, count);
+    let mut at = 0;
+    let mut i = 0;
+    while i < count {
+        let passed = pass(payload, at);
+        list[i] = passed.tlv;
+        at = passed.next;
+        i += 1;
+    }
     planned.answer
 }

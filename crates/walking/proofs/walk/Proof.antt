@@ -25,7 +25,7 @@ returns c = ends _ _ _ (c .before .before .before .loop .inv) (ap steppedOf (sym
 add-count : tie.Need-add-count Inv-loop μ-loop
 add-count c =
     let o = passes _ _ _ _ (ap steppedOf (sym (c .before .next .given .1)) ∙ c .before .before .before .step .ensures) in
-    omega (arith, o .behind, o .inside, c .before .before .before .before .loop .inv .few)
+    omega (arith, o .behind, o .inside, c .before .before .before .before .loop .inv .slow)
 
 loop-less : tie.Need-loop-less Inv-loop μ-loop
 loop-less c =
@@ -38,7 +38,7 @@ loop-again c = goes-on _ _ _ (c .before .before .before .before .loop .inv) _ _ 
 add-t9 : tie.Need-add-t9 Inv-loop μ-loop
 add-t9 c =
     let o = lasts _ _ _ _ (ap steppedOf (sym (c .before .end .given .1)) ∙ c .before .before .before .step .ensures) in
-    omega (arith, o .behind, o .inside, c .before .before .before .before .loop .inv .few)
+    omega (arith, o .behind, o .inside, c .before .before .before .before .loop .inv .slow)
 
 sub-t11 : tie.Need-sub-t11 Inv-loop μ-loop
 sub-t11 c = (lasts _ _ _ _ (ap steppedOf (sym (c .before .end .given .1)) ∙ c .before .before .before .step .ensures)) .inside
