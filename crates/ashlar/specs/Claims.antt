@@ -37,7 +37,7 @@ pub record Firmness : Type 0 where
   pub ashlar-walk-into : (list : List Tlv) (payload : List ℕ)
       → Firm {A = AshlarWalk × List Tlv} (λ o.
       (o .0 ≡ walkNumbers (listed (length list) (walkOf payload)))
-      × (o .1 ≡ filled (listed (length list) (walkOf payload)) (walkOf payload .tlvs) list))
+      × (o .1 ≡ filled (listed (length list) (walkOf payload)) (walkOf payload .items) list))
   pub ashlar-read-kind : (code : ℕ) (value : List ℕ) → Firm (λ r. r ≡ kindNumbers (readKind code value))
   pub ashlar-find : (list : List Tlv) (payload : List ℕ) (code from : ℕ)
       → Firm (λ r. r ≡ foundNumbers (mapped (λ h. h .place) (findFrom code list payload from)))

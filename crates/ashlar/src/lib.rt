@@ -58,7 +58,7 @@ pub extern "C" fn ashlar_walk(payload: &[u8]) -> AshlarWalk
 pub extern "C" fn ashlar_walk_into(list: &mut [Tlv], payload: &[u8]) -> AshlarWalk
     ensures { λ r. ⌜ (r ≡ walkNumbers (listed (length (now (list .entry))) (walkOf (now (payload .entry)))))
         × (now (list .exit) ≡ filled (listed (length (now (list .entry))) (walkOf (now (payload .entry))))
-        (walkOf (now (payload .entry)) .tlvs) (now (list .entry))) ⌝ }
+        (walkOf (now (payload .entry)) .items) (now (list .entry))) ⌝ }
 {
     c_answers::walk_numbers(walking::walk_into(list, payload))
 }

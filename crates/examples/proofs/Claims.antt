@@ -4,7 +4,8 @@ use Rattle.searching.specs.Search.{lowest}
 use Rattle.machines.specs.Machine.{those}
 use Rattle.framing.specs.Tlv.{readTlv, writeSize}
 use Rattle.framing.specs.Cmdu.{readHeader}
-use Rattle.walking.specs.Walk.{stepAt, walkFrom, walkOf}
+use Rattle.walking.specs.Steps.{walkFrom}
+use Rattle.walking.specs.Walk.{stepAt, walkOf}
 use Rattle.records.specs.Reading.{empty, fixed, readRecord}
 use Rattle.record_writing.specs.Writing.{recordSize}
 use Rattle.layouts.specs.Layouts.{layoutOf, isList}

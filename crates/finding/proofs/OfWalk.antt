@@ -24,11 +24,11 @@ module _ (p : List ℕ) where
   by-code true x = refl
   by-code false x = refl
 
-  pub as-tlv : (code k : ℕ) → k < length (walkOf p .tlvs)
-      → readsAs code p (getD (walkOf p .tlvs) k noTlv) ≡ tlvAs code (drop (getD (walkOf p .tlvs) k noTlv .offset) p)
+  pub as-tlv : (code k : ℕ) → k < length (walkOf p .items)
+      → readsAs code p (getD (walkOf p .items) k noTlv) ≡ tlvAs code (drop (getD (walkOf p .items) k noTlv .offset) p)
   unfolding readsAs
   as-tlv code k l =
-      let t : Tlv = getD (walkOf p .tlvs) k noTlv in
+      let t : Tlv = getD (walkOf p .items) k noTlv in
       let s : List ℕ = drop (t .offset) p in
       let o = stands p (of-walk p) k l in
       ap (λ (b : Bool). cond (cond (eqb (t .«tlv_type») code) b false) (readKind code (take (t .length) (drop (t .offset + 3) p))) (refuses 15 [])) (le-leb (t .offset + 3 + t .length) (length p) (o .inside))
@@ -37,26 +37,26 @@ module _ (p : List ℕ) where
       ∙ ap (λ (x : Answer TlvRead). andThen x (λ t. cond (eqb (t .tlv-type) code) (readKind code (valueIn (gives t) s)) (refuses 15 []))) (o .reads-as)
 
   -- what is found among the walk's records is the TLV of that number, read where it stands
-  pub found-is-tlv : (code from : ℕ) (h : Hit) → gives h ≡ findFrom code (walkOf p .tlvs) p from → gives (h .reading) ≡ tlvAs code (drop (h .tlv .offset) p)
+  pub found-is-tlv : (code from : ℕ) (h : Hit) → gives h ≡ findFrom code (walkOf p .items) p from → gives (h .reading) ≡ tlvAs code (drop (h .tlv .offset) p)
   found-is-tlv code from h e =
-      let f = is-first code p (walkOf p .tlvs) from h e in
+      let f = is-first code p (walkOf p .items) from h e in
       f .reads ∙ ap (readsAs code p) (sym (f .is)) ∙ as-tlv code (h .place) (f .there)
       ∙ ap (λ (t : Tlv). tlvAs code (drop (t .offset) p)) (f .is)
 
   -- a list that is longer than the walk's, as `walk_into` leaves it, gives the same, if the payload has one
-  by-kind : (code : ℕ) (us : List Tlv) (h : Hit) (b : Bool) → gives h ≡ cond b (firstOf code p 0 (walkOf p .tlvs)) (refuses 16 []) → gives h ≡ cond b (firstOf code p 0 (walkOf p .tlvs ++ us)) (refuses 16 [])
-  by-kind code us h true e = unchanged code p 0 (walkOf p .tlvs) us h e
+  by-kind : (code : ℕ) (us : List Tlv) (h : Hit) (b : Bool) → gives h ≡ cond b (firstOf code p 0 (walkOf p .items)) (refuses 16 []) → gives h ≡ cond b (firstOf code p 0 (walkOf p .items ++ us)) (refuses 16 [])
+  by-kind code us h true e = unchanged code p 0 (walkOf p .items) us h e
   by-kind code us h false e = e
 
-  pub in-filled-list : (code : ℕ) (c : WalkCount) (ys : List Tlv) (h : Hit) → gives h ≡ findFrom code (walkOf p .tlvs) p 0 → gives h ≡ findFrom code (filled (gives c) (walkOf p .tlvs) ys) p 0
+  pub in-filled-list : (code : ℕ) (c : WalkCount) (ys : List Tlv) (h : Hit) → gives h ≡ findFrom code (walkOf p .items) p 0 → gives h ≡ findFrom code (filled (gives c) (walkOf p .items) ys) p 0
   unfolding findFrom
   in-filled-list code c ys h e = by-kind code (drop (c .count) ys) h (isKind code) e
 
   -- without a list the answer is the one over the walk's list, if a walk gets through the payload
-  pub without-list : (code from padding : ℕ) → walkOf p .end ≡ gives padding → findInPayload code p from ≡ findFrom code (walkOf p .tlvs) p from
+  pub without-list : (code from padding : ℕ) → walkOf p .end ≡ gives padding → findInPayload code p from ≡ findFrom code (walkOf p .items) p from
   unfolding findInPayload findFrom
   without-list code from padding e = rw e (twice (isKind code))
     where
-      twice : (b : Bool) → cond b (cond b (firstOf code p from (drop from (walkOf p .tlvs))) (refuses 16 [])) (refuses 16 []) ≡ cond b (firstOf code p from (drop from (walkOf p .tlvs))) (refuses 16 [])
+      twice : (b : Bool) → cond b (cond b (firstOf code p from (drop from (walkOf p .items))) (refuses 16 [])) (refuses 16 []) ≡ cond b (firstOf code p from (drop from (walkOf p .items))) (refuses 16 [])
       twice true = refl
       twice false = refl

@@ -11,10 +11,11 @@ use Rattle.numbers.specs.Numbers.{Answer, gives, refuses}
 use Rattle.records.specs.declared.Record.{Record}
 use Rattle.kinds.specs.Kinds.{isKind, Typed}
 use Rattle.walking.specs.declared.Tlv.{Tlv}
-use Rattle.walking.specs.Walk.{isMarker, Walk, walkOf, noTlv, offsetAt}
+use Rattle.walking.specs.Steps.{Walk}
+use Rattle.walking.specs.Walk.{isMarker, walkOf, noTlv, offsetAt}
 use Rattle.walking.specs.Claims.{Ends}
 use Rattle.walking.proofs.Chained.{of-walk, stands}
-use Rattle.walking.proofs.Claims.{marker-ends}
+use Rattle.walking.proofs.Marked.{marker-ends}
 use Rattle.finding.specs.Finding.{readsAs, valueOf, thereOr, firstOf, findFrom, findInPayload}
 use Rattle.finding.proofs.Passing.{first-nil, first-cons}
 
@@ -45,18 +46,18 @@ module _ (code : ℕ) (message other : List ℕ) where
       ∙ sym (first-cons code message place t ts)
 
   -- the search through a message whose walk has these TLVs
-  searched : (from : ℕ) (w : Walk) → walkOf (message ++ other) ≡ w → (padding : ℕ) → w .end ≡ gives padding → Inside (length message) (w .tlvs)
-      → findInPayload code (message ++ other) from ≡ cond (isKind code) (firstOf code message from (drop from (w .tlvs))) (refuses 16 [])
+  searched : (from : ℕ) (w : Walk Tlv) → walkOf (message ++ other) ≡ w → (padding : ℕ) → w .end ≡ gives padding → Inside (length message) (w .items)
+      → findInPayload code (message ++ other) from ≡ cond (isKind code) (firstOf code message from (drop from (w .items))) (refuses 16 [])
   unfolding findInPayload findFrom
-  searched from w e padding g h = rw (e, g, first-same from (drop from (w .tlvs)) (inside-drop (length message) from (w .tlvs) h)) (twice (isKind code))
+  searched from w e padding g h = rw (e, g, first-same from (drop from (w .items)) (inside-drop (length message) from (w .items) h)) (twice (isKind code))
     where
-      twice : (b : Bool) → cond b (cond b (firstOf code message from (drop from (w .tlvs))) (refuses 16 [])) (refuses 16 []) ≡ cond b (firstOf code message from (drop from (w .tlvs))) (refuses 16 [])
+      twice : (b : Bool) → cond b (cond b (firstOf code message from (drop from (w .items))) (refuses 16 [])) (refuses 16 []) ≡ cond b (firstOf code message from (drop from (w .items))) (refuses 16 [])
       twice true = refl
       twice false = refl
 
-module _ (p : List ℕ) (k : ℕ) (l : k < length (walkOf p .tlvs)) (m : isMarker (getD (walkOf p .tlvs) k noTlv) ≡ true) where
+module _ (p : List ℕ) (k : ℕ) (l : k < length (walkOf p .items)) (m : isMarker (getD (walkOf p .items) k noTlv) ≡ true) where
   abbrev ts : List Tlv
-  ts = walkOf p .tlvs
+  ts = walkOf p .items
 
   abbrev message : List ℕ
   message = take (offsetAt ts k + 3) p
@@ -67,8 +68,8 @@ module _ (p : List ℕ) (k : ℕ) (l : k < length (walkOf p .tlvs)) (m : isMarke
   inside : Inside (length message) ts
   inside i h =
       let w = ends .not-looked-at [] in
-      let same : walkOf (message ++ []) .tlvs ≡ ts = ap (λ (v : Walk). v .tlvs) w in
-      let h′ : i < length (walkOf (message ++ []) .tlvs) = subst (λ (us : List Tlv). i < length us) (sym same) h in
+      let same : walkOf (message ++ []) .items ≡ ts = ap (λ (v : Walk Tlv). v .items) w in
+      let h′ : i < length (walkOf (message ++ []) .items) = subst (λ (us : List Tlv). i < length us) (sym same) h in
       let far = stands (message ++ []) (of-walk (message ++ [])) i h′ .inside in
       let size : length (message ++ []) ≡ length message = omega (arith, length-append message []) in
       subst (λ (us : List Tlv). getD us i noTlv .offset + 3 + getD us i noTlv .length ≤ length message) same (omega arith)

@@ -12,9 +12,13 @@ use Rattle.numbers.specs.Numbers.{Answer, gives, refuses, isGiven}
 use Rattle.records.specs.declared.Record.{Record}
 use Rattle.kinds.specs.Kinds.{isKind, Typed}
 use Rattle.walking.specs.declared.Tlv.{Tlv}
-use Rattle.walking.specs.Walk.{Ahead, ended, passed, last, WalkCount, stepAt, Walk, walkBy, walkFrom, walkOf, counted}
-use Rattle.walking.proofs.Stepping.{passes, turn, begun}
+use Rattle.walking.specs.Steps.{ended, passed, last}
+use Rattle.walking.specs.Walk.{WalkCount, stepAt, walkOf, counted}
+use Rattle.walking.proofs.Chained.{Has}
+use Rattle.walking.proofs.Going.{turned}
 use Rattle.walking.proofs.Listed as Counts
+use Rattle.walking.proofs.Walking.{Walking}
+use Rattle.walking.proofs.Walking as Walks
 use Rattle.finding.specs.Finding.{Hit, readsAs, thereOr, firstOf, findFrom, findInPayload}
 use Rattle.finding.proofs.Passing.{first-nil, first-cons, or-behind}
 
@@ -58,63 +62,47 @@ rest-cons code p from place t ts = by-place (ltb place from) refl
         ∙ ap (λ (n : ℕ). thereOr (readsAs code p t) place t (firstOf code p (place + 1 + (from - (place + 1))) (drop n ts))) k′
 
 pub record Searching (code : ℕ) (p : List ℕ) (from at place : ℕ) : Type 0 where
-  pub within : at ≤ length p
-  pub few : place ≤ at
-  pub most : ℕ
-  pub enough : length p - at ≤ most
-  pub will : rest code p from place (walkFrom most p at .tlvs) ≡ firstOf code p from (drop from (walkOf p .tlvs))
+  pub walking : Walking p at place
+  pub will : rest code p from place (drop place (walkOf p .items)) ≡ firstOf code p from (drop from (walkOf p .items))
 
 pub begins : (code : ℕ) (p : List ℕ) (from : ℕ) → Searching code p from 0 0
 begins code p from =
     let k : from - 0 ≡ from = omega arith in
     let i : 0 + (from - 0) ≡ from = omega arith in
-    record {
-      within = omega arith;
-      few = omega arith;
-      most = length p;
-      enough = omega arith;
-      will = ap (λ (n : ℕ). firstOf code p n (drop (from - 0) (walkFrom (length p) p 0 .tlvs))) i ∙ ap (λ (n : ℕ). firstOf code p from (drop n (walkFrom (length p) p 0 .tlvs))) k
-          ∙ ap (λ (w : Walk). firstOf code p from (drop from (w .tlvs))) (begun p);
-    }
+    record { walking = Walks.begins p; will = rw (i, k) }
 
 module _ (code : ℕ) (p : List ℕ) (from at place : ℕ) (w : Searching code p from at place) where
-  abbrev on : ℕ → Walk
-  on next = walkFrom (w .most - 1) p next
+  -- what is ahead, the walk answers by
+  by-ahead : (ts : List Tlv) → drop place (walkOf p .items) ≡ ts → rest code p from place ts ≡ firstOf code p from (drop from (walkOf p .items))
+  by-ahead ts e = ap (rest code p from place) (sym e) ∙ w .will
 
-  by-step : (a : Answer Ahead) → a ≡ stepAt p at → rest code p from place (walkBy (length p) a on .tlvs) ≡ firstOf code p from (drop from (walkOf p .tlvs))
-  by-step a e = ap (λ (x : Answer Ahead). rest code p from place (walkBy (length p) x on .tlvs)) e ∙ sym (ap (λ (v : Walk). rest code p from place (v .tlvs)) (turn (w .most) p at (w .enough))) ∙ w .will
+  abbrev goes : Has p at (drop place (walkOf p .items)) (walkOf p .end)
+  goes = w .walking .goes
 
-  pub ends : gives ended ≡ stepAt p at → refuses 15 [] ≡ firstOf code p from (drop from (walkOf p .tlvs))
-  ends e = sym (rest-nil code p from place) ∙ by-step (gives ended) e
+  pub ends : gives ended ≡ stepAt p at → refuses 15 [] ≡ firstOf code p from (drop from (walkOf p .items))
+  ends e = sym (rest-nil code p from place) ∙ by-ahead [] (turned (stepAt p) (length p) goes (gives ended) e .0)
 
-  pub stops : (n : ℕ) (vs : List ℕ) → refuses n vs ≡ stepAt p at → refuses 15 [] ≡ firstOf code p from (drop from (walkOf p .tlvs))
-  stops n vs e = sym (rest-nil code p from place) ∙ by-step (refuses n vs) e
+  pub stops : (n : ℕ) (vs : List ℕ) → refuses n vs ≡ stepAt p at → refuses 15 [] ≡ firstOf code p from (drop from (walkOf p .items))
+  stops n vs e = sym (rest-nil code p from place) ∙ by-ahead [] (turned (stepAt p) (length p) goes (refuses n vs) e .0)
 
   -- at the marker the look is the answer: behind it nothing is found
-  pub at-marker : (t : Tlv) (end : ℕ) → gives (last t end) ≡ stepAt p at → (a : Answer Hit) → SaysFrom code p t place from a → a ≡ firstOf code p from (drop from (walkOf p .tlvs))
+  pub at-marker : (t : Tlv) (end : ℕ) → gives (last t end) ≡ stepAt p at → (a : Answer Hit) → SaysFrom code p t place from a → a ≡ firstOf code p from (drop from (walkOf p .items))
   at-marker t end e a says =
       says ∙ ap (λ (x : Answer Hit). cond (ltb place from) x (thereOr (readsAs code p t) place t x)) (sym (rest-nil code p from (place + 1)))
-      ∙ sym (rest-cons code p from place t []) ∙ by-step (gives (last t end)) e
+      ∙ sym (rest-cons code p from place t []) ∙ by-ahead (t ∷ []) (turned (stepAt p) (length p) goes (gives (last t end)) e .0)
 
   module _ (t : Tlv) (next : ℕ) (e : gives (passed t next) ≡ stepAt p at) (a : Answer Hit) (says : SaysFrom code p t place from a) where
     abbrev behind : Answer Hit
-    behind = rest code p from (place + 1) (on next .tlvs)
+    behind = rest code p from (place + 1) (drop (place + 1) (walkOf p .items))
 
-    looked : cond (isGiven a) a behind ≡ firstOf code p from (drop from (walkOf p .tlvs))
-    looked = from-behind (ltb place from) (readsAs code p t) place t a says behind ∙ sym (rest-cons code p from place t (on next .tlvs)) ∙ by-step (gives (passed t next)) e
+    looked : cond (isGiven a) a behind ≡ firstOf code p from (drop from (walkOf p .items))
+    looked = from-behind (ltb place from) (readsAs code p t) place t a says behind ∙ sym (rest-cons code p from place t (drop (place + 1) (walkOf p .items)))
+        ∙ by-ahead (t ∷ drop (place + 1) (walkOf p .items)) (Walks.ahead p at place (w .walking) t next e)
 
     pub goes-on : isGiven a ≡ false → Searching code p from next (place + 1)
-    goes-on h =
-        let o = passes p at t next e in
-        record {
-          within = o .inside;
-          few = omega (arith, o .behind, w .few);
-          most = w .most - 1;
-          enough = omega (arith, o .behind, w .enough);
-          will = ap (λ (b : Bool). cond b a behind) (sym h) ∙ looked;
-        }
+    goes-on h = record { walking = Walks.goes-on p at place (w .walking) t next e; will = ap (λ (b : Bool). cond b a behind) (sym h) ∙ looked }
 
-    pub found : isGiven a ≡ true → a ≡ firstOf code p from (drop from (walkOf p .tlvs))
+    pub found : isGiven a ≡ true → a ≡ firstOf code p from (drop from (walkOf p .items))
     found h = ap (λ (b : Bool). cond b a behind) (sym h) ∙ looked
 
 -- the whole answer: 16, then the walk's refusal, then what the search found
@@ -127,6 +115,6 @@ module _ (code : ℕ) (p : List ℕ) (from : ℕ) where
   unfolding findInPayload
   unwalked e n vs c = rw (e, Counts.ended-by (walkOf p) n vs c)
 
-  pub walked : isKind code ≡ true → (n : WalkCount) → gives n ≡ counted (walkOf p) → (a : Answer Hit) → a ≡ firstOf code p from (drop from (walkOf p .tlvs)) → a ≡ findInPayload code p from
+  pub walked : isKind code ≡ true → (n : WalkCount) → gives n ≡ counted (walkOf p) → (a : Answer Hit) → a ≡ firstOf code p from (drop from (walkOf p .items)) → a ≡ findInPayload code p from
   unfolding findInPayload findFrom
   walked e n c a f = f ∙ rw (e, Counts.ended-with (walkOf p) n c .0)

@@ -68,14 +68,14 @@ abbrev pub tlvAs : ℕ → List ℕ → Answer (Typed Record)
 tlvAs code s = andThen (readTlv s) (λ t. cond (eqb (t .tlv-type) code) (readKind code (valueIn (gives t) s)) (refuses 15 []))
 
 pub record OverAWalk : Type 0 where
-  pub found-is-tlv : (payload : List ℕ) (code from : ℕ) (h : Hit) → gives h ≡ findFrom code (walkOf payload .tlvs) payload from
+  pub found-is-tlv : (payload : List ℕ) (code from : ℕ) (h : Hit) → gives h ≡ findFrom code (walkOf payload .items) payload from
       → gives (h .reading) ≡ tlvAs code (drop (h .tlv .offset) payload)
   -- a list that is longer than the walk's, as `walk_into` leaves it, gives the same, if the payload has one
-  pub in-filled-list : (payload : List ℕ) (code : ℕ) (c : WalkCount) (lent : List Tlv) (h : Hit) → gives h ≡ findFrom code (walkOf payload .tlvs) payload 0
-      → gives h ≡ findFrom code (filled (gives c) (walkOf payload .tlvs) lent) payload 0
+  pub in-filled-list : (payload : List ℕ) (code : ℕ) (c : WalkCount) (lent : List Tlv) (h : Hit) → gives h ≡ findFrom code (walkOf payload .items) payload 0
+      → gives h ≡ findFrom code (filled (gives c) (walkOf payload .items) lent) payload 0
   -- without a list the answer is the one over the walk's list, if a walk gets through the payload
   pub without-list : (payload : List ℕ) (code from padding : ℕ) → walkOf payload .end ≡ gives padding
-      → findInPayload code payload from ≡ findFrom code (walkOf payload .tlvs) payload from
+      → findInPayload code payload from ≡ findFrom code (walkOf payload .items) payload from
   -- 2026-03: padding "is not looked at": whatever else follows the marker, TLV number k of the walk, the answer is the same
-  pub not-in-padding : (payload : List ℕ) (k : ℕ) → k < length (walkOf payload .tlvs) → isMarker (getD (walkOf payload .tlvs) k noTlv) ≡ true → (other : List ℕ) (code from : ℕ)
-      → findInPayload code (take (offsetAt (walkOf payload .tlvs) k + 3) payload ++ other) from ≡ findInPayload code payload from
+  pub not-in-padding : (payload : List ℕ) (k : ℕ) → k < length (walkOf payload .items) → isMarker (getD (walkOf payload .items) k noTlv) ≡ true → (other : List ℕ) (code from : ℕ)
+      → findInPayload code (take (offsetAt (walkOf payload .items) k + 3) payload ++ other) from ≡ findInPayload code payload from

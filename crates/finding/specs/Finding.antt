@@ -67,4 +67,4 @@ searchedOf (Searched.Answered f) = foundOf f
 
 unfoldable pub findInPayload : ℕ → List ℕ → ℕ → Answer Hit
 findInPayload code payload from =
-    cond (isKind code) (andThen (walkOf payload .end) (λ padding. findFrom code (walkOf payload .tlvs) payload from)) (refuses 16 [])
+    cond (isKind code) (andThen (walkOf payload .end) (λ padding. findFrom code (walkOf payload .items) payload from)) (refuses 16 [])

@@ -240,7 +240,7 @@ fn look_from(t: Tlv, payload: &[u8], code: u8, place: usize, from: usize) -> Fou
 
 // The first readable TLV of the kind among those that a walk of the payload reads, from so many on. The marker is looked at like any other, and nothing behind it.
 fn search(payload: &[u8], code: u8, from: usize) -> Found
-    ensures { λ r. ⌜ foundOf r ≡ firstOf code (now (payload .entry)) from (drop from (walkOf (now (payload .entry)) .tlvs)) ⌝ }
+    ensures { λ r. ⌜ foundOf r ≡ firstOf code (now (payload .entry)) from (drop from (walkOf (now (payload .entry)) .items)) ⌝ }
 {
     let mut at = 0;
     let mut place = 0;

@@ -22,7 +22,7 @@ pub(crate) fn walk_and_find(
     code: u8,
 ) -> WalkedList
     ensures { λ r. ⌜ (walkedOf (r .walked) ≡ listed (length list) (walkOf (now (walk .entry))))
-        × ((r .tlvs ≡ filled (listed (length list) (walkOf (now (walk .entry)))) (walkOf (now (walk .entry)) .tlvs) list)
+        × ((r .tlvs ≡ filled (listed (length list) (walkOf (now (walk .entry)))) (walkOf (now (walk .entry)) .items) list)
         × (foundOf (r .found) ≡ findFrom code (r .tlvs) (now (payload .entry)) 0)) ⌝ }
 {
     let walked = walking::walk_into(&mut list, walk);

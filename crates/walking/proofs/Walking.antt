@@ -10,7 +10,7 @@ use Rattle.walking.specs.declared.Tlv.{Tlv}
 use Rattle.walking.specs.Steps.{ended, passed, last}
 use Rattle.walking.specs.Walk.{stepAt, walkOf, counted}
 use Rattle.walking.proofs.Chained.{Has, of-walk}
-use Rattle.walking.proofs.Going.{turned}
+use Rattle.walking.proofs.Going.{Turned, turned}
 use Rattle.walking.proofs.Stepping.{passes}
 
 module _ (p : List ℕ) where
@@ -44,11 +44,20 @@ module _ (p : List ℕ) where
     pub stops : (n : ℕ) (vs : List ℕ) → refuses n vs ≡ stepAt p at → refuses n vs ≡ counted (walkOf p)
     stops n vs e = rw (turned (stepAt p) (length p) (w .goes) (refuses n vs) e .1)
 
-    pub goes-on : (t : Tlv) (next : ℕ) → gives (passed t next) ≡ stepAt p at → Walking next (k + 1)
-    goes-on t next e =
-        let u = turned (stepAt p) (length p) (w .goes) (gives (passed t next)) e in
-        record {
-          goes = subst (λ (l : List Tlv). Has p next l (walkOf p .end)) (sym (sym (drop-drop 1 k tlvs) ∙ ap (λ (l : List Tlv). drop 1 l) (u .1 .0))) (u .1 .1);
-          few = omega (arith, length-drop k tlvs, ap length (u .1 .0));
-          slow = omega (arith, passes p at t next e .behind, w .slow);
-        }
+    -- the TLV that a step passes is the next, and those after it follow
+    module _ (t : Tlv) (next : ℕ) (e : gives (passed t next) ≡ stepAt p at) where
+      split : Turned (stepAt p) (length p) (gives (passed t next)) (drop k tlvs) (walkOf p .end)
+      split = turned (stepAt p) (length p) (w .goes) (gives (passed t next)) e
+
+      after : split .0 ≡ drop (k + 1) tlvs
+      after = sym (sym (drop-drop 1 k tlvs) ∙ ap (λ (l : List Tlv). drop 1 l) (split .1 .0))
+
+      pub ahead : drop k tlvs ≡ t ∷ drop (k + 1) tlvs
+      ahead = split .1 .0 ∙ ap (λ (l : List Tlv). t ∷ l) after
+
+      pub goes-on : Walking next (k + 1)
+      goes-on = record {
+        goes = subst (λ (l : List Tlv). Has p next l (walkOf p .end)) after (split .1 .1);
+        few = omega (arith, length-drop k tlvs, ap length (split .1 .0));
+        slow = omega (arith, passes p at t next e .behind, w .slow);
+      }

@@ -109,7 +109,7 @@ module _ {M : Type 1} (𝓤 : URA M) (H : Heap 𝓤) (A : Atoms 𝓤) (W : Given
   handed = qed W ((‵ (flft κ q) ⊛ (‵ (flft κ′ q′) ⊛ ‵ ftrue)) ∷ ‵ (owns (MutSlice (named 0) κ R ∷ ShrSlice (named 1) κ′ u8 ∷ []) x at) ∷ []) ∵ join ! $ frame ! $ done !
 
   abbrev Says : Walked → List Tlv → Type 0
-  Says r zs = (walkedOf r ≡ listed m (payloadWalk (now pay))) × (zs ≡ filled (listed m (payloadWalk (now pay))) (payloadWalk (now pay) .tlvs) ys)
+  Says r zs = (walkedOf r ≡ listed m (payloadWalk (now pay))) × (zs ≡ filled (listed m (payloadWalk (now pay))) (payloadWalk (now pay) .items) ys)
 
   -- the call of `walk_numbers` at an answer r
   module _ (r : Walked) (u : Val) where

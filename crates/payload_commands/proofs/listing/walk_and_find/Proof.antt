@@ -153,7 +153,7 @@ module _ {M : Type 1} (𝓤 : URA M) (H : Heap 𝓤) (A : Atoms 𝓤) (W : Given
 
   -- what the two calls say
   abbrev SaidWalk : Walked → List Tlv → Type 0
-  SaidWalk r zs = (walkedOf r ≡ listed (length ys) (payloadWalk (now wal))) × (zs ≡ filled (listed (length ys) (payloadWalk (now wal))) (payloadWalk (now wal) .tlvs) ys)
+  SaidWalk r zs = (walkedOf r ≡ listed (length ys) (payloadWalk (now wal))) × (zs ≡ filled (listed (length ys) (payloadWalk (now wal))) (payloadWalk (now wal) .items) ys)
 
   abbrev SaidFind : List Tlv → Found → Type 0
   SaidFind zs o = foundOf o ≡ findFrom kind zs (now pay) 0
