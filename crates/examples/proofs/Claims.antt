@@ -21,8 +21,9 @@ use Rattle.finding.specs.Finding.{readsAs, firstOf, findFrom, findInPayload}
 use Rattle.pushing.specs.Push.{wayBy, keepWay, messageWay}
 use Rattle.stations.specs.Addresses.{addressOf}
 use Rattle.stations.specs.Rows.{whereOf, allHeld, afterJoin, afterLeave, countBelow}
+use Rattle.c_answers.specs.Numbers.{shownIn}
 use Rattle.orders.proofs.Examples.{stays-at-2999, goes-at-3000, zero-then-last-one, last-one-alone}
-use Rattle.examples.specs.Claims.{Claims, OfFraming, OfWalks, OfKinds, OfTexts, OfFinding, OfTheTable, OfStations}
+use Rattle.examples.specs.Claims.{Claims, OfFraming, OfWalks, OfKinds, OfTexts, OfFinding, OfTheTable, OfStations, OfC}
 
 of-framing : OfFraming
 unfolding readTlv readHeader writeSize
@@ -162,6 +163,8 @@ of-texts = record {
   text-of-a-record = refl;
   no-third-radio = refl;
   radios-counted = refl;
+  no-radios-counted = refl;
+  no-entries-of-a-url = refl;
   no-list-in-a-radio = refl;
   no-list-in-a-url = refl;
 }
@@ -218,6 +221,47 @@ of-stations = record {
   event-unreadable = (refl, refl);
 }
 
+of-c : OfC
+unfolding shownIn
+of-c = record {
+  c-header = refl;
+  c-no-header = refl;
+  c-walk = refl;
+  c-cut-walk = refl;
+  c-list-too-short = refl;
+  c-record = refl;
+  c-list = refl;
+  c-no-value = refl;
+  c-found = refl;
+  c-none-found = refl;
+  c-part = refl;
+  c-no-part = refl;
+  c-waiting = refl;
+  c-duplicated = refl;
+  c-inconsistent = refl;
+  c-missing = refl;
+  c-missing-last = refl;
+  c-single = refl;
+  c-joined = refl;
+  c-output-too-small = refl;
+  c-shown-in-payload = refl;
+  c-shown-in-output = refl;
+  c-shown-beyond = refl;
+  c-shown-nothing = refl;
+  c-placed = refl;
+  c-moved = refl;
+  c-same = refl;
+  c-removed = refl;
+  c-stale = refl;
+  c-no-station-room = refl;
+  c-applied = refl;
+  c-not-applied = refl;
+  c-at = refl;
+  c-nowhere = refl;
+  c-row = refl;
+  c-free-row = refl;
+}
+
 pub claims : Claims
 claims = record {
   framing = of-framing;
@@ -227,4 +271,5 @@ claims = record {
   finding = of-finding;
   table = of-the-table;
   stations = of-stations;
+  c = of-c;
 }

@@ -27,8 +27,12 @@ use Rattle.finding.specs.Finding.{findFrom, findInPayload}
 use Rattle.pushing.specs.Push.{Way, refuse, duplicate, keepAt, openAt, end, waiting, duplicated, inconsistent, missing, missingLast, single, joined as joinedAs, wayBy, keepWay, messageWay}
 use Rattle.orders.specs.Runs.{Push, push, sweep, pushed, dropped, after, tells, start, holding, holdsNothing, repliesTo}
 use Rattle.stations.specs.declared.Heard.{Heard}
+use Rattle.stations.specs.declared.Where.{Where}
+use Rattle.stations.specs.declared.Listed.{Listed}
 use Rattle.stations.specs.Rows.{freshStations, answerTo, tableAfter, holds, countOf}
 use Rattle.stations.specs.Events.{answerFrom, tableFrom}
+use Rattle.c_answers.specs.Numbers.{headerNumbers, walkNumbers, kindNumbers, foundNumbers, partNumbers, pushNumbers, shownIn}
+use Rattle.c_stations.specs.Numbers.{noAddress, eventNumbers, appliedNumbers, whereNumbers, rowNumbers}
 use Rattle.examples.specs.Given.{association, associated, padded, able, codesBelow, one-record, a-list, and-more, entry-of, mac, kept-mac, home, guest, services, plain-neighbours, neighbours, by-dhcp, static, ipv4, by-itself, ipv6, bridges, operational, configured, beyond, e-acute, identification, inventory, text-of, on-the-edge, past-the-edge, with-a-byte, with-none, two-tlvs, join-of, leave-of, with-7, with-128, rows-below, LetIn, ZeroThenLastOne}
 
 pub record OfFraming : Type 0 where
@@ -82,7 +86,7 @@ pub record OfWalks : Type 0 where
   pub no-list : listed 0 (walkOf two-tlvs) ≡ refuses 14 (0 ∷ [])
   pub fault-before-14 : listed 0 (walkOf (two-tlvs ++ (0x03 ∷ 0x00 ∷ []))) ≡ refuses 1 (7 ∷ 1 ∷ [])
   pub just-enough : listed 2 (walkOf two-tlvs) ≡ gives (record { count = 2; padding = 0 })
-  pub list-filled : filled (listed 3 (walkOf two-tlvs)) (walkOf two-tlvs .tlvs) (with-none ∷ with-none ∷ with-a-byte ∷ []) ≡ with-a-byte ∷ with-none ∷ with-a-byte ∷ []
+  pub list-filled : filled (listed 3 (walkOf two-tlvs)) (walkOf two-tlvs .items) (with-none ∷ with-none ∷ with-a-byte ∷ []) ≡ with-a-byte ∷ with-none ∷ with-a-byte ∷ []
 
 pub record OfKinds : Type 0 where
   -- "The 21 kinds", and three that hold text: there are so many, and these they are
@@ -188,6 +192,8 @@ pub record OfTexts : Type 0 where
   pub text-of-a-record : locateTextIn 1 0 (mac 1) ≡ refuses 6 []
   pub no-third-radio : locateRadioText 2 inventory ≡ refuses 6 []
   pub radios-counted : countKind 0xD4 [] inventory ≡ gives 2
+  pub no-radios-counted : countKind 21 [] identification ≡ gives 0
+  pub no-entries-of-a-url : countKind 22 [] e-acute ≡ gives 0
   pub no-list-in-a-radio : countKind 0xD4 (0 ∷ []) inventory ≡ refuses 6 []
   pub no-list-in-a-url : countKind 22 (0 ∷ []) e-acute ≡ refuses 6 []
 
@@ -255,6 +261,49 @@ pub record OfStations : Type 0 where
   pub event-cut : (answerFrom with-7 (0x02 ∷ []) ≡ refuses 3 []) × (rows-below 128 (tableFrom with-7 (0x02 ∷ [])) ≡ holds 7 1 ∷ [])
   pub event-unreadable : (answerFrom with-7 (association 0x81) ≡ refuses 5 []) × (rows-below 128 (tableFrom with-7 (association 0x81)) ≡ holds 7 1 ∷ [])
 
+-- Each answer as C gets it: the fields of the structs of include/ashlar.h
+pub record OfC : Type 0 where
+  pub c-header : headerNumbers (gives (record { «message_version» = 1; reserved = 2; «message_type» = 3; «message_id» = 4; fragment = 5; flags = 0x86; «last_fragment» = true }))
+      ≡ record { shortfall = 0; version = 1; reserved = 2; «message_type» = 3; «message_id» = 4; number = 5; flags = 0x86; last = true; refusal = 0 }
+  pub c-no-header : headerNumbers (refuses 1 (8 ∷ []))
+      ≡ record { shortfall = 8; version = 0; reserved = 0; «message_type» = 0; «message_id» = 0; number = 0; flags = 0; last = false; refusal = 1 }
+  pub c-walk : walkNumbers (gives (record { count = 2; padding = 3 })) ≡ record { count = 2; padding = 3; at = 0; shortfall = 0; refusal = 0 }
+  pub c-cut-walk : walkNumbers (refuses 2 (7 ∷ 4 ∷ [])) ≡ record { count = 0; padding = 0; at = 7; shortfall = 4; refusal = 2 }
+  pub c-list-too-short : walkNumbers (refuses 14 (4 ∷ [])) ≡ record { count = 0; padding = 0; at = 4; shortfall = 0; refusal = 14 }
+  pub c-record : kindNumbers (one-record Record.EndOfMessage 6 1) ≡ record { entries = 0; consumed = 6; rest = 1; «is_list» = false; refusal = 0 }
+  pub c-list : kindNumbers (a-list 2 18 1) ≡ record { entries = 2; consumed = 18; rest = 1; «is_list» = true; refusal = 0 }
+  pub c-no-value : kindNumbers {R = Record} (refuses 18 []) ≡ record { entries = 0; consumed = 0; rest = 0; «is_list» = false; refusal = 18 }
+  pub c-found : foundNumbers (gives 3) ≡ record { place = 3; refusal = 0 }
+  pub c-none-found : foundNumbers (refuses 15 []) ≡ record { place = 0; refusal = 15 }
+  pub c-part : partNumbers (gives (record { start = 5; end = 9 })) ≡ record { start = 5; length = 4; refusal = 0 }
+  pub c-no-part : partNumbers (refuses 6 []) ≡ record { start = 0; length = 0; refusal = 6 }
+  pub c-waiting : pushNumbers (gives waiting) ≡ record { length = 0; answer = 1; refusal = 0 }
+  pub c-duplicated : pushNumbers (gives duplicated) ≡ record { length = 0; answer = 2; refusal = 0 }
+  pub c-inconsistent : pushNumbers (gives inconsistent) ≡ record { length = 0; answer = 3; refusal = 0 }
+  pub c-missing : pushNumbers (gives missing) ≡ record { length = 0; answer = 4; refusal = 0 }
+  pub c-missing-last : pushNumbers (gives missingLast) ≡ record { length = 0; answer = 5; refusal = 0 }
+  pub c-single : pushNumbers (gives (single 9)) ≡ record { length = 9; answer = 6; refusal = 0 }
+  pub c-joined : pushNumbers (gives (joinedAs 9)) ≡ record { length = 9; answer = 7; refusal = 0 }
+  pub c-output-too-small : pushNumbers (refuses 13 (9 ∷ [])) ≡ record { length = 9; answer = 0; refusal = 13 }
+  -- where the message lies: in a payload of 9 bytes, or in an output of 10; a length beyond either shows nothing
+  pub c-shown-in-payload : shownIn (record { length = 9; answer = 6; refusal = 0 }) 9 0 ≡ record { length = 9; «in_output» = false }
+  pub c-shown-in-output : shownIn (record { length = 10; answer = 7; refusal = 0 }) 0 10 ≡ record { length = 10; «in_output» = true }
+  pub c-shown-beyond : shownIn (record { length = 10; answer = 7; refusal = 0 }) 99 9 ≡ record { length = 0; «in_output» = true }
+  pub c-shown-nothing : shownIn (record { length = 9; answer = 1; refusal = 0 }) 9 9 ≡ record { length = 0; «in_output» = false }
+  pub c-placed : eventNumbers (gives Heard.Placed) ≡ record { from = noAddress; answer = 1; refusal = 0 }
+  pub c-moved : eventNumbers (gives (Heard.Moved (kept-mac 1))) ≡ record { from = kept-mac 1; answer = 2; refusal = 0 }
+  pub c-same : eventNumbers (gives Heard.Same) ≡ record { from = noAddress; answer = 3; refusal = 0 }
+  pub c-removed : eventNumbers (gives Heard.Removed) ≡ record { from = noAddress; answer = 4; refusal = 0 }
+  pub c-stale : eventNumbers (gives Heard.Stale) ≡ record { from = noAddress; answer = 5; refusal = 0 }
+  pub c-no-station-room : eventNumbers (refuses 17 []) ≡ record { from = noAddress; answer = 0; refusal = 17 }
+  -- an event from a value of 20 bytes, of which it took 13
+  pub c-applied : appliedNumbers 20 (gives (record { heard = Heard.Stale; consumed = 13 })) ≡ record { consumed = 13; rest = 7; heard = record { from = noAddress; answer = 5; refusal = 0 } }
+  pub c-not-applied : appliedNumbers 20 (refuses 5 []) ≡ record { consumed = 0; rest = 0; heard = record { from = noAddress; answer = 0; refusal = 5 } }
+  pub c-at : whereNumbers (Where.At (kept-mac 1)) ≡ record { point = kept-mac 1; held = true }
+  pub c-nowhere : whereNumbers Where.Nowhere ≡ record { point = noAddress; held = false }
+  pub c-row : rowNumbers (Listed.Held (kept-mac 1) (kept-mac 2)) ≡ record { station = kept-mac 1; point = kept-mac 2; held = true }
+  pub c-free-row : rowNumbers Listed.Free ≡ record { station = noAddress; point = noAddress; held = false }
+
 -- everything that is claimed of this crate
 pub record Claims : Type 0 where
   pub framing : OfFraming
@@ -264,3 +313,4 @@ pub record Claims : Type 0 where
   pub finding : OfFinding
   pub table : OfTheTable
   pub stations : OfStations
+  pub c : OfC
