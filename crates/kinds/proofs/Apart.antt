@@ -13,32 +13,33 @@ use Rattle.records.specs.Reading.{isRecord, withCode}
 use Rattle.layouts.specs.Layouts.{layoutOf, isList}
 use Rattle.texts.specs.Texts.{textKind, isText}
 use Rattle.texts.proofs.Claims.{of-three}
-use Rattle.kinds.specs.Kinds.{isListed}
+use Rattle.kinds.specs.declared.Family.{Family}
+use Rattle.kinds.specs.Kinds.{familyOf}
 use Rattle.kinds.specs.Claims.{Apart}
+
+abbrev hasEntries : ℕ → Bool
+hasEntries code = cond (isList code) true (isText code)
 
 abbrev noneListed : List Kind → Bool
 noneListed [] = true
-noneListed (k ∷ ks) = cond (isListed (codeOf k)) false (noneListed ks)
+noneListed (k ∷ ks) = cond (hasEntries (codeOf k)) false (noneListed ks)
 
 tested : noneListed kinds ≡ true
 unfolding isList layoutOf isText textKind
 tested = refl
 
-of-these : (code : ℕ) (ks : List Kind) → noneListed ks ≡ true → isGiven (withCode code ks) ≡ true → isListed code ≡ false
+of-these : (code : ℕ) (ks : List Kind) → noneListed ks ≡ true → isGiven (withCode code ks) ≡ true → hasEntries code ≡ false
 of-these code [] t e = let z : _≡_ {A = ℕ} 0 1 = cc in absurd (omega arith)
-of-these code (k ∷ ks) t e = by-list (isListed (codeOf k)) refl t (of-these code ks)
+of-these code (k ∷ ks) t e = by-list (hasEntries (codeOf k)) refl t (of-these code ks)
   where
-    by-code : (b : Bool) → eqb code (codeOf k) ≡ b → isGiven (cond b (gives k) (withCode code ks)) ≡ true → isListed (codeOf k) ≡ false → (isGiven (withCode code ks) ≡ true → isListed code ≡ false) →
-        isListed code ≡ false
-    by-code true f e l on = ap isListed (eqb-true code (codeOf k) f) ∙ l
+    by-code : (b : Bool) → eqb code (codeOf k) ≡ b → isGiven (cond b (gives k) (withCode code ks)) ≡ true → hasEntries (codeOf k) ≡ false → (isGiven (withCode code ks) ≡ true → hasEntries code ≡ false) →
+        hasEntries code ≡ false
+    by-code true f e l on = ap hasEntries (eqb-true code (codeOf k) f) ∙ l
     by-code false f e l on = on e
 
-    by-list : (b : Bool) → isListed (codeOf k) ≡ b → cond b false (noneListed ks) ≡ true → (noneListed ks ≡ true → isGiven (withCode code ks) ≡ true → isListed code ≡ false) → isListed code ≡ false
+    by-list : (b : Bool) → hasEntries (codeOf k) ≡ b → cond b false (noneListed ks) ≡ true → (noneListed ks ≡ true → isGiven (withCode code ks) ≡ true → hasEntries code ≡ false) → hasEntries code ≡ false
     by-list true f t on = let z : _≡_ {A = ℕ} 0 1 = cc in absurd (omega arith)
     by-list false f t on = by-code (eqb code (codeOf k)) refl e f (on t)
-
-pub not-listed : (code : ℕ) → isRecord code ≡ true → isListed code ≡ false
-not-listed code = of-these code kinds tested
 
 neither : (a b : Bool) → cond a true b ≡ false → (a ≡ false) × (b ≡ false)
 neither true b e = let z : _≡_ {A = ℕ} 0 1 = cc in absurd (omega arith)
@@ -49,4 +50,12 @@ unfolding isList layoutOf
 text-apart = of-three (λ c. isList c ≡ false) refl refl refl
 
 pub apart : Apart
-apart code = (λ r. neither (isList code) (isText code) (not-listed code r), text-apart code)
+apart code = (λ r. neither (isList code) (isText code) (of-these code kinds tested r), text-apart code)
+
+-- so a record's code is of the records' family
+pub of-records : (code : ℕ) → isRecord code ≡ true → Family.Record ≡ familyOf code
+of-records code r = let n = apart code .0 r in rw (n .0, n .1)
+
+pub inventory : familyOf 0xD4 ≡ Family.Text
+unfolding isList layoutOf isText textKind
+inventory = refl

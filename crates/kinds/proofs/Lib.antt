@@ -1,6 +1,5 @@
 pub mod Apart
 pub mod Claims
 pub mod Firm
-pub mod Families
 pub mod Laws
 pub mod RoundTrip

@@ -1,85 +1,130 @@
--- Round trips: what was written reads back as what it was written from.
+-- Round trips: what was written reads back as what it was written from, and what was read is written as it stood.
 use mathlib.Core.Path.{_≡_, refl, sym, ap, _∙_, subst}
 use mathlib.Core.Bool.{Bool, true, false}
 use mathlib.Core.List.{List, [], _++_}
-use Prim.Native.Nat.{ℕ, _-_, _≤_}
+use Prim.Native.Nat.{ℕ, _+_, _-_, _≤_, _<_}
 use native.Mathlib.Omega.{arith}
-use lib.ListN.{length, take}
-use lib.Seq.{length-take-le, take-append-seam}
+use lib.Dec.{ltb}
+use lib.ListN.{length, take, drop, getD, length-take, List·getD-eq-default}
+use lib.Seq.{length-take-le, take-append-seam, take-length, getD-take, getD-drop}
+use borrow.Author.Tests.{ltb-true, ltb-false}
 use Rattle.numbers.specs.Numbers.{Answer, gives, refuses, andThen, mapped}
-use Rattle.numbers.proofs.Firm.{never}
-use Rattle.numbers.proofs.Answers.{given}
-use Rattle.framing.specs.Tlv.{TlvRead, readTlv, valueIn, longestValue, tlvBytes}
+use Rattle.numbers.proofs.Answers.{given, mapped-gave, mapped-given}
+use Rattle.framing.specs.Tlv.{TlvRead, readTlv, valueIn, longestValue, writeSize, tlvBytes}
 use Rattle.numbers.specs.Bytes.{Bytes}
 use Rattle.framing.proofs.Claims.{round-trip}
 use Rattle.records.specs.declared.Record.{Record}
 use Rattle.records.specs.Kinds.{codeOf, kindOf}
 use Rattle.records.specs.Values.{bytesOf}
-use Rattle.records.specs.Reading.{RecordRead, readRecord}
-use Rattle.records.proofs.Given.{consumed-within}
+use Rattle.records.specs.Reading.{isRecord, readRecord}
+use Rattle.records.proofs.Given.{isKnown, known, consumed-within}
+use Rattle.record_writing.specs.Writing.{readable, recordSize}
 use Rattle.record_writing.proofs.Claims.{round-trips}
-use Rattle.layouts.specs.Reading.{Consumed}
-use Rattle.layouts.specs.Access.{Span, partOf}
-use Rattle.kinds.specs.Kinds.{Typed, one, isListed, readListed, oneRecord, oneList, readKind, noEntryIn, locateKind, countKind}
+use Rattle.layouts.specs.Reading.{readValue}
+use Rattle.layouts.specs.Access.{partOf}
+use Rattle.layouts.proofs.Claims as lists
+use Rattle.texts.specs.Reading.{readText}
+use Rattle.texts.specs.Access.{locateRadioText}
+use Rattle.texts.proofs.Claims as texts
+use Rattle.kinds.specs.declared.Family.{Family}
+use Rattle.kinds.specs.Kinds.{Typed, one, familyOf, oneRecord, oneList, readBy, readKind, locateBy, locateKind, countBy, countKind, textBy, locateTextIn}
 use Rattle.kinds.specs.Writing.{kindBytes}
-use Rattle.kinds.specs.Claims.{valueAt, Same, ReadsBack, RecordReadsBack}
-use Rattle.kinds.proofs.Apart.{not-listed}
-use Rattle.kinds.proofs.Families.{listed-alone, no-texts}
-use Rattle.kinds.proofs.Laws.{list-reads, list-located, list-part, list-counted, record-reads, is-record, no-entry, no-count, text-parts, size, written-bytes}
+use Rattle.kinds.specs.Claims.{valueAt, Same, ReadsBack, RecordReadsBack, WritesBack, ValueWritesBack, TlvWritesBack}
+use Rattle.kinds.proofs.Apart.{of-records, inventory}
+use Rattle.kinds.proofs.Laws.{reads, within, size, written, written-bytes}
 
-module _ (code : ℕ) (s : List ℕ) (bytes : Bytes s) (t : Typed Record) where
-  -- of a kind with entries
-  as-list : isListed code ≡ true → (x : Answer Consumed) → x ≡ readListed code s → gives t ≡ mapped oneList x → Same code t s (take (t .consumed) s)
-  as-list f (gives c) e g =
-      let i : t ≡ oneList c = given t (oneList c) g in
-      let u : List ℕ = take (c .consumed) s in
-      let a = listed-alone code s c (sym e) in
-      rw i
-      (record {
-        reads = sym (list-reads code u f) ∙ ap (mapped oneList) (a .reads);
-        places = λ is. sym (list-located code u f is) ∙ a .located is ∙ list-located code s f is;
-        counts = λ is. sym (list-counted code u f is) ∙ a .counts is ∙ list-counted code s f is;
-        entries = λ is. sym (list-part code u f is) ∙ a .parts is ∙ list-part code s f is;
-        texts = text-parts code u s (a .texts);
-        radio-texts = a .radio-texts;
-      })
-  as-list f (refuses n vs) e g = never _ _ _ g
+-- what is claimed of the value v, by the family
+record SameBy (family : Family) (code : ℕ) (t : Typed Record) (s v : List ℕ) : Type 0 where
+  pub reads : readBy family code v ≡ gives (record { held = t .held; consumed = t .consumed; rest = 0 })
+  pub counts : (is : List ℕ) → countBy family code is v ≡ countBy family code is s
+  pub located : (is : List ℕ) → locateBy family code is v ≡ locateBy family code is s
+  pub parts : (is : List ℕ) → partOf (locateBy family code is v) v ≡ partOf (locateBy family code is s) s
+  pub texts : (i : ℕ) → textBy family code i v ≡ textBy family code i s
+  pub text-parts : (i : ℕ) → partOf (textBy family code i v) v ≡ partOf (textBy family code i s) s
+  pub radio-texts : code ≡ 0xD4 → (i : ℕ) → locateRadioText i v ≡ locateRadioText i s
+  pub radio-text-parts : code ≡ 0xD4 → (i : ℕ) → partOf (locateRadioText i v) v ≡ partOf (locateRadioText i s) s
 
-  -- of a record, which has no entries
-  as-record : isListed code ≡ false → (x : Answer RecordRead) → x ≡ readRecord code s → gives t ≡ mapped (oneRecord (length s)) x → Same code t s (take (t .consumed) s)
-  as-record f (gives r) e g =
-      let i : t ≡ oneRecord (length s) r = given t (oneRecord (length s) r) g in
-      let u : List ℕ = take (r .consumed) s in
-      let a : readRecord code u ≡ gives r = round-trips .write-back code s r bytes (sym e) .alone in
-      let l : length u ≡ r .consumed = length-take-le (r .consumed) s (consumed-within code s r (sym e)) in
-      let z : length u - r .consumed ≡ 0 = omega (arith, l) in
-      rw i
-      (record {
-        reads = sym (record-reads code u f) ∙ ap (mapped (oneRecord (length u))) a ∙ ap (λ (n : ℕ). gives (record { held = one (r .value); consumed = r .consumed; rest = n })) z;
-        places = λ is. sym (six u a is) ∙ six s (sym e) is;
-        counts = λ is. sym (six-counted u a is) ∙ six-counted s (sym e) is;
-        entries = λ is. ap (λ (x : Answer Span). partOf x u) (sym (six u a is)) ∙ ap (λ (x : Answer Span). partOf x s) (six s (sym e) is);
-        texts = text-parts code u s (no-texts code f s u .0);
-        radio-texts = no-texts code f s u .1;
-      })
-    where
-      none : {A : Type 0} (v : List ℕ) → readRecord code v ≡ gives r → _≡_ {A = Answer A} (refuses 6 []) (noEntryIn code v)
-      none v h = ap (λ (x : Answer (Typed Record)). andThen x (λ y. refuses 6 [])) (ap (mapped (oneRecord (length v))) (sym h) ∙ record-reads code v f)
+same-by : (code : ℕ) (t : Typed Record) (s v : List ℕ) → SameBy (familyOf code) code t s v → Same code t s v
+unfolding readKind locateKind countKind locateTextIn
+same-by code t s v a = record {
+  reads = a .reads;
+  counts = a .counts;
+  located = a .located;
+  parts = a .parts;
+  texts = a .texts;
+  text-parts = a .text-parts;
+  radio-texts = a .radio-texts;
+  radio-text-parts = a .radio-text-parts;
+}
 
-      six : (v : List ℕ) → readRecord code v ≡ gives r → (is : List ℕ) → refuses 6 [] ≡ locateKind code is v
-      six v h is = none v h ∙ no-entry code v f is
+-- of two values that read, what is asked for where there is none is 6
+six : {A : Type 0} (x y : Answer (Typed Record)) (a b : Typed Record) → x ≡ gives a → y ≡ gives b → _≡_ {A = Answer A} (andThen x (λ t. refuses 6 [])) (andThen y (λ t. refuses 6 []))
+six x y a b e f = rw (e, f)
 
-      six-counted : (v : List ℕ) → readRecord code v ≡ gives r → (is : List ℕ) → refuses 6 [] ≡ countKind code is v
-      six-counted v h is = none v h ∙ no-count code v f is
-  as-record f (refuses n vs) e g = never _ _ _ g
+no-parts : (x y : Answer (Typed Record)) (s v : List ℕ) (a b : Typed Record) → x ≡ gives a → y ≡ gives b → partOf (andThen x (λ t. refuses 6 [])) v ≡ partOf (andThen y (λ t. refuses 6 [])) s
+no-parts x y s v a b e f = rw (e, f)
+
+module _ (code : ℕ) (s : List ℕ) (bytes : Bytes s) where
+  no-radios : {A : Type 0} {family : Family} → family ≡ familyOf code → (family ≡ Family.Text → ⊥) → code ≡ 0xD4 → A
+  no-radios e n c = absurd (n (e ∙ ap familyOf c ∙ inventory))
 
   -- the consumed bytes alone are such a value
-  alone : gives t ≡ readKind code s → Same code t s (take (t .consumed) s)
-  alone e = by-list (isListed code) refl
-    where
-      by-list : (b : Bool) → isListed code ≡ b → Same code t s (take (t .consumed) s)
-      by-list true f = as-list f (readListed code s) refl (e ∙ sym (list-reads code s f))
-      by-list false f = as-record f (readRecord code s) refl (e ∙ sym (record-reads code s f))
+  alone-by : (family : Family) → family ≡ familyOf code → (t : Typed Record) → readBy family code s ≡ gives t → SameBy family code t s (take (t .consumed) s)
+  alone-by Family.List e t h =
+      let g = mapped-gave oneList (readValue code s) t h in
+      let v = take (g .first .consumed) s in
+      let a = lists.consumed-alone code s (g .first) (g .is) in
+      let r = mapped-given oneList _ _ (a .reads) in
+      let r′ = sym (reads code v e) ∙ r in
+      let x = sym (reads code s e) ∙ mapped-given oneList _ _ (g .is) in
+      subst (λ (t : Typed Record). SameBy Family.List code t s (take (t .consumed) s)) (given (oneList (g .first)) t (g .then))
+      (record {
+        reads = r;
+        counts = a .counts;
+        located = a .located;
+        parts = a .parts;
+        texts = λ i. six _ _ _ _ r′ x;
+        text-parts = λ i. no-parts _ _ s v _ _ r′ x;
+        radio-texts = no-radios e (λ (n : Family.List ≡ Family.Text). let z : _≡_ {A = ℕ} 0 1 = cc in omega arith);
+        radio-text-parts = no-radios e (λ (n : Family.List ≡ Family.Text). let z : _≡_ {A = ℕ} 0 1 = cc in omega arith);
+      })
+  alone-by Family.Text e t h =
+      let g = mapped-gave oneList (readText code s) t h in
+      let a = texts.consumed-alone code s (g .first) (g .is) in
+      subst (λ (t : Typed Record). SameBy Family.Text code t s (take (t .consumed) s)) (given (oneList (g .first)) t (g .then))
+      (record {
+        reads = mapped-given oneList _ _ (a .reads);
+        counts = a .counts;
+        located = a .located;
+        parts = a .parts;
+        texts = a .texts;
+        text-parts = a .text-parts;
+        radio-texts = a .radio-texts;
+        radio-text-parts = a .radio-text-parts;
+      })
+  alone-by Family.Record e t h =
+      let g = mapped-gave (oneRecord (length s)) (readRecord code s) t h in
+      let v = take (g .first .consumed) s in
+      let l : length v ≡ g .first .consumed = length-take-le (g .first .consumed) s (consumed-within code s (g .first) (g .is)) in
+      let z : length v - g .first .consumed ≡ 0 = omega (arith, l) in
+      let r : readBy Family.Record code v ≡ gives (record { held = one (g .first .value); consumed = g .first .consumed; rest = 0 })
+      = mapped-given (oneRecord (length v)) _ _ (round-trips .write-back code s (g .first) bytes (g .is) .alone) ∙ ap (λ (n : ℕ). gives (record { held = one (g .first .value); consumed = g .first .consumed; rest = n })) z in
+      let r′ = sym (reads code v e) ∙ r in
+      let x = sym (reads code s e) ∙ mapped-given (oneRecord (length s)) _ _ (g .is) in
+      subst (λ (t : Typed Record). SameBy Family.Record code t s (take (t .consumed) s)) (given (oneRecord (length s) (g .first)) t (g .then))
+      (record {
+        reads = r;
+        counts = λ is. six _ _ _ _ r′ x;
+        located = λ is. six _ _ _ _ r′ x;
+        parts = λ is. no-parts _ _ s v _ _ r′ x;
+        texts = λ i. six _ _ _ _ r′ x;
+        text-parts = λ i. no-parts _ _ s v _ _ r′ x;
+        radio-texts = no-radios e (λ (n : Family.Record ≡ Family.Text). let z : _≡_ {A = ℕ} 0 1 = cc in omega arith);
+        radio-text-parts = no-radios e (λ (n : Family.Record ≡ Family.Text). let z : _≡_ {A = ℕ} 0 1 = cc in omega arith);
+      })
+
+  alone : (t : Typed Record) → readKind code s ≡ gives t → Same code t s (take (t .consumed) s)
+  alone t e = same-by code t s (take (t .consumed) s) (alone-by (familyOf code) refl t (reads code s refl ∙ e))
 
 pub reads-back : ReadsBack
 reads-back code s behind t bytes e fits =
@@ -88,7 +133,7 @@ reads-back code s behind t bytes e fits =
     let l : length u ≤ longestValue = omega (arith, z) in
     let b : tlvBytes code u ≡ kindBytes code s = written-bytes code s t (sym e) in
     let v : valueAt (kindBytes code s ++ behind) ≡ u = ap (λ (w : List ℕ). valueAt (w ++ behind)) (sym b) ∙ round-trip .value-written code u behind l in
-    (ap (λ (w : List ℕ). readTlv (w ++ behind)) (sym b) ∙ sym (round-trip .read-written code u behind l), subst (Same code t s) (sym v) (alone code s bytes t (sym e)))
+    (ap (λ (w : List ℕ). readTlv (w ++ behind)) (sym b) ∙ sym (round-trip .read-written code u behind l), subst (Same code t s) (sym v) (alone code s bytes t e))
 
 -- from a record
 pub record-reads-back : RecordReadsBack
@@ -96,8 +141,59 @@ record-reads-back r behind h =
     let c : ℕ = codeOf (kindOf r) in
     let w : List ℕ = tlvBytes c (bytesOf r) ++ behind in
     let b = round-trips .tlv-back r behind h in
+    let k : isRecord c ≡ true = sym (known c (valueAt w)) ∙ ap isKnown (b .1) in
     let l : length (valueAt w) ≡ length (bytesOf r) = ap length (ap (λ (x : Answer TlvRead). valueIn x w) (b .0) ∙ take-append-seam (bytesOf r) behind) in
     let z : length (valueAt w) - length (bytesOf r) ≡ 0 = omega (arith, l) in
-    sym (record-reads c (valueAt w) (not-listed c (sym (is-record c (valueAt w) _ (sym (b .1))))))
+    sym (reads c (valueAt w) (of-records c k))
     ∙ ap (mapped (oneRecord (length (valueAt w)))) (b .1)
     ∙ ap (λ (n : ℕ). gives (record { held = one r; consumed = length (bytesOf r); rest = n })) z
+
+-- a record that was read has the code that was read, and the consumed bytes
+record Kept (code : ℕ) (s : List ℕ) (t : Typed Record) (r : Record) : Type 0 where
+  pub own : codeOf (kindOf r) ≡ code
+  pub bytes : bytesOf r ≡ take (t .consumed) s
+  pub writable : readable r ≡ true
+
+module _ (code : ℕ) (s : List ℕ) (bytes : Bytes s) (t : Typed Record) (r : Record) (held : t .held ≡ one r) where
+  kept-by : (family : Family) → readBy family code s ≡ gives t → Kept code s t r
+  kept-by Family.List h = let g = mapped-gave oneList (readValue code s) t h in let z : _≡_ {A = ℕ} 0 1 = cc (ap (λ t. t .held) (given (oneList (g .first)) t (g .then))) in absurd (omega arith)
+  kept-by Family.Text h = let g = mapped-gave oneList (readText code s) t h in let z : _≡_ {A = ℕ} 0 1 = cc (ap (λ t. t .held) (given (oneList (g .first)) t (g .then))) in absurd (omega arith)
+  kept-by Family.Record h =
+      let g = mapped-gave (oneRecord (length s)) (readRecord code s) t h in
+      let i : oneRecord (length s) (g .first) ≡ t = given (oneRecord (length s) (g .first)) t (g .then) in
+      let v : g .first .value ≡ r = cc (ap (λ t. t .held) i) in
+      let w = round-trips .write-back code s (g .first) bytes (g .is) in
+      record {
+        own = ap (λ r. codeOf (kindOf r)) (sym v) ∙ w .own;
+        bytes = ap bytesOf (sym v) ∙ w .bytes ∙ ap (λ (t : Typed Record). take (t .consumed) s) i;
+        writable = ap readable (sym v) ∙ w .writable;
+      }
+
+  kept : readKind code s ≡ gives t → Kept code s t r
+  kept e = kept-by (familyOf code) (reads code s refl ∙ e)
+
+pub value-writes-back : ValueWritesBack
+unfolding recordSize
+value-writes-back code s t bytes e = record {
+  answer = λ room. sym (written code s t (sym e) room) ∙ ap (λ (n : ℕ). writeSize n room) (sym (size code s t (sym e)));
+  bytes = sym (written-bytes code s t (sym e));
+  record-answer = λ r h room. let k = kept code s bytes t r h e in rw (k .writable) (ap (λ (n : ℕ). writeSize n room) (ap length (k .bytes) ∙ sym (size code s t (sym e))));
+  record-bytes = λ r h. let k = kept code s bytes t r h e in rw (k .own, k .bytes);
+}
+
+-- a part of bytes are bytes
+part-bytes : (n k : ℕ) (s : List ℕ) → Bytes s → Bytes (take n (drop k s))
+part-bytes n k s bytes i = go (ltb i n) refl
+  where
+    go : (b : Bool) → ltb i n ≡ b → getD (take n (drop k s)) i 0 < 256
+    go true f = rw (getD-take n (drop k s) i 0 (ltb-true i n f), getD-drop) (bytes (k + i))
+    go false f = rw (List·getD-eq-default (take n (drop k s)) 0 {n = i} (omega (arith, length-take n (drop k s), ltb-false i n f))) (omega arith)
+
+pub tlv-writes-back : TlvWritesBack
+tlv-writes-back s t v bytes e h rest =
+    let b : Bytes (valueAt s) = rw e (part-bytes (t .value-length) 3 s bytes) in
+    let all = within (t .tlv-type) (valueAt s) v (sym h) .1 in
+    let c : v .consumed ≡ length (valueAt s) = omega arith in
+    subst (WritesBack (t .tlv-type) (valueAt s) v)
+    (ap (λ (n : ℕ). tlvBytes (t .tlv-type) (take n (valueAt s))) c ∙ ap (tlvBytes (t .tlv-type)) (take-length (valueAt s)) ∙ round-trip .written-read s bytes t (sym e))
+    (value-writes-back (t .tlv-type) (valueAt s) v b h)

@@ -8,7 +8,7 @@ use lib.ListN.{length, take}
 use Rattle.numbers.specs.Numbers.{gives, mapped}
 use Rattle.numbers.specs.Firmness.{Firm}
 use Rattle.numbers.specs.Parts.{behind}
-use Rattle.framing.specs.Tlv.{readTlv, valueIn, writtenOf, longestValue, writeSize, tlvBytes, leaves}
+use Rattle.framing.specs.Tlv.{TlvRead, readTlv, valueIn, writtenOf, longestValue, writeSize, tlvBytes, leaves}
 use Rattle.numbers.specs.Bytes.{Bytes}
 use Rattle.framing.specs.Claims.{asRead}
 use Rattle.framing.specs.declared.Written.{Written}
@@ -16,7 +16,7 @@ use Rattle.records.specs.declared.Record.{Record}
 use Rattle.records.specs.Kinds.{codeOf, kindOf}
 use Rattle.records.specs.Values.{bytesOf}
 use Rattle.records.specs.Reading.{isRecord}
-use Rattle.record_writing.specs.Writing.{readable}
+use Rattle.record_writing.specs.Writing.{readable, recordSize}
 use Rattle.layouts.specs.Layouts.{isList}
 use Rattle.layouts.specs.declared.Path.{Path}
 use Rattle.layouts.specs.Access.{numbersOf, locatedOf, countedOf, partOf, startIn}
@@ -35,8 +35,8 @@ pub record Firmness : Type 0 where
       (r .0 ≡ partOf (locateKind code (numbersOf path) (now s)) (now s)) × (r .1 ≡ behind (startIn (locateKind code (numbersOf path) (now s))) s))
   pub count : (code : ℕ) (path : Path) (s : List ℕ) → Firm (λ r. countedOf r ≡ countKind code (numbersOf path) s)
   pub locate-text : (code number : ℕ) (s : List ℕ) → Firm (λ r. locatedOf r ≡ locateTextIn code number s)
-  pub write-kind : (code : ℕ) (s out : List ℕ)
-      → Firm {A = Written × List ℕ} (λ o. (writtenOf (o .0) ≡ writeKind code s (length out)) × (o .1 ≡ leaves (writeKind code s (length out)) (kindBytes code s) out))
+  pub write-kind : (code : ℕ) (bytes out : List ℕ) → Firm {A = Written × List ℕ} (λ o.
+      (writtenOf (o .0) ≡ writeKind code bytes (length out)) × (o .1 ≡ leaves (writeKind code bytes (length out)) (kindBytes code bytes) out))
 
 -- no code is of two families: of a record, of a list, of a value that holds text
 abbrev pub Apart : Type 0
@@ -50,16 +50,18 @@ AllOfIt = (code : ℕ) (s : List ℕ) (t : Typed Record) → readKind code s ≡
 abbrev pub valueAt : List ℕ → List ℕ
 valueAt s = valueIn (readTlv s) s
 
--- the value v reads as t did, with nothing behind it, and its entries at every level, its texts and those of its radios are those of the value s, byte for byte
+-- the value v reads as t did, with nothing after it, and its entries at every level, its texts and those of its radios are those of the value s: the whole answers, and byte for byte
 pub record Same (code : ℕ) (t : Typed Record) (s v : List ℕ) : Type 0 where
   pub reads : readKind code v ≡ gives (record { held = t .held; consumed = t .consumed; rest = 0 })
-  pub places : (numbers : List ℕ) → locateKind code numbers v ≡ locateKind code numbers s
   pub counts : (numbers : List ℕ) → countKind code numbers v ≡ countKind code numbers s
-  pub entries : (numbers : List ℕ) → partOf (locateKind code numbers v) v ≡ partOf (locateKind code numbers s) s
-  pub texts : (i : ℕ) → partOf (locateTextIn code i v) v ≡ partOf (locateTextIn code i s) s
-  pub radio-texts : code ≡ 0xD4 → (i : ℕ) → partOf (locateRadioText i v) v ≡ partOf (locateRadioText i s) s
+  pub located : (numbers : List ℕ) → locateKind code numbers v ≡ locateKind code numbers s
+  pub parts : (numbers : List ℕ) → partOf (locateKind code numbers v) v ≡ partOf (locateKind code numbers s) s
+  pub texts : (i : ℕ) → locateTextIn code i v ≡ locateTextIn code i s
+  pub text-parts : (i : ℕ) → partOf (locateTextIn code i v) v ≡ partOf (locateTextIn code i s) s
+  pub radio-texts : code ≡ 0xD4 → (i : ℕ) → locateRadioText i v ≡ locateRadioText i s
+  pub radio-text-parts : code ≡ 0xD4 → (i : ℕ) → partOf (locateRadioText i v) v ≡ partOf (locateRadioText i s) s
 
--- what is written from a value reads back, whatever stands behind it
+-- what is written from a value reads back, whatever stands after it
 abbrev pub ReadsBack : Type 0
 ReadsBack = (code : ℕ) (s behind : List ℕ) (t : Typed Record) → Bytes s → readKind code s ≡ gives t → t .consumed ≤ longestValue
     → (readTlv (kindBytes code s ++ behind) ≡ gives (asRead code (take (t .consumed) s)))
@@ -70,7 +72,28 @@ abbrev pub RecordReadsBack : Type 0
 RecordReadsBack = (r : Record) (behind : List ℕ) → readable r ≡ true
     → readKind (codeOf (kindOf r)) (valueAt (tlvBytes (codeOf (kindOf r)) (bytesOf r) ++ behind)) ≡ gives (record { held = one r; consumed = length (bytesOf r); rest = 0 })
 
--- writing what was read: unless 8 or 7 refuses it, it is the TLV of the consumed bytes, and nothing of the rest
-abbrev pub WritesBack : Type 0
-WritesBack = (code : ℕ) (s : List ℕ) (t : Typed Record) → readKind code s ≡ gives t
-    → ((room : ℕ) → writeKind code s room ≡ writeSize (t .consumed) room) × (kindBytes code s ≡ tlvBytes code (take (t .consumed) s))
+-- Writing what was read as t from the value s gives these bytes: from the value bytes, unless 8 or 7 refuses them, and from the record, where it is one, by `write_record`
+pub record WritesBack (code : ℕ) (s : List ℕ) (t : Typed Record) (tlv : List ℕ) : Type 0 where
+  pub answer : (room : ℕ) → writeKind code s room ≡ writeSize (t .consumed) room
+  pub bytes : kindBytes code s ≡ tlv
+  pub record-answer : (r : Record) → t .held ≡ one r → (room : ℕ) → recordSize r room ≡ writeSize (t .consumed) room
+  pub record-bytes : (r : Record) → t .held ≡ one r → tlvBytes (codeOf (kindOf r)) (bytesOf r) ≡ tlv
+
+-- a value that was read: the TLV of the consumed bytes, and nothing of the rest
+abbrev pub ValueWritesBack : Type 0
+ValueWritesBack = (code : ℕ) (s : List ℕ) (t : Typed Record) → Bytes s → readKind code s ≡ gives t → WritesBack code s t (tlvBytes code (take (t .consumed) s))
+
+-- a TLV that was read, whose value reads with no rest: the TLV's own bytes
+abbrev pub TlvWritesBack : Type 0
+TlvWritesBack = (s : List ℕ) (t : TlvRead) (v : Typed Record) → Bytes s → readTlv s ≡ gives t → readKind (t .tlv-type) (valueAt s) ≡ gives v → v .rest ≡ 0
+    → WritesBack (t .tlv-type) (valueAt s) v (take (t .consumed) s)
+
+-- everything that is claimed of this crate
+pub record Claims : Type 0 where
+  pub firmness : Firmness
+  pub apart : Apart
+  pub all-of-it : AllOfIt
+  pub reads-back : ReadsBack
+  pub record-reads-back : RecordReadsBack
+  pub value-writes-back : ValueWritesBack
+  pub tlv-writes-back : TlvWritesBack

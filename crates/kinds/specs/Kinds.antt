@@ -13,27 +13,24 @@ use Rattle.layouts.specs.Access as access
 use Rattle.texts.specs.Texts.{isText}
 use Rattle.texts.specs.Reading as texts
 use Rattle.texts.specs.Access.{locateRadio, countRadios, locateText}
+use Rattle.kinds.specs.declared.Family.{Family}
 use Rattle.kinds.specs.declared.KindRead.{KindRead}
 use Rattle.kinds.specs.declared.KindRead.the-variants as KindRead
 use Rattle.kinds.specs.declared.KindSize.{KindSize}
 use Rattle.kinds.specs.declared.KindSize.the-variants as KindSize
 
--- a value with entries, of a list kind or of one that holds text: "All three are written as list kinds are; the radios are entries"
-abbrev pub isListed : ℕ → Bool
-isListed code = cond (isList code) true (isText code)
-
-unfoldable pub readListed : ℕ → List ℕ → Answer layouts.Consumed
-readListed code s = cond (isText code) (texts.readText code s) (layouts.readValue code s)
-
-unfoldable pub locateListed : ℕ → List ℕ → List ℕ → Answer access.Span
-locateListed code numbers s = cond (isText code) (locateRadio code numbers s) (access.locateEntry code numbers s)
-
-unfoldable pub countListed : ℕ → List ℕ → List ℕ → Answer ℕ
-countListed code numbers s = cond (isText code) (countRadios code numbers s) (access.countEntries code numbers s)
+-- the family of a code: no code is of two (`Apart`, in Claims), and what is no list's and no text's is left to the records, which have it or refuse it by 16
+abbrev pub familyOf : ℕ → Family
+familyOf code = cond (isList code) Family.List (cond (isText code) Family.Text Family.Record)
 
 -- a code among the 24
+abbrev pub isKindBy : Family → ℕ → Bool
+isKindBy Family.List code = true
+isKindBy Family.Text code = true
+isKindBy Family.Record code = isRecord code
+
 abbrev pub isKind : ℕ → Bool
-isKind code = cond (isListed code) true (isRecord code)
+isKind code = isKindBy (familyOf code) code
 
 -- what a typed value holds: a record, told as an R, or so many entries
 pub data Contents (R : Type 0) : Type 0 where
@@ -59,8 +56,14 @@ oneRecord size r = record { held = one (r .value); consumed = r .consumed; rest 
 abbrev pub oneList : layouts.Consumed → Typed Record
 oneList c = record { held = list (c .entries); consumed = c .consumed; rest = c .rest }
 
+-- each family's reading. A value that holds text is told as a list: "All three are written as list kinds are; the radios are entries"
+abbrev pub readBy : Family → ℕ → List ℕ → Answer (Typed Record)
+readBy Family.List code s = mapped oneList (layouts.readValue code s)
+readBy Family.Text code s = mapped oneList (texts.readText code s)
+readBy Family.Record code s = mapped (oneRecord (length s)) (records.readRecord code s)
+
 unfoldable pub readKind : ℕ → List ℕ → Answer (Typed Record)
-readKind code s = cond (isListed code) (mapped oneList (readListed code s)) (mapped (oneRecord (length s)) (records.readRecord code s))
+readKind code s = readBy (familyOf code) code s
 
 -- measuring: the same without the record itself
 abbrev pub kindSizeOf : KindSize → Answer (Typed Unit)
@@ -77,14 +80,29 @@ withoutRecord t = record { held = heldWithout (t .held); consumed = t .consumed;
 
 -- an entry of a record kind, or a text of a kind that holds none: 6, "no entry with these numbers", after the value has read
 abbrev pub noEntryIn : {A : Type 0} → ℕ → List ℕ → Answer A
-noEntryIn code s = andThen (readKind code s) (λ r. refuses 6 [])
+noEntryIn code s = andThen (readKind code s) (λ t. refuses 6 [])
+
+abbrev pub locateBy : Family → ℕ → List ℕ → List ℕ → Answer access.Span
+locateBy Family.List code numbers s = access.locateEntry code numbers s
+locateBy Family.Text code numbers s = locateRadio code numbers s
+locateBy Family.Record code numbers s = noEntryIn code s
 
 unfoldable pub locateKind : ℕ → List ℕ → List ℕ → Answer access.Span
-locateKind code numbers s = cond (isListed code) (locateListed code numbers s) (noEntryIn code s)
+locateKind code numbers s = locateBy (familyOf code) code numbers s
+
+abbrev pub countBy : Family → ℕ → List ℕ → List ℕ → Answer ℕ
+countBy Family.List code numbers s = access.countEntries code numbers s
+countBy Family.Text code numbers s = countRadios code numbers s
+countBy Family.Record code numbers s = noEntryIn code s
 
 unfoldable pub countKind : ℕ → List ℕ → List ℕ → Answer ℕ
-countKind code numbers s = cond (isListed code) (countListed code numbers s) (noEntryIn code s)
+countKind code numbers s = countBy (familyOf code) code numbers s
 
 -- the value's own text with this number
+abbrev pub textBy : Family → ℕ → ℕ → List ℕ → Answer access.Span
+textBy Family.List code number s = noEntryIn code s
+textBy Family.Text code number s = locateText code number s
+textBy Family.Record code number s = noEntryIn code s
+
 unfoldable pub locateTextIn : ℕ → ℕ → List ℕ → Answer access.Span
-locateTextIn code number s = cond (isText code) (locateText code number s) (noEntryIn code s)
+locateTextIn code number s = textBy (familyOf code) code number s

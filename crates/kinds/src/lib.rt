@@ -1,6 +1,4 @@
 // The 24 kinds by their codes: a value is read as a list, as text or as a record, its entries and texts are asked for, and value bytes that read are written as a TLV.
-mod listed;
-
 use framing::Written;
 use layouts::Counted;
 use layouts::Located;
@@ -16,13 +14,14 @@ ghost use lib.ListN.{length};
 ghost use Rattle.numbers.specs.Numbers.{told, mapped};
 ghost use Rattle.framing.specs.Tlv.{writtenOf, leaves};
 ghost use Rattle.numbers.specs.Parts.{behind};
+ghost use Rattle.layouts.specs.Reading.{readingOf};
 ghost use Rattle.layouts.specs.Access.{numbersOf, locatedOf, countedOf, partOf, startIn};
 ghost use Rattle.records.specs.Reading.{readRecord};
-ghost use Rattle.kinds.specs.Kinds.{isKind, kindReadOf, oneRecord, readKind, kindSizeOf, withoutRecord, noEntryIn, locateKind, countKind, locateTextIn};
+ghost use Rattle.kinds.specs.Kinds.{familyOf, isKind, kindReadOf, oneRecord, oneList, readKind, kindSizeOf, withoutRecord, noEntryIn, locateKind, countKind, locateTextIn};
 ghost use Rattle.kinds.specs.Writing.{writeKind, kindBytes};
 
 // What reading a typed value finds: a record, or how many entries a list kind's own list or a value that holds text has; with the bytes that were consumed, and how many are left
-// behind them.
+// after them.
 pub enum KindRead {
     Record {
         record: Record,
@@ -51,14 +50,54 @@ pub enum KindSize {
     Refused(Refusal),
 }
 
+// The families of kinds: what the value of a code is read as.
+pub(crate) enum Family {
+    List,
+    Text,
+    Record,
+}
+
+// A code is classed here, by the tables of the crates below; whoever has its family asks that family's crate. What is no list's and no text's is left to the
+// records, whose reader knows it or refuses it: a test for them here would be made twice.
+fn family_of(code: u8) -> Family
+    ensures { λ r. ⌜ r ≡ familyOf code ⌝ }
+{
+    if layouts::is_list(code) {
+        return Family::List;
+    }
+    if texts::is_text(code) {
+        return Family::Text;
+    }
+    Family::Record
+}
+
 // Is the code among the 24?
 pub fn is_kind(code: u8) -> bool
     ensures { λ r. ⌜ r ≡ isKind code ⌝ }
 {
-    if listed::is_listed(code) {
-        return true;
+    match family_of(code) {
+        Family::List => true,
+        Family::Text => true,
+        Family::Record => records::is_record(code),
     }
-    records::is_record(code)
+}
+
+// What a list that was read says of its value.
+fn list_read(list: Reading) -> KindRead
+    ensures { λ r. ⌜ kindReadOf r ≡ mapped oneList (readingOf list) ⌝ }
+{
+    match list {
+        Reading::Value {
+            consumed,
+            rest,
+            entries,
+        } => KindRead::List {
+            entries,
+            consumed,
+            rest,
+        },
+        Reading::Refused(refusal) => KindRead::Refused(refusal),
+    }
 }
 
 // The value s of the record kind with this code.
@@ -79,27 +118,33 @@ fn read_record(code: u8, s: &[u8]) -> KindRead
 pub fn read_kind(code: u8, s: &[u8]) -> KindRead
     ensures { λ r. ⌜ kindReadOf r ≡ readKind code (now (s .entry)) ⌝ }
 {
-    if listed::is_listed(code) {
-        let list = listed::read_listed(code, s);
-        match list {
-            Reading::Value {
-                consumed,
-                rest,
-                entries,
-            } => KindRead::List {
-                entries,
-                consumed,
-                rest,
-            },
-            Reading::Refused(refusal) => KindRead::Refused(refusal),
-        }
-    } else {
-        read_record(code, s)
+    match family_of(code) {
+        Family::List => list_read(layouts::read_value(code, s)),
+        Family::Text => list_read(texts::read_value(code, s)),
+        Family::Record => read_record(code, s),
+    }
+}
+
+// The same of a list that is measured.
+fn list_size(list: Reading) -> KindSize
+    ensures { λ r. ⌜ kindSizeOf r ≡ mapped withoutRecord (mapped oneList (readingOf list)) ⌝ }
+{
+    match list {
+        Reading::Value {
+            consumed,
+            rest,
+            entries,
+        } => KindSize::List {
+            entries,
+            consumed,
+            rest,
+        },
+        Reading::Refused(refusal) => KindSize::Refused(refusal),
     }
 }
 
 // The value s of the record kind with this code, measured.
-fn measure_record(code: u8, s: &[u8]) -> KindSize
+fn record_size(code: u8, s: &[u8]) -> KindSize
     ensures { λ r. ⌜ kindSizeOf r ≡ mapped withoutRecord (mapped (oneRecord (length (now (s .entry)))) (readRecord code (now (s .entry)))) ⌝ }
 {
     match records::measure(code, s) {
@@ -115,21 +160,10 @@ fn measure_record(code: u8, s: &[u8]) -> KindSize
 pub fn measure(code: u8, s: &[u8]) -> KindSize
     ensures { λ r. ⌜ kindSizeOf r ≡ mapped withoutRecord (readKind code (now (s .entry))) ⌝ }
 {
-    if listed::is_listed(code) {
-        match listed::read_listed(code, s) {
-            Reading::Value {
-                consumed,
-                rest,
-                entries,
-            } => KindSize::List {
-                entries,
-                consumed,
-                rest,
-            },
-            Reading::Refused(refusal) => KindSize::Refused(refusal),
-        }
-    } else {
-        measure_record(code, s)
+    match family_of(code) {
+        Family::List => list_size(layouts::read_value(code, s)),
+        Family::Text => list_size(texts::read_value(code, s)),
+        Family::Record => record_size(code, s),
     }
 }
 
@@ -155,10 +189,11 @@ fn no_entry_in(code: u8, s: &[u8]) -> Refusal
 pub fn locate(code: u8, path: Path, s: &[u8]) -> Located
     ensures { λ r. ⌜ locatedOf r ≡ locateKind code (numbersOf path) (now (s .entry)) ⌝ }
 {
-    if listed::is_listed(code) {
-        return listed::locate_listed(code, path, s);
+    match family_of(code) {
+        Family::List => layouts::locate(code, path, s),
+        Family::Text => texts::locate(code, path, s),
+        Family::Record => Located::Refused(no_entry_in(code, s)),
     }
-    Located::Refused(no_entry_in(code, s))
 }
 
 // The entry with these numbers as its own part of s, the lists under it included; the empty start of s where `locate` refuses.
@@ -166,33 +201,36 @@ pub fn entry(code: u8, path: Path, s: &[u8]) -> &[u8]
     ensures { λ r. ⌜ now r ≡ partOf (locateKind code (numbersOf path) (now (s .entry))) (now (s .entry)) ⌝ }
     ensures place { λ r. ⌜ r .ptr ≡ behind (startIn (locateKind code (numbersOf path) (now (s .entry)))) (s .entry) ⌝ }
 {
-    if listed::is_listed(code) {
-        return listed::entry_listed(code, path, s);
+    match family_of(code) {
+        Family::List => layouts::entry(code, path, s),
+        Family::Text => texts::entry(code, path, s),
+        Family::Record => &s[0..0],
     }
-    &s[0..0]
 }
 
 // How many entries the list of the entry with these numbers has; without numbers, the value's own list.
 pub fn count(code: u8, path: Path, s: &[u8]) -> Counted
     ensures { λ r. ⌜ countedOf r ≡ countKind code (numbersOf path) (now (s .entry)) ⌝ }
 {
-    if listed::is_listed(code) {
-        return listed::count_listed(code, path, s);
+    match family_of(code) {
+        Family::List => layouts::count(code, path, s),
+        Family::Text => texts::count(code, path, s),
+        Family::Record => Counted::Refused(no_entry_in(code, s)),
     }
-    Counted::Refused(no_entry_in(code, s))
 }
 
 // Where the text with this number lies in the value s, which has to read whole: three kinds hold texts of their own, the others have none with any number.
 pub fn locate_text(code: u8, number: usize, s: &[u8]) -> Located
     ensures { λ r. ⌜ locatedOf r ≡ locateTextIn code number (now (s .entry)) ⌝ }
 {
-    if texts::is_text(code) {
-        return texts::locate_text(code, number, s);
+    match family_of(code) {
+        Family::List => Located::Refused(no_entry_in(code, s)),
+        Family::Text => texts::locate_text(code, number, s),
+        Family::Record => Located::Refused(no_entry_in(code, s)),
     }
-    Located::Refused(no_entry_in(code, s))
 }
 
-// The TLV of the kind with this code, from value bytes that read; the bytes behind those consumed are not written.
+// The TLV of the kind with this code, from value bytes that read; the bytes after those consumed are not written.
 pub fn write_kind(code: u8, bytes: &[u8], out: &mut [u8]) -> Written
     ensures answer { λ r. ⌜ writtenOf r ≡ writeKind code (now (bytes .entry)) (length (now (out .entry))) ⌝ }
     ensures bytes { λ _. ⌜ now (out .exit) ≡ leaves (writeKind code (now (bytes .entry)) (length (now (out .entry)))) (kindBytes code (now (bytes .entry))) (now (out .entry)) ⌝ }
