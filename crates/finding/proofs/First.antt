@@ -101,9 +101,13 @@ module _ (code : ℕ) (payload : List ℕ) where
         }
 
     -- 15: none of them reads
-    pub none-there : isKind code ≡ true → refuses 15 [] ≡ findFrom code ys payload from → (k : ℕ) → from ≤ k → k < length ys → readsAt code payload ys k ≡ false
+    none-of-kind : (b : Bool) (x : Answer Hit) → refuses 15 [] ≡ cond b x (refuses 16 []) → refuses 15 [] ≡ x
+    none-of-kind true x e = e
+    none-of-kind false x e = let z : _≡_ {A = ℕ} 15 16 = cc in absurd (omega arith)
+
+    pub none-there : refuses 15 [] ≡ findFrom code ys payload from → (k : ℕ) → from ≤ k → k < length ys → readsAt code payload ys k ≡ false
     unfolding findFrom
-    none-there kind e k l m =
+    none-there e k l m =
         let s : from + (k - from) ≡ k = omega arith in
         ap (λ (t : Tlv). isGiven (readsAs code payload t)) (ap (λ (i : ℕ). getD ys i noTlv) (sym s) ∙ sym (at-place (k - from)))
-        ∙ none-reads from (drop from ys) 15 [] (e ∙ rw kind) (k - from) (omega (arith, length-drop from ys))
+        ∙ none-reads from (drop from ys) 15 [] (none-of-kind (isKind code) _ e) (k - from) (omega (arith, length-drop from ys))

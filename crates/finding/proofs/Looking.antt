@@ -13,11 +13,20 @@ use Rattle.records.specs.declared.Record.{Record}
 use Rattle.kinds.specs.Kinds.{isKind, Typed, readKind, withoutRecord}
 use Rattle.kinds.proofs.Laws.{of-a-kind as reads-a-kind}
 use Rattle.walking.specs.declared.Tlv.{Tlv}
-use Rattle.finding.specs.Finding.{isCandidate, valueOf, readsAs, thereOr}
+use Rattle.finding.specs.Finding.{Hit, isCandidate, valueOf, readsAs, thereOr}
+use Rattle.finding.specs.Private.{noneOf}
 
 -- the value as the code takes it, from where it starts to where it ends
 pub part : (payload : List ℕ) (t : Tlv) → take (t .offset + 3 + t .length - (t .offset + 3)) (drop (t .offset + 3) payload) ≡ valueOf payload t
 part payload t = let e : t .offset + 3 + t .length - (t .offset + 3) ≡ t .length = omega arith in rw e
+
+-- what is refused where nothing was found is the same, whatever was looked for
+pub refused-so : {A B : Type 0} (code n : ℕ) (vs : List ℕ) → _≡_ {A = Answer A} (refuses n vs) (noneOf code) → _≡_ {A = Answer B} (refuses n vs) (noneOf code)
+refused-so {A} {B} code n vs = by-kind (isKind code)
+  where
+    by-kind : (b : Bool) → _≡_ {A = Answer A} (refuses n vs) (cond b (refuses 15 []) (refuses 16 [])) → _≡_ {A = Answer B} (refuses n vs) (cond b (refuses 15 []) (refuses 16 []))
+    by-kind true e = let i : n ≡ 15 = cc in let j : vs ≡ [] = cc in rw (i, j)
+    by-kind false e = let i : n ≡ 16 = cc in let j : vs ≡ [] = cc in rw (i, j)
 
 -- how a record is tested: what it takes of the payload is compared, then its offset with what is left
 module _ (code size : ℕ) (t : Tlv) (e : t .«tlv_type» ≡ code) where
@@ -56,8 +65,8 @@ module _ (code : ℕ) (payload : List ℕ) (t : Tlv) where
   unfolding readsAs
   no-candidate e = ap (λ (b : Bool). cond b (readKind code (valueOf payload t)) (refuses 15 [])) (sym e)
 
-  pub miss : (place : ℕ) → isCandidate code (length payload) t ≡ false → refuses 15 [] ≡ thereOr (readsAs code payload t) place t (refuses 15 [])
-  miss place e = rw (← no-candidate e)
+  pub miss : (place : ℕ) (behind : Answer Hit) → isCandidate code (length payload) t ≡ false → behind ≡ thereOr (readsAs code payload t) place t behind
+  miss place behind e = rw (← no-candidate e)
 
   -- what a record reads as is what its value reads as
   by-test : (b : Bool) (x : Answer (Typed Record)) (r : Typed Record) → gives r ≡ cond b x (refuses 15 []) → gives r ≡ x

@@ -3,12 +3,13 @@
 use mathlib.Core.Path.{_≡_, refl, sym, ap, _∙_}
 use mathlib.Core.Bool.{Bool, true, false, cond}
 use mathlib.Core.List.{List, [], _++_}
-use Prim.Native.Nat.{ℕ, _+_, _<_}
+use Prim.Native.Nat.{ℕ, _+_, _≤_, _<_}
+use native.Mathlib.Omega.{arith}
 use lib.Dec.{eqb}
 use lib.ListN.{length, take, drop, getD}
 use lib.Seq.{drop-drop}
 use borrow.Author.Tests.{le-leb}
-use Rattle.numbers.specs.Numbers.{Answer, gives, refuses, andThen}
+use Rattle.numbers.specs.Numbers.{Answer, gives, refuses, andThen, isGiven}
 use Rattle.framing.specs.Tlv.{TlvRead, valueIn}
 use Rattle.records.specs.declared.Record.{Record}
 use Rattle.kinds.specs.Kinds.{isKind, Typed, readKind}
@@ -16,8 +17,8 @@ use Rattle.walking.specs.declared.Tlv.{Tlv}
 use Rattle.walking.specs.Walk.{WalkCount, walkOf, filled, noTlv}
 use Rattle.walking.proofs.Chained.{of-walk, stands}
 use Rattle.finding.specs.Finding.{Hit, readsAs, findFrom, firstOf, findInPayload}
-use Rattle.finding.specs.Claims.{tlvAs}
-use Rattle.finding.proofs.First.{is-first, unchanged}
+use Rattle.finding.specs.Claims.{readsAt, tlvAs, readsThere, IsFirstTlv}
+use Rattle.finding.proofs.First.{is-first, none-there, unchanged}
 
 module _ (p : List ℕ) where
   by-code : (b : Bool) (x : Answer (Typed Record)) → cond (cond b true false) x (refuses 15 []) ≡ cond b x (refuses 15 [])
@@ -36,12 +37,22 @@ module _ (p : List ℕ) where
       ∙ ap (λ (l : List ℕ). cond (eqb (t .«tlv_type») code) (readKind code (take (t .length) l)) (refuses 15 [])) (sym (drop-drop 3 (t .offset) p))
       ∙ ap (λ (x : Answer TlvRead). andThen x (λ t. cond (eqb (t .tlv-type) code) (readKind code (valueIn (gives t) s)) (refuses 15 []))) (o .reads-as)
 
+  -- so what reads or doesn't as a record of the walk's list reads so as a TLV
+  not-there : (code k : ℕ) → k < length (walkOf p .tlvs) → readsAt code p (walkOf p .tlvs) k ≡ false → readsThere code p k ≡ false
+  not-there code k l e = ap isGiven (sym (as-tlv code k l)) ∙ e
+
   -- what is found among the walk's records is the TLV of that number, read where it stands
-  pub found-is-tlv : (code from : ℕ) (h : Hit) → gives h ≡ findFrom code (walkOf p .items) p from → gives (h .reading) ≡ tlvAs code (drop (h .tlv .offset) p)
+  pub found-is-tlv : (code from : ℕ) (h : Hit) → gives h ≡ findFrom code (walkOf p .tlvs) p from → IsFirstTlv p code from h
   found-is-tlv code from h e =
-      let f = is-first code p (walkOf p .items) from h e in
-      f .reads ∙ ap (readsAs code p) (sym (f .is)) ∙ as-tlv code (h .place) (f .there)
-      ∙ ap (λ (t : Tlv). tlvAs code (drop (t .offset) p)) (f .is)
+      let f = is-first code p (walkOf p .tlvs) from h e in
+      record {
+        reads = f .reads ∙ ap (readsAs code p) (sym (f .is)) ∙ as-tlv code (h .place) (f .there)
+            ∙ ap (λ (t : Tlv). tlvAs code (drop (t .offset) p)) (f .is);
+        first = λ k l m. not-there code k (omega (arith, f .there)) (f .first k l m);
+      }
+
+  pub none-is-tlv : (code from : ℕ) → refuses 15 [] ≡ findFrom code (walkOf p .tlvs) p from → (k : ℕ) → from ≤ k → k < length (walkOf p .tlvs) → readsThere code p k ≡ false
+  none-is-tlv code from e k l m = not-there code k m (none-there code p (walkOf p .tlvs) from e k l m)
 
   -- a list that is longer than the walk's, as `walk_into` leaves it, gives the same, if the payload has one
   by-kind : (code : ℕ) (us : List Tlv) (h : Hit) (b : Bool) → gives h ≡ cond b (firstOf code p 0 (walkOf p .items)) (refuses 16 []) → gives h ≡ cond b (firstOf code p 0 (walkOf p .items ++ us)) (refuses 16 [])

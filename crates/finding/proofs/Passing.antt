@@ -2,26 +2,25 @@
 use mathlib.Core.Path.{_≡_, refl, sym, ap, _∙_}
 use mathlib.Core.Bool.{Bool, true, false, cond}
 use mathlib.Core.List.{List, [], _∷_}
-use Prim.Native.Nat.{ℕ, _+_, _≤_, _<_}
+use Prim.Native.Nat.{ℕ, _+_, _≤_, _<_, _^_}
 use native.Mathlib.Omega.{arith}
 use native.Mathlib.Numerals.{add-one}
+use lib.Dec.{ltb}
 use lib.ListN.{length, getD, drop, drop-of-length-le}
 use lib.Seq.{drop-cons}
+use borrow.Author.Tests.{ltb-true, ltb-false}
 use Rattle.numbers.specs.Numbers.{Answer, gives, refuses, mapped, isGiven}
 use Rattle.records.specs.declared.Record.{Record}
 use Rattle.kinds.specs.Kinds.{isKind, Typed}
 use Rattle.walking.specs.declared.Tlv.{Tlv}
 use Rattle.walking.specs.Walk.{noTlv}
 use Rattle.finding.specs.Finding.{Hit, readsAs, thereOr, firstOf, findFrom}
+use Rattle.finding.specs.Private.{noneOf}
 use Rattle.finding.proofs.Looking.{of-a-kind}
-
--- the answer, if it is one, and else what is found behind the record
-pub or-behind : (x : Answer (Typed Record)) (place : ℕ) (t : Tlv) (a : Answer Hit) → a ≡ thereOr x place t (refuses 15 []) → (behind : Answer Hit) → cond (isGiven a) a behind ≡ thereOr x place t behind
-or-behind (gives r) place t a e behind = rw e
-or-behind (refuses n vs) place t a e behind = rw e
 
 pub record Passed (code : ℕ) (payload : List ℕ) (ys : List Tlv) (from i : ℕ) : Type 0 where
   pub same : firstOf code payload i (drop i ys) ≡ firstOf code payload from (drop from ys)
+  pub fits : i < 2 ^ 64
 
 pub first-nil : (code : ℕ) (payload : List ℕ) (place : ℕ) → firstOf code payload place [] ≡ refuses 15 []
 unfolding firstOf
@@ -32,8 +31,8 @@ unfolding firstOf
 first-cons code payload place t ts = refl
 
 module _ (code : ℕ) (payload : List ℕ) (ys : List Tlv) (from : ℕ) where
-  pub begins : Passed code payload ys from from
-  begins = record { same = refl }
+  pub begins : from < 2 ^ 64 → Passed code payload ys from from
+  begins h = record { same = refl; fits = h }
 
   module _ (i : ℕ) (f : Passed code payload ys from i) where
     -- one turn: the record at i, or what is behind it
@@ -42,15 +41,15 @@ module _ (code : ℕ) (payload : List ℕ) (ys : List Tlv) (from : ℕ) where
         let e : drop i ys ≡ getD ys i noTlv ∷ drop (i + 1) ys = rw (add-one, drop-cons ys i noTlv) in
         sym (first-cons code payload i (getD ys i noTlv) (drop (i + 1) ys)) ∙ ap (firstOf code payload i) (sym e) ∙ f .same
 
-    pub goes-on : i < length ys → isGiven (readsAs code payload (getD ys i noTlv)) ≡ false → Passed code payload ys from (i + 1)
-    goes-on l = by-reading (readsAs code payload (getD ys i noTlv)) (turn l)
+    pub goes-on : i < length ys → i + 1 < 2 ^ 64 → isGiven (readsAs code payload (getD ys i noTlv)) ≡ false → Passed code payload ys from (i + 1)
+    goes-on l small = by-reading (readsAs code payload (getD ys i noTlv)) (turn l)
       where
         by-reading : (x : Answer (Typed Record)) → thereOr x i (getD ys i noTlv) (firstOf code payload (i + 1) (drop (i + 1) ys)) ≡ firstOf code payload from (drop from ys) → isGiven x ≡ false → Passed code payload ys from (i + 1)
         by-reading (gives r) e h = let z : _≡_ {A = ℕ} 0 1 = cc in absurd (omega arith)
-        by-reading (refuses n vs) e h = record { same = e }
+        by-reading (refuses n vs) e h = record { same = e; fits = small }
 
     -- a hit is of a kind, so that 16 is not to be answered
-    pub found : i < length ys → isGiven (readsAs code payload (getD ys i noTlv)) ≡ true → gives i ≡ mapped (λ h. h .place) (findFrom code ys payload from)
+    found : i < length ys → isGiven (readsAs code payload (getD ys i noTlv)) ≡ true → gives i ≡ mapped (λ h. h .place) (findFrom code ys payload from)
     unfolding findFrom
     found l = by-reading (readsAs code payload (getD ys i noTlv)) refl (turn l)
       where
@@ -59,9 +58,9 @@ module _ (code : ℕ) (payload : List ℕ) (ys : List Tlv) (from : ℕ) where
         by-reading (gives r) e f h = rw (sym (of-a-kind code payload (getD ys i noTlv) r e), sym f)
         by-reading (refuses n vs) e f h = let z : _≡_ {A = ℕ} 0 1 = cc in absurd (omega arith)
 
-    pub missed : length ys ≤ i → (a : Answer ℕ) → a ≡ cond (isKind code) (refuses 15 []) (refuses 16 []) → a ≡ mapped (λ h. h .place) (findFrom code ys payload from)
+    missed : length ys ≤ i → noneOf code ≡ mapped (λ h. h .place) (findFrom code ys payload from)
     unfolding findFrom
-    missed l a e = e ∙ by-kind (isKind code)
+    missed l = by-kind (isKind code)
       where
         none : firstOf code payload from (drop from ys) ≡ refuses 15 []
         none = sym (f .same) ∙ ap (firstOf code payload i) (drop-of-length-le ys l) ∙ first-nil code payload i
@@ -69,3 +68,11 @@ module _ (code : ℕ) (payload : List ℕ) (ys : List Tlv) (from : ℕ) where
         by-kind : (b : Bool) → cond b (refuses 15 []) (refuses 16 []) ≡ mapped (λ (h : Hit). h .place) (cond b (firstOf code payload from (drop from ys)) (refuses 16 []))
         by-kind true = rw none
         by-kind false = refl
+
+    -- where the loop is left: at a record that reads, or past the last one
+    pub ended-at : (i < length ys → isGiven (readsAs code payload (getD ys i noTlv)) ≡ true) → (a : Answer ℕ) → a ≡ cond (ltb i (length ys)) (gives i) (noneOf code) → a ≡ mapped (λ h. h .place) (findFrom code ys payload from)
+    ended-at reads a e = e ∙ by-place (ltb i (length ys)) refl
+      where
+        by-place : (b : Bool) → ltb i (length ys) ≡ b → cond b (gives i) (noneOf code) ≡ mapped (λ (h : Hit). h .place) (findFrom code ys payload from)
+        by-place true l = let m = ltb-true i (length ys) l in found m (reads m)
+        by-place false l = missed (ltb-false i (length ys) l)

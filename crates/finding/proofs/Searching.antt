@@ -20,17 +20,24 @@ use Rattle.walking.proofs.Listed as Counts
 use Rattle.walking.proofs.Walking.{Walking}
 use Rattle.walking.proofs.Walking as Walks
 use Rattle.finding.specs.Finding.{Hit, readsAs, thereOr, firstOf, findFrom, findInPayload}
-use Rattle.finding.proofs.Passing.{first-nil, first-cons, or-behind}
+use Rattle.finding.specs.Private.{noneOf, hitAt}
+use Rattle.finding.specs.declared.Spot.{Spot}
+use Rattle.finding.proofs.Passing.{first-nil, first-cons}
 
--- what a look at the record at this place answers
-abbrev pub SaysFrom : ℕ → List ℕ → Tlv → ℕ → ℕ → Answer Hit → Type 0
-SaysFrom code p t place from a = a ≡ cond (ltb place from) (refuses 15 []) (thereOr (readsAs code p t) place t (refuses 15 []))
+-- whether the record at this place is the one that is looked for
+abbrev isSought : ℕ → List ℕ → Tlv → ℕ → ℕ → Bool
+isSought code p t place from = cond (ltb place from) false (isGiven (readsAs code p t))
 
--- the answer, if it is one, and else what is found behind the record
-from-behind : (b : Bool) (x : Answer (Typed Record)) (place : ℕ) (t : Tlv) (a : Answer Hit) → a ≡ cond b (refuses 15 []) (thereOr x place t (refuses 15 [])) → (behind : Answer Hit)
-    → cond (isGiven a) a behind ≡ cond b behind (thereOr x place t behind)
-from-behind true x place t a e behind = rw e
-from-behind false x place t a e behind = or-behind x place t a e behind
+-- if so, what is found is that record, and else what is found after it
+sought-by : (b : Bool) (x : Answer (Typed Record)) (place : ℕ) (t : Tlv) (on : Answer Hit) → true ≡ cond b false (isGiven x) → thereOr x place t (refuses 15 []) ≡ cond b on (thereOr x place t on)
+sought-by true x place t on e = let z : _≡_ {A = ℕ} 0 1 = cc in absurd (omega arith)
+sought-by false (gives r) place t on e = refl
+sought-by false (refuses n vs) place t on e = let z : _≡_ {A = ℕ} 0 1 = cc in absurd (omega arith)
+
+passed-by : (b : Bool) (x : Answer (Typed Record)) (place : ℕ) (t : Tlv) (on : Answer Hit) → false ≡ cond b false (isGiven x) → on ≡ cond b on (thereOr x place t on)
+passed-by true x place t on e = refl
+passed-by false (gives r) place t on e = let z : _≡_ {A = ℕ} 0 1 = cc in absurd (omega arith)
+passed-by false (refuses n vs) place t on e = refl
 
 -- what is found among records, the first of which has this place
 abbrev rest : ℕ → List ℕ → ℕ → ℕ → List Tlv → Answer Hit
@@ -85,29 +92,40 @@ module _ (code : ℕ) (p : List ℕ) (from at place : ℕ) (w : Searching code p
   pub stops : (n : ℕ) (vs : List ℕ) → refuses n vs ≡ stepAt p at → refuses 15 [] ≡ firstOf code p from (drop from (walkOf p .items))
   stops n vs e = sym (rest-nil code p from place) ∙ by-ahead [] (turned (stepAt p) (length p) goes (refuses n vs) e .0)
 
-  -- at the marker the look is the answer: behind it nothing is found
-  pub at-marker : (t : Tlv) (end : ℕ) → gives (last t end) ≡ stepAt p at → (a : Answer Hit) → SaysFrom code p t place from a → a ≡ firstOf code p from (drop from (walkOf p .items))
-  at-marker t end e a says =
-      says ∙ ap (λ (x : Answer Hit). cond (ltb place from) x (thereOr (readsAs code p t) place t x)) (sym (rest-nil code p from (place + 1)))
-      ∙ sym (rest-cons code p from place t []) ∙ by-ahead (t ∷ []) (turned (stepAt p) (length p) goes (gives (last t end)) e .0)
+  -- a record that is reached, before these
+  module _ (t : Tlv) (ts : List Tlv) (e : rest code p from place (t ∷ ts) ≡ firstOf code p from (drop from (walkOf p .tlvs))) where
+    is-it : true ≡ isSought code p t place from → hitAt code p (Spot.At place t) ≡ firstOf code p from (drop from (walkOf p .tlvs))
+    is-it h = sought-by (ltb place from) (readsAs code p t) place t (rest code p from (place + 1) ts) h ∙ sym (rest-cons code p from place t ts) ∙ e
 
-  module _ (t : Tlv) (next : ℕ) (e : gives (passed t next) ≡ stepAt p at) (a : Answer Hit) (says : SaysFrom code p t place from a) where
-    abbrev behind : Answer Hit
-    behind = rest code p from (place + 1) (drop (place + 1) (walkOf p .items))
+    is-not : false ≡ isSought code p t place from → rest code p from (place + 1) ts ≡ firstOf code p from (drop from (walkOf p .tlvs))
+    is-not h = passed-by (ltb place from) (readsAs code p t) place t (rest code p from (place + 1) ts) h ∙ sym (rest-cons code p from place t ts) ∙ e
 
-    looked : cond (isGiven a) a behind ≡ firstOf code p from (drop from (walkOf p .items))
-    looked = from-behind (ltb place from) (readsAs code p t) place t a says behind ∙ sym (rest-cons code p from place t (drop (place + 1) (walkOf p .items)))
-        ∙ by-ahead (t ∷ drop (place + 1) (walkOf p .items)) (Walks.ahead p at place (w .walking) t next e)
+  -- at the marker: after it nothing is found
+  module _ (t : Tlv) (end : ℕ) (e : gives (last t end) ≡ stepAt p at) where
+    pub marker-found : true ≡ isSought code p t place from → hitAt code p (Spot.At place t) ≡ firstOf code p from (drop from (walkOf p .tlvs))
+    marker-found = is-it t [] (by-step (gives (last t end)) e)
 
-    pub goes-on : isGiven a ≡ false → Searching code p from next (place + 1)
-    goes-on h = record { walking = Walks.goes-on p at place (w .walking) t next e; will = ap (λ (b : Bool). cond b a behind) (sym h) ∙ looked }
+    pub marker-passed : false ≡ isSought code p t place from → refuses 15 [] ≡ firstOf code p from (drop from (walkOf p .tlvs))
+    marker-passed h = sym (rest-nil code p from (place + 1)) ∙ is-not t [] (by-step (gives (last t end)) e) h
 
-    pub found : isGiven a ≡ true → a ≡ firstOf code p from (drop from (walkOf p .items))
-    found h = ap (λ (b : Bool). cond b a behind) (sym h) ∙ looked
+  module _ (t : Tlv) (next : ℕ) (e : gives (passed t next) ≡ stepAt p at) where
+    pub found : true ≡ isSought code p t place from → hitAt code p (Spot.At place t) ≡ firstOf code p from (drop from (walkOf p .tlvs))
+    found = is-it t (on next .tlvs) (by-step (gives (passed t next)) e)
+
+    pub goes-on : false ≡ isSought code p t place from → Searching code p from next (place + 1)
+    goes-on h =
+        let o = passes p at t next e in
+        record {
+          within = o .inside;
+          few = omega (arith, o .behind, w .few);
+          most = w .most - 1;
+          enough = omega (arith, o .behind, w .enough);
+          will = is-not t (on next .tlvs) (by-step (gives (passed t next)) e) h;
+        }
 
 -- the whole answer: 16, then the walk's refusal, then what the search found
 module _ (code : ℕ) (p : List ℕ) (from : ℕ) where
-  pub no-kind : isKind code ≡ false → refuses 16 [] ≡ findInPayload code p from
+  pub no-kind : isKind code ≡ false → noneOf code ≡ findInPayload code p from
   unfolding findInPayload
   no-kind e = rw e
 
@@ -115,6 +133,13 @@ module _ (code : ℕ) (p : List ℕ) (from : ℕ) where
   unfolding findInPayload
   unwalked e n vs c = rw (e, Counts.ended-by (walkOf p) n vs c)
 
-  pub walked : isKind code ≡ true → (n : WalkCount) → gives n ≡ counted (walkOf p) → (a : Answer Hit) → a ≡ firstOf code p from (drop from (walkOf p .items)) → a ≡ findInPayload code p from
-  unfolding findInPayload findFrom
-  walked e n c a f = f ∙ rw (e, Counts.ended-with (walkOf p) n c .0)
+  module _ (e : isKind code ≡ true) (n : WalkCount) (c : gives n ≡ counted (walkOf p)) (spot : Spot) (f : hitAt code p spot ≡ firstOf code p from (drop from (walkOf p .tlvs))) where
+    walked : hitAt code p spot ≡ findInPayload code p from
+    unfolding findInPayload findFrom
+    walked = f ∙ rw (e, Counts.ended-with (walkOf p) n c .0)
+
+    pub walked-to : (place : ℕ) (t : Tlv) → spot ≡ Spot.At place t → thereOr (readsAs code p t) place t (noneOf code) ≡ findInPayload code p from
+    walked-to place t g = rw e (ap (hitAt code p) (sym g) ∙ walked)
+
+    pub walked-through : spot ≡ Spot.Nowhere → noneOf code ≡ findInPayload code p from
+    walked-through g = rw e (ap (hitAt code p) (sym g) ∙ walked)

@@ -16,9 +16,9 @@ use Rattle.finding.specs.Finding.{Hit, foundOf, placedOf, searchedOf, re
 
 -- each public call by its name: any two answers that its contract allows are one
 pub record Firmness : Type 0 where
-  pub find : (code : ℕ) (tlvs : List Tlv) (payload : List ℕ) (from : ℕ) → Firm (λ r. foundOf r ≡ findFrom code tlvs payload from)
-  pub find-place : (code : ℕ) (tlvs : List Tlv) (payload : List ℕ) (from : ℕ) → Firm (λ r. placedOf r ≡ mapped (λ h. h .place) (findFrom code tlvs payload from))
-  pub find-in-payload : (code : ℕ) (payload : List ℕ) (from : ℕ) → Firm (λ r. searchedOf r ≡ findInPayload code payload from)
+  pub find : (list : List Tlv) (payload : List ℕ) (code from : ℕ) → Firm (λ r. foundOf r ≡ findFrom code list payload from)
+  pub find-place : (list : List Tlv) (payload : List ℕ) (code from : ℕ) → Firm (λ r. placedOf r ≡ mapped (λ h. h .place) (findFrom code list payload from))
+  pub find-in-payload : (payload : List ℕ) (code from : ℕ) → Firm (λ r. searchedOf r ≡ findInPayload code payload from)
 
 -- What is found is the first that reads, and where none is found none reads: said by places, without the definition's recursion
 abbrev pub readsAt : ℕ → List ℕ → List Tlv → ℕ → Bool
@@ -35,10 +35,10 @@ abbrev pub FindsTheFirst : Type 0
 FindsTheFirst = (code : ℕ) (payload : List ℕ) (tlvs : List Tlv) (from : ℕ) (h : Hit) → gives h ≡ findFrom code tlvs payload from → IsFirst code payload tlvs from h
 
 abbrev pub FindsNone : Type 0
-FindsNone = (code : ℕ) (payload : List ℕ) (tlvs : List Tlv) (from : ℕ) → isKind code ≡ true → refuses 15 [] ≡ findFrom code tlvs payload from
+FindsNone = (code : ℕ) (payload : List ℕ) (tlvs : List Tlv) (from : ℕ) → refuses 15 [] ≡ findFrom code tlvs payload from
     → (k : ℕ) → from ≤ k → k < length tlvs → readsAt code payload tlvs k ≡ false
 
--- Going on behind each answer gives every readable record of the kind once, in the list's order. A record, if it reads as said, before these:
+-- Going on after each answer gives every readable record of the kind once, in the list's order. A record, if it reads as said, before these:
 abbrev pub hitThen : Answer (Typed Record) → ℕ → Tlv → List Hit → List Hit
 hitThen (gives r) place t hits = record { place = place; tlv = t; reading = r } ∷ hits
 hitThen (refuses n vs) place t hits = hits
@@ -53,7 +53,7 @@ abbrev pub andOn : Answer Hit → (Hit → List Hit) → List Hit
 andOn (gives h) on = h ∷ on h
 andOn (refuses n vs) on = []
 
--- the answers of one search after the other, so many at most, each from the place behind the last answer
+-- the answers of one search after the other, so many at most, each from the place after the last answer
 abbrev pub collected : ℕ → ℕ → List Tlv → List ℕ → ℕ → List Hit
 collected zero code tlvs payload from = []
 collected (suc most) code tlvs payload from = andOn (findFrom code tlvs payload from) (λ h. collected most code tlvs payload (h .place + 1))
@@ -67,9 +67,20 @@ GoingOn = (code : ℕ) (payload : List ℕ) (tlvs : List Tlv) → isKind code �
 abbrev pub tlvAs : ℕ → List ℕ → Answer (Typed Record)
 tlvAs code s = andThen (readTlv s) (λ t. cond (eqb (t .tlv-type) code) (readKind code (valueIn (gives t) s)) (refuses 15 []))
 
+-- whether TLV number k of the payload reads as one of the kind, where it stands
+abbrev pub readsThere : ℕ → List ℕ → ℕ → Bool
+readsThere code payload k = isGiven (tlvAs code (drop (offsetAt (walkOf payload .tlvs) k) payload))
+
+-- the TLV at the place that was found reads so, and none before it does, from the place asked for on
+pub record IsFirstTlv (payload : List ℕ) (code from : ℕ) (h : Hit) : Type 0 where
+  pub reads : gives (h .reading) ≡ tlvAs code (drop (h .tlv .offset) payload)
+  pub first : (k : ℕ) → from ≤ k → k < h .place → readsThere code payload k ≡ false
+
 pub record OverAWalk : Type 0 where
-  pub found-is-tlv : (payload : List ℕ) (code from : ℕ) (h : Hit) → gives h ≡ findFrom code (walkOf payload .items) payload from
-      → gives (h .reading) ≡ tlvAs code (drop (h .tlv .offset) payload)
+  pub found-is-tlv : (payload : List ℕ) (code from : ℕ) (h : Hit) → gives h ≡ findFrom code (walkOf payload .tlvs) payload from → IsFirstTlv payload code from h
+  -- 15: none of the payload's TLVs does, from that place on
+  pub none-is-tlv : (payload : List ℕ) (code from : ℕ) → refuses 15 [] ≡ findFrom code (walkOf payload .tlvs) payload from
+      → (k : ℕ) → from ≤ k → k < length (walkOf payload .tlvs) → readsThere code payload k ≡ false
   -- a list that is longer than the walk's, as `walk_into` leaves it, gives the same, if the payload has one
   pub in-filled-list : (payload : List ℕ) (code : ℕ) (c : WalkCount) (lent : List Tlv) (h : Hit) → gives h ≡ findFrom code (walkOf payload .items) payload 0
       → gives h ≡ findFrom code (filled (gives c) (walkOf payload .items) lent) payload 0
@@ -77,5 +88,13 @@ pub record OverAWalk : Type 0 where
   pub without-list : (payload : List ℕ) (code from padding : ℕ) → walkOf payload .end ≡ gives padding
       → findInPayload code payload from ≡ findFrom code (walkOf payload .items) payload from
   -- 2026-03: padding "is not looked at": whatever else follows the marker, TLV number k of the walk, the answer is the same
-  pub not-in-padding : (payload : List ℕ) (k : ℕ) → k < length (walkOf payload .items) → isMarker (getD (walkOf payload .items) k noTlv) ≡ true → (other : List ℕ) (code from : ℕ)
-      → findInPayload code (take (offsetAt (walkOf payload .items) k + 3) payload ++ other) from ≡ findInPayload code payload from
+  pub not-in-padding : (payload : List ℕ) (k : ℕ) → k < length (walkOf payload .tlvs) → isMarker (getD (walkOf payload .tlvs) k noTlv) ≡ true → (other : List ℕ) (code from : ℕ)
+      → findInPayload code (take (offsetAt (walkOf payload .tlvs) k + 3) payload ++ other) from ≡ findInPayload code payload from
+
+-- everything that is claimed of this crate
+pub record Claims : Type 0 where
+  pub firmness : Firmness
+  pub finds-the-first : FindsTheFirst
+  pub finds-none : FindsNone
+  pub going-on : GoingOn
+  pub over-a-walk : OverAWalk

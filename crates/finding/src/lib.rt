@@ -7,16 +7,14 @@ use walking::Stepped;
 use walking::Tlv;
 use walking::Walked;
 ghost use mathlib.Core.Path.{_≡_};
-ghost use mathlib.Core.Bool.{cond};
+ghost use mathlib.Core.Bool.{cond, false};
 ghost use lib.Dec.{ltb};
-ghost use Prim.Native.Nat.{_+_, _≤_};
+ghost use Prim.Native.Nat.{ℕ, _+_, _≤_};
 ghost use lib.ListN.{length, drop};
-ghost use mathlib.Core.List.{[]};
-ghost use Rattle.numbers.specs.Numbers.{gives, refuses, andThen, mapped, isGiven};
+ghost use Rattle.numbers.specs.Numbers.{gives, told, mapped, isGiven};
 ghost use Rattle.walking.specs.Walk.{walkOf};
-ghost use Rattle.kinds.specs.Kinds.{isKind, kindReadOf, kindSizeOf};
 ghost use Rattle.finding.specs.Finding.{foundOf, placedOf, searchedOf, isCandidate, valueOf, readsAs, thereOr, firstOf, findFrom, findInPayload};
-ghost use Rattle.finding.specs.Private.{placeOr};
+ghost use Rattle.finding.specs.Private.{noneOf, placeOr, hitAt};
 
 // The record that was found, its place in the list, from 0, and what its value reads as: a record, or a list of so many entries.
 pub enum Found {
@@ -49,6 +47,12 @@ pub enum Searched {
     Answered(Found),
 }
 
+// Where a search through a payload ends: at a readable TLV of the kind, or nowhere.
+pub(crate) enum Spot {
+    At { place: usize, tlv: Tlv },
+    Nowhere,
+}
+
 // Has the record the code, and does it lie inside a payload of this size? Its type is looked at first and its offset last, so that a record of another kind
 // costs no more than its type: the compiler makes one test of the type's and the offset's where little stands between them. No sum can wrap: what is left of
 // the payload is compared, never an end that the record claims.
@@ -66,7 +70,7 @@ fn is_candidate(t: Tlv, size: usize, code: u8) -> bool
     t.offset <= size - length - 3
 }
 
-// The value of a record inside the payload: 3 bytes behind its offset, without another look at the header.
+// The value of a record inside the payload: 3 bytes after its offset, without another look at the header.
 fn value_in(t: Tlv, payload: &[u8]) -> &[u8]
     requires { ⌜ t .offset + 3 + t .length ≤ length (now payload) ⌝ }
     ensures { λ r. ⌜ now r ≡ valueOf (now (payload .entry)) t ⌝ }
@@ -76,50 +80,48 @@ fn value_in(t: Tlv, payload: &[u8]) -> &[u8]
     &payload[start..end]
 }
 
-fn is_read(size: KindSize) -> bool
-    ensures { λ r. ⌜ r ≡ isGiven (kindSizeOf size) ⌝ }
-{
-    match size {
-        KindSize::Record {
-            consumed: _,
-            rest: _,
-        } => true,
-        KindSize::List {
-            entries: _,
-            consumed: _,
-            rest: _,
-        } => true,
-        KindSize::Refused(_) => false,
-    }
-}
-
 // Is the record a readable one of the kind? Its value is measured alone: what it reads as is asked of the record that is found, and of no other.
 fn reads(t: Tlv, payload: &[u8], code: u8) -> bool
     ensures { λ r. ⌜ r ≡ isGiven (readsAs code (now (payload .entry)) t) ⌝ }
 {
     if is_candidate(t, payload.len(), code) {
-        return is_read(kinds::measure(code, value_in(t, payload)));
+        return match kinds::measure(code, value_in(t, payload)) {
+            KindSize::Record {
+                consumed: _,
+                rest: _,
+            } => true,
+            KindSize::List {
+                entries: _,
+                consumed: _,
+                rest: _,
+            } => true,
+            KindSize::Refused(_) => false,
+        };
     }
     false
 }
 
-fn placed_at(place: usize) -> Placed
-    ensures { λ r. ⌜ placedOf r ≡ gives place ⌝ }
-{
-    Placed::At(place)
-}
-
-// What is refused where no record was found.
-fn none(code: u8) -> Placed
-    ensures { λ r. ⌜ placedOf r ≡ cond (isKind code) (refuses 15 []) (refuses 16 []) ⌝ }
+// What is refused where nothing was found.
+fn nothing(code: u8) -> Refusal
+    ensures { λ r. ⌜ told {A = ℕ} r ≡ noneOf code ⌝ }
 {
     if kinds::is_kind(code) {
-        return Placed::Refused(Refusal::NotFound);
+        return Refusal::NotFound;
     }
-    Placed::Refused(Refusal::UnknownKind)
+    Refusal::UnknownKind
 }
 
-// The place of the first readable record of the kind, at place `from` of the list or behind it: from 0 the first of all, and from the place of an answer plus
+// What a search through a list of this size says that ended at this place: the place, if it is one of the list's.
+fn outcome(place: usize, size: usize, code: u8) -> Placed
+    ensures { λ r. ⌜ placedOf r ≡ cond (ltb place size) (gives place) (noneOf code) ⌝ }
+{
+    if place < size {
+        return Placed::At(place);
+    }
+    Placed::Refused(nothing(code))
+}
+
+// The place of the first readable record of the kind, at place `from` of the list or after it: from 0 the first of all, and from the place of an answer plus
 // 1 the next one. The list is any list, its records need not be of this payload.
 pub fn find_place(list: &[Tlv], payload: &[u8], code: u8, from: usize) -> Placed
     ensures { λ r. ⌜ placedOf r ≡ mapped (λ h. h .place) (findFrom code (now (list .entry)) (now (payload .entry)) from) ⌝ }
@@ -127,52 +129,52 @@ pub fn find_place(list: &[Tlv], payload: &[u8], code: u8, from: usize) -> Placed
     let mut place = from;
     while place < list.len() {
         if reads(list[place], payload, code) {
-            return placed_at(place);
+            break;
         }
         place += 1;
     }
-    none(code)
+    outcome(place, list.len(), code)
 }
 
-// What is found where the value of the record t reads so.
-fn hit_of(read: KindRead, t: Tlv, place: usize) -> Found
-    ensures { λ r. ⌜ foundOf r ≡ thereOr (kindReadOf read) place t (refuses 15 []) ⌝ }
+// The same as `Found`: nothing was found.
+fn none_found(code: u8) -> Found
+    ensures { λ r. ⌜ foundOf r ≡ noneOf code ⌝ }
 {
-    match read {
-        KindRead::Record {
-            record,
-            consumed,
-            rest,
-        } => Found::Record {
-            place,
-            tlv: t,
-            record,
-            consumed,
-            rest,
-        },
-        KindRead::List {
-            entries,
-            consumed,
-            rest,
-        } => Found::List {
-            place,
-            tlv: t,
-            entries,
-            consumed,
-            rest,
-        },
-        KindRead::Refused(_) => Found::Refused(Refusal::NotFound),
-    }
+    Found::Refused(nothing(code))
 }
 
-// A look at one record, the answer if it is a readable one of the kind.
+// What the record at this place reads as, if it is a readable one of the kind.
 fn look(t: Tlv, payload: &[u8], code: u8, place: usize) -> Found
-    ensures { λ r. ⌜ foundOf r ≡ thereOr (readsAs code (now (payload .entry)) t) place t (refuses 15 []) ⌝ }
+    ensures { λ r. ⌜ foundOf r ≡ thereOr (readsAs code (now (payload .entry)) t) place t (noneOf code) ⌝ }
 {
     if is_candidate(t, payload.len(), code) {
-        return hit_of(kinds::read_kind(code, value_in(t, payload)), t, place);
+        return match kinds::read_kind(code, value_in(t, payload)) {
+            KindRead::Record {
+                record,
+                consumed,
+                rest,
+            } => Found::Record {
+                place,
+                tlv: t,
+                record,
+                consumed,
+                rest,
+            },
+            KindRead::List {
+                entries,
+                consumed,
+                rest,
+            } => Found::List {
+                place,
+                tlv: t,
+                entries,
+                consumed,
+                rest,
+            },
+            KindRead::Refused(_) => none_found(code),
+        };
     }
-    Found::Refused(Refusal::NotFound)
+    none_found(code)
 }
 
 fn place_or(placed: Placed, other: usize) -> usize
@@ -181,16 +183,6 @@ fn place_or(placed: Placed, other: usize) -> usize
     match placed {
         Placed::At(place) => place,
         Placed::Refused(_) => other,
-    }
-}
-
-// What was refused.
-fn refused(placed: Placed) -> Found
-    ensures { λ r. ⌜ foundOf r ≡ andThen (placedOf placed) (λ i. refuses 15 []) ⌝ }
-{
-    match placed {
-        Placed::At(_) => Found::Refused(Refusal::NotFound),
-        Placed::Refused(refusal) => Found::Refused(refusal),
     }
 }
 
@@ -203,71 +195,51 @@ pub fn find(list: &[Tlv], payload: &[u8], code: u8, from: usize) -> Found
     if place < list.len() {
         return look(list[place], payload, code, place);
     }
-    refused(placed)
+    none_found(code)
 }
 
-fn is_hit(found: Found) -> bool
-    ensures { λ r. ⌜ r ≡ isGiven (foundOf found) ⌝ }
-{
-    match found {
-        Found::Record {
-            place: _,
-            tlv: _,
-            record: _,
-            consumed: _,
-            rest: _,
-        } => true,
-        Found::List {
-            place: _,
-            tlv: _,
-            entries: _,
-            consumed: _,
-            rest: _,
-        } => true,
-        Found::Refused(_) => false,
-    }
-}
-
-// A look at a record, if its place does not come before `from`.
-fn look_from(t: Tlv, payload: &[u8], code: u8, place: usize, from: usize) -> Found
-    ensures { λ r. ⌜ foundOf r ≡ cond (ltb place from) (refuses 15 []) (thereOr (readsAs code (now (payload .entry)) t) place t (refuses 15 [])) ⌝ }
+// Is the TLV a readable one of the kind, at `from` or after it?
+fn is_sought(t: Tlv, payload: &[u8], code: u8, place: usize, from: usize) -> bool
+    ensures { λ r. ⌜ r ≡ cond (ltb place from) false (isGiven (readsAs code (now (payload .entry)) t)) ⌝ }
 {
     if place < from {
-        return Found::Refused(Refusal::NotFound);
+        return false;
     }
-    look(t, payload, code, place)
+    reads(t, payload, code)
 }
 
-// The first readable TLV of the kind among those that a walk of the payload reads, from so many on. The marker is looked at like any other, and nothing behind it.
-fn search(payload: &[u8], code: u8, from: usize) -> Found
-    ensures { λ r. ⌜ foundOf r ≡ firstOf code (now (payload .entry)) from (drop from (walkOf (now (payload .entry)) .items)) ⌝ }
+// The first readable TLV of the kind among those that a walk of the payload reads, from so many on. The marker is looked at like any other, and nothing after it.
+fn search(payload: &[u8], code: u8, from: usize) -> Spot
+    ensures { λ r. ⌜ hitAt code (now (payload .entry)) r ≡ firstOf code (now (payload .entry)) from (drop from (walkOf (now (payload .entry)) .tlvs)) ⌝ }
 {
     let mut at = 0;
     let mut place = 0;
     loop {
         match walking::step(payload, at) {
             Stepped::End => {
-                return Found::Refused(Refusal::NotFound);
+                return Spot::Nowhere;
             }
             Stepped::Tlv { tlv, next } => {
-                let found = look_from(tlv, payload, code, place, from);
-                if is_hit(found) {
-                    return found;
+                if is_sought(tlv, payload, code, place, from) {
+                    return Spot::At { place, tlv };
                 }
                 at = next;
                 place += 1;
             }
             Stepped::Last { tlv, end: _ } => {
-                return look_from(tlv, payload, code, place, from);
+                if is_sought(tlv, payload, code, place, from) {
+                    return Spot::At { place, tlv };
+                }
+                return Spot::Nowhere;
             }
             Stepped::Refused { refusal: _, at: _ } => {
-                return Found::Refused(Refusal::NotFound);
+                return Spot::Nowhere;
             }
         }
     }
 }
 
-// The same without a list: the first readable TLV of the kind in a payload, by its number among the payload's TLVs, from 0, at `from` or behind it.
+// The same without a list: the first readable TLV of the kind in a payload, by its number among the payload's TLVs, from 0, at `from` or after it.
 pub fn find_in_payload(payload: &[u8], code: u8, from: usize) -> Searched
     ensures { λ r. ⌜ searchedOf r ≡ findInPayload code (now (payload .entry)) from ⌝ }
 {
@@ -276,10 +248,13 @@ pub fn find_in_payload(payload: &[u8], code: u8, from: usize) -> Searched
             Walked::Count {
                 count: _,
                 padding: _,
-            } => Searched::Answered(search(payload, code, from)),
+            } => match search(payload, code, from) {
+                Spot::At { place, tlv } => Searched::Answered(look(tlv, payload, code, place)),
+                Spot::Nowhere => Searched::Answered(none_found(code)),
+            },
             Walked::Refused { refusal, at } => Searched::Unwalked { refusal, at },
         }
     } else {
-        Searched::Answered(Found::Refused(Refusal::UnknownKind))
+        Searched::Answered(none_found(code))
     }
 }

@@ -1,4 +1,4 @@
--- `finding::find` meets its contract: a walk of its MIR, by hand: a call of `find_place`, to which copies of the two shared slices go; one of `place_or`; and where the place lies in the list, one of `look` at the record there, else one of `refused`.
+-- `finding::find` meets its contract: a walk of its MIR, by hand: a call of `find_place`, to which copies of the two shared slices go; one of `place_or`; and where the place lies in the list, one of `look` at the record there, else one of `none_found`.
 -- Assumes nothing.
 use mathlib.Core.Path.{_≡_, refl, sym, _∙_, ap, subst}
 use Prim.Native.Nat.{ℕ, _<_, _^_}
@@ -41,7 +41,7 @@ use denote.Triple.Spec.{Meets, tripleOf}
 use denote.Triple.Table.{entered, cited}
 use denote.Triple.Walked.{says, Stays, stay-dropped, walkOf, goes-dropped, Walks, ends-at, walked, walk-meets}
 use denote.Exit.{yes}
-use Rattle.numbers.specs.Numbers.{refuses, andThen, mapped}
+use Rattle.numbers.specs.Numbers.{mapped}
 use Rattle.walking.specs.declared.Tlv.{Tlv}
 use Rattle.walking.specs.Walk.{noTlv}
 use Rattle.walking.proofs.Tlv as T
@@ -49,7 +49,7 @@ use Rattle.walking.proofs.Tlv.Laws as T′
 use Rattle.walking.proofs.Elem.{R, mach, vals, tells, copies, makes, scaled}
 use Rattle.walking.proofs.Body.{tyOf}
 use Rattle.finding.specs.Finding.{foundOf, placedOf, readsAs, thereOr, findFrom}
-use Rattle.finding.specs.Private.{placeOr}
+use Rattle.finding.specs.Private.{noneOf, placeOr}
 use Rattle.finding.specs.declared.Found.{Found}
 use Rattle.finding.specs.declared.Placed.{Placed}
 use Rattle.finding.proofs.Found as S
@@ -69,10 +69,10 @@ use Rattle.finding.proofs.look as one
 use Rattle.finding.proofs.look.Symbol as one-def
 use Rattle.finding.proofs.look.Symbol.{name as #one}
 use Rattle.finding.proofs.look.Met as one-thm
-use Rattle.finding.proofs.refused as none
-use Rattle.finding.proofs.refused.Symbol as none-def
-use Rattle.finding.proofs.refused.Symbol.{name as #none}
-use Rattle.finding.proofs.refused.Met as none-thm
+use Rattle.finding.proofs.none_found as none
+use Rattle.finding.proofs.none_found.Symbol as none-def
+use Rattle.finding.proofs.none_found.Symbol.{name as #none}
+use Rattle.finding.proofs.none_found.Met as none-thm
 use Rattle.finding.proofs.find.Key.{name as #f}
 use Rattle.finding.proofs.find as f
 use Rattle.finding.proofs.find.Statement as stated
@@ -157,7 +157,7 @@ module _ {M : Type 1} (𝓤 : URA M) (H : Heap 𝓤) (A : Atoms 𝓤) (W : Given
   said-place : (z : Placed) → ent 𝓤 (ensured 𝓤 H A place.ended (place.clauses 𝓤 H A mem run) κs x tt z) (fact 𝓤 (Places z))
   said-place z = exE 𝓤 _ (λ ws. snd∗ 𝓤 (sem 𝓤 H A (lasts place.ended κs x ws)) (fact 𝓤 (Places z)))
 
-  -- the calls of `place_or` and of `refused` at an answer z
+  -- the call of `place_or` at an answer z
   module _ (z : Placed) (u : Val) (is : Is P.the-row z (u ∷ [])) where
     abbrev to-number : NumberC 𝓤 H A mem run .Ghost
     to-number = ((tt, tt, tt, (z, (n, tt)), (u ∷ [], (vint w64 n ∷ [], tt))), tt)
@@ -172,17 +172,18 @@ module _ {M : Type 1} (𝓤 : URA M) (H : Heap 𝓤) (A : Atoms 𝓤) (W : Given
     said-number : (i : ℕ) → ent 𝓤 (ensured 𝓤 H A number.ended (number.clauses 𝓤 H A mem run) tt (z, (n, tt)) tt i) (fact 𝓤 (Numbers i))
     said-number i = exE 𝓤 _ (λ ws. snd∗ 𝓤 (sem 𝓤 H A (lasts number.ended tt (z, (n, tt)) ws)) (fact 𝓤 (Numbers i)))
 
-    abbrev to-none : NoneC 𝓤 H A mem run .Ghost
-    to-none = ((tt, tt, tt, (z, tt), (u ∷ [], tt)), tt)
+  -- the call of `none_found`
+  abbrev to-none : NoneC 𝓤 H A mem run .Ghost
+  to-none = ((tt, tt, tt, (kind, tt), (vint w8 kind ∷ [], tt)), tt)
 
-    asked-none : ent 𝓤 (⋆ 𝓤 H A []) (NoneC 𝓤 H A mem run .pre to-none)
-    asked-none = qed W [] ∵ nothing ! $ owned ! P.the-row (Is P.the-row) (EL.makes P.the-type P′.the-plain 𝓤 H A) z _ is $ fjoin ! $ nothing ! $ join ! $ frame ! $ done !
+  asked-none : ent 𝓤 (⋆ 𝓤 H A []) (NoneC 𝓤 H A mem run .pre to-none)
+  asked-none = qed W [] ∵ nothing ! $ owned ! u8 (Is u8) (uint-makes 𝓤 H A W w8) kind _ (refl, gk) $ fjoin ! $ nothing ! $ join ! $ frame ! $ done !
 
-    abbrev NoneIs : Found → Type 0
-    NoneIs r = foundOf r ≡ andThen (placedOf z) (λ i. refuses 15 [])
+  abbrev NoneIs : Found → Type 0
+  NoneIs r = foundOf r ≡ noneOf kind
 
-    said-none : (r : Found) → ent 𝓤 (ensured 𝓤 H A none.ended (none.clauses 𝓤 H A mem run) tt (z, tt) tt r) (fact 𝓤 (NoneIs r))
-    said-none r = exE 𝓤 _ (λ ws. snd∗ 𝓤 (sem 𝓤 H A (lasts none.ended tt (z, tt) ws)) (fact 𝓤 (NoneIs r)))
+  said-none : (r : Found) → ent 𝓤 (ensured 𝓤 H A none.ended (none.clauses 𝓤 H A mem run) tt (kind, tt) tt r) (fact 𝓤 (NoneIs r))
+  said-none r = exE 𝓤 _ (λ ws. snd∗ 𝓤 (sem 𝓤 H A (lasts none.ended tt (kind, tt) ws)) (fact 𝓤 (NoneIs r)))
 
   -- the call of `look` at a record t, whose place is i
   module _ (t : Tlv) (i : ℕ) where
@@ -196,7 +197,7 @@ module _ {M : Type 1} (𝓤 : URA M) (H : Heap 𝓤) (A : Atoms 𝓤) (W : Given
         owned ! R (Is R) (makes 𝓤 H A) t _ gt $ fjoin ! $ move ! (1 ∷ 0 ∷ []) $ join ! $ frame ! $ done !
 
     abbrev OneIs : Found → Type 0
-    OneIs r = foundOf r ≡ thereOr (readsAs kind (now pay) t) i t (refuses 15 [])
+    OneIs r = foundOf r ≡ thereOr (readsAs kind (now pay) t) i t (noneOf kind)
 
     said-one : (r : Found) → ent 𝓤 (ensured 𝓤 H A one.ended (one.clauses 𝓤 H A mem run) (κ′, tt) (t, (pay, (kind, (i, tt)))) tt r) (fact 𝓤 (OneIs r))
     said-one r = exE 𝓤 _ (λ ws. snd∗ 𝓤 (sem 𝓤 H A (lasts one.ended (κ′, tt) (t, (pay, (kind, (i, tt)))) ws)) (fact 𝓤 (OneIs r)))
@@ -261,11 +262,11 @@ module _ {M : Type 1} (𝓤 : URA M) (H : Heap 𝓤) (A : Atoms 𝓤) (W : Given
         move ! (16 ∷ 17 ∷ []) $ free1 ! $ move ! (14 ∷ 15 ∷ []) $ free1 ! $ move ! (12 ∷ 13 ∷ []) $ free1 ! $ move ! (10 ∷ 11 ∷ []) $ free1 ! $ move ! (8 ∷ 9 ∷ []) $ free1 ! $ move ! (6 ∷ 7 ∷ []) $ free1 ! $ free0 ! $
         move ! (2 ∷ 1 ∷ []) $ join ! $ keep ! (0 ∷ 1 ∷ []) $ by ! (exits r w (e″ ∙ there kind (now pay) ys i₀ (placedOf z) i e e′ l)))))))))
         (λ ge. skips ! $ exec ! (𝓣 .C) (𝓣 .Λ) (E l₀ l₁ l₂ l₃ l₄ l₅ l₆ l₇ l₈ l₉ l₁₀ l₁₁) mir.t-7 (atRet (E l₀ l₁ l₂ l₃ l₄ l₅ l₆ l₇ l₈ l₉ l₁₀ l₁₁) Post) $
-        use0 W (raw (NoneC 𝓤 H A mem run .pre (to-none z u is))) (asked-none z u is) $
-        -- [pre; the tokens; list; payload; _11 (4); …; _5 (16); …]
-        calls-at ! (fmOf 𝓤 H (W .laws) 𝓣) (NoneC 𝓤 H A mem run) known‴ (to-none z u is) (and-then ! (load ! (from ! (stop !)) (look ! 16 refl)) (no-more !)) (λ w.
-        use1 W (later (some (λ (r : Found). (‵ ftrue ⊛ ‵ (S.the-row .own r (w ∷ []))) ⊛ raw (ensured 𝓤 H A none.ended (none.clauses 𝓤 H A mem run) tt (z, tt) tt r)))) (id⊢ 𝓤 _) $ await ! tt $ pick ! (λ r.
-        split ! $ move ! (1 ∷ []) $ use1 W (raw (fact 𝓤 (NoneIs z u is r))) (said-none z u is r) $ heard ! (NoneIs z u is r) (λ e″. split ! $ move ! (1 ∷ []) $
+        use0 W (raw (NoneC 𝓤 H A mem run .pre to-none)) asked-none $
+        -- [pre; the tokens; list; payload; _11 (4); …; _3 (20); …]
+        calls-at ! (fmOf 𝓤 H (W .laws) 𝓣) (NoneC 𝓤 H A mem run) known‴ to-none (and-then ! (load ! (from ! (stop !)) (look ! 20 refl)) (no-more !)) (λ w.
+        use1 W (later (some (λ (r : Found). (‵ ftrue ⊛ ‵ (S.the-row .own r (w ∷ []))) ⊛ raw (ensured 𝓤 H A none.ended (none.clauses 𝓤 H A mem run) tt (kind, tt) tt r)))) (id⊢ 𝓤 _) $ await ! tt $ pick ! (λ r.
+        split ! $ move ! (1 ∷ []) $ use1 W (raw (fact 𝓤 (NoneIs r))) (said-none r) $ heard ! (NoneIs r) (λ e″. split ! $ move ! (1 ∷ []) $
         peeks ! S.the-row (Is S.the-row) (shows 𝓤 H A S.the-row) r (w ∷ []) (λ is″.
         -- [the result; true; the tokens; list; payload; _11 (5); …; _0 (27); …]
         land ! (from ! (stop !)) (init ! 27 refl (EL.lawful S.the-type S′.the-laws 𝓤 H A W tt .typed r _ is″ .0)) $
@@ -294,4 +295,4 @@ find-spec 𝓤 H 𝓜 𝓖 𝓡 =
     (cited 𝓤 H (PlaceC 𝓤 H (𝓖 .A) (𝓜 .mem) (𝓡 .run)) 𝓜 𝓡 code.env #place place-def.routine code.calls-finding·find-place (place-thm.met 𝓤 H 𝓜 𝓖 𝓡))
     (cited 𝓤 H (NumberC 𝓤 H (𝓖 .A) (𝓜 .mem) (𝓡 .run)) 𝓜 𝓡 code.env #number number-def.routine code.calls-finding·place-or (number-thm.met 𝓤 H 𝓜 𝓖 𝓡))
     (cited 𝓤 H (OneC 𝓤 H (𝓖 .A) (𝓜 .mem) (𝓡 .run)) 𝓜 𝓡 code.env #one one-def.routine code.calls-finding·look (one-thm.met 𝓤 H 𝓜 𝓖 𝓡))
-    (cited 𝓤 H (NoneC 𝓤 H (𝓖 .A) (𝓜 .mem) (𝓡 .run)) 𝓜 𝓡 code.env #none none-def.routine code.calls-finding·refused (none-thm.met 𝓤 H 𝓜 𝓖 𝓡)))
+    (cited 𝓤 H (NoneC 𝓤 H (𝓖 .A) (𝓜 .mem) (𝓡 .run)) 𝓜 𝓡 code.env #none none-def.routine code.calls-finding·none-found (none-thm.met 𝓤 H 𝓜 𝓖 𝓡)))

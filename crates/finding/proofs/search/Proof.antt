@@ -2,11 +2,11 @@
 use mathlib.Core.Path.{sym, _∙_, ap}
 use Prim.Native.Nat.{_-_}
 use native.Mathlib.Omega.{arith}
-use borrow.Author.Needs.{needs}
 use lib.ListN.{length}
 use Rattle.walking.specs.Walk.{steppedOf}
 use Rattle.walking.proofs.Stepping.{passes}
-use Rattle.finding.proofs.Searching.{Searching, begins, ends, stops, at-marker, goes-on, found}
+use Rattle.finding.proofs.Searching.{Searching, begins, ends, stops, marker-found, marker-passed, goes-on, found}
+use borrow.Author.Needs.{needs}
 use Rattle.finding.proofs.search.Statement.{statement}
 use Rattle.finding.proofs.search.Tie as tie
 
@@ -23,26 +23,29 @@ returns : tie.Need-returns Inv-loop μ-loop
 returns c = ends _ _ _ _ _ (c .before .before .before .loop .inv) (ap steppedOf (sym (c .enum-told .given .1)) ∙ c .before .before .step .ensures)
 
 returns-2 : tie.Need-returns-2 Inv-loop μ-loop
-returns-2 c = found _ _ _ _ _ (c .before .before .before .before .before .before .before .loop .inv) _ _ (ap steppedOf (sym (c .before .before .before .before .tlv .given .1)) ∙ c .before .before .before .before .before .before .step .ensures) _ (c .before .before .look-from .ensures) (sym (c .before .is-hit .ensures) ∙ c .if1 .taken)
+returns-2 c = found _ _ _ _ _ (c .before .before .before .before .before .before .loop .inv) _ _ (ap steppedOf (sym (c .before .before .before .tlv .given .1)) ∙ c .before .before .before .before .before .step .ensures) (sym (c .if1 .taken) ∙ c .before .is-sought .ensures)
 
 add-place : tie.Need-add-place Inv-loop μ-loop
 add-place c =
-    let o = passes _ _ _ _ (ap steppedOf (sym (c .before .before .before .before .tlv .given .1)) ∙ c .before .before .before .before .before .before .step .ensures) in
-    omega (arith, o .behind, o .inside, c .before .before .before .before .before .before .before .loop .inv .walking .slow)
+    let o = passes _ _ _ _ (ap steppedOf (sym (c .before .before .before .tlv .given .1)) ∙ c .before .before .before .before .before .step .ensures) in
+    omega (arith, o .behind, o .inside, c .before .before .before .before .before .before .loop .inv .few)
 
 loop-less : tie.Need-loop-less Inv-loop μ-loop
 loop-less c =
-    let o = passes _ _ _ _ (ap steppedOf (sym (c .before .before .before .before .tlv .given .1)) ∙ c .before .before .before .before .before .before .step .ensures) in
+    let o = passes _ _ _ _ (ap steppedOf (sym (c .before .before .before .tlv .given .1)) ∙ c .before .before .before .before .before .step .ensures) in
     omega (arith, o .behind, o .inside)
 
 loop-again : tie.Need-loop-again Inv-loop μ-loop
-loop-again c = goes-on _ _ _ _ _ (c .before .before .before .before .before .before .before .loop .inv) _ _ (ap steppedOf (sym (c .before .before .before .before .tlv .given .1)) ∙ c .before .before .before .before .before .before .step .ensures) _ (c .before .before .look-from .ensures) (sym (c .before .is-hit .ensures) ∙ c .if1 .left)
+loop-again c = goes-on _ _ _ _ _ (c .before .before .before .before .before .before .loop .inv) _ _ (ap steppedOf (sym (c .before .before .before .tlv .given .1)) ∙ c .before .before .before .before .before .step .ensures) (sym (c .if1 .left) ∙ c .before .is-sought .ensures)
 
 returns-3 : tie.Need-returns-3 Inv-loop μ-loop
-returns-3 c = at-marker _ _ _ _ _ (c .before .before .before .before .before .loop .inv) _ _ (ap steppedOf (sym (c .before .before .tlv2 .given .1)) ∙ c .before .before .before .before .step .ensures) _ (c .look-from2 .ensures)
+returns-3 c = marker-found _ _ _ _ _ (c .before .before .before .before .before .before .loop .inv) _ _ (ap steppedOf (sym (c .before .before .before .tlv2 .given .1)) ∙ c .before .before .before .before .before .step .ensures) (sym (c .if2 .taken) ∙ c .before .is-sought2 .ensures)
 
 returns-4 : tie.Need-returns-4 Inv-loop μ-loop
-returns-4 c = stops _ _ _ _ _ (c .before .before .before .loop .inv) _ _ (ap steppedOf (sym (c .enum-told2 .given .1)) ∙ c .before .before .step .ensures)
+returns-4 c = marker-passed _ _ _ _ _ (c .before .before .before .before .before .before .loop .inv) _ _ (ap steppedOf (sym (c .before .before .before .tlv2 .given .1)) ∙ c .before .before .before .before .before .step .ensures) (sym (c .if2 .left) ∙ c .before .is-sought2 .ensures)
+
+returns-5 : tie.Need-returns-5 Inv-loop μ-loop
+returns-5 c = stops _ _ _ _ _ (c .before .before .before .loop .inv) _ _ (ap steppedOf (sym (c .enum-told2 .given .1)) ∙ c .before .before .step .ensures)
 
 pub search-spec : {M : Type 1} → statement M
 search-spec =
@@ -56,7 +59,6 @@ search-spec =
     returns
     (λ c. search needs)
     (λ c κs. search needs)
-    (λ c κs. search needs)
     returns-2
     add-place
     loop-less
@@ -64,5 +66,6 @@ search-spec =
     (λ c. search needs)
     (λ c κs. search needs)
     returns-3
+    returns-4
     (λ c. search needs)
-    returns-4)
+    returns-5)
