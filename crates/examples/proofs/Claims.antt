@@ -15,7 +15,7 @@ use Rattle.utf8.specs.Utf8.{passes}
 use Rattle.texts.specs.Texts.{textKind, isText}
 use Rattle.texts.specs.Reading.{untilZero, pieceAt, piecesAt, radioList, laidOf, validOf, wholeOf, readText}
 use Rattle.texts.specs.Access.{ofText, locateRadio, countRadios, locateText, locateRadioText}
-use Rattle.kinds.specs.Kinds.{readListed, locateListed, countListed, readKind, locateKind, countKind, locateTextIn}
+use Rattle.kinds.specs.Kinds.{readKind, locateKind, countKind, locateTextIn}
 use Rattle.kinds.specs.Writing.{writeKind, kindBytes}
 use Rattle.finding.specs.Finding.{readsAs, firstOf, findFrom, findInPayload}
 use Rattle.pushing.specs.Push.{wayBy, keepWay, messageWay}
@@ -69,7 +69,7 @@ of-walks = record {
 }
 
 of-kinds : OfKinds
-unfolding empty fixed readRecord layoutOf isList countAt listOf entriesEnd endOf consumedTo readAs readValue childAt findEntry spanOf lengthAt ofValue locateEntry countEntries textKind isText untilZero pieceAt piecesAt radioList laidOf validOf wholeOf readText passes readListed locateListed countListed readKind locateKind countKind writeSize writeKind kindBytes recordSize
+unfolding empty fixed readRecord layoutOf isList countAt listOf entriesEnd endOf consumedTo readAs readValue childAt findEntry spanOf lengthAt ofValue locateEntry countEntries textKind isText untilZero pieceAt piecesAt radioList laidOf validOf wholeOf readText passes readKind locateKind countKind writeSize writeKind kindBytes recordSize
 of-kinds = record {
   the-24 = refl;
   joined = refl;
@@ -142,7 +142,7 @@ of-kinds = record {
 }
 
 of-texts : OfTexts
-unfolding empty fixed readRecord layoutOf isList countAt listOf entriesEnd endOf consumedTo readAs readValue childAt findEntry spanOf lengthAt ofValue locateEntry countEntries textKind isText untilZero pieceAt piecesAt radioList laidOf validOf wholeOf readText ofText locateRadio countRadios locateText locateRadioText passes readListed locateListed countListed readKind locateKind countKind locateTextIn those
+unfolding empty fixed readRecord layoutOf isList countAt listOf entriesEnd endOf consumedTo readAs readValue childAt findEntry spanOf lengthAt ofValue locateEntry countEntries textKind isText untilZero pieceAt piecesAt radioList laidOf validOf wholeOf readText ofText locateRadio countRadios locateText locateRadioText passes readKind locateKind countKind locateTextIn those
 of-texts = record {
   device-identification = refl;
   model-name = refl;
@@ -170,7 +170,7 @@ of-texts = record {
 }
 
 of-finding : OfFinding
-unfolding readTlv stepAt walkFrom walkOf fixed readRecord layoutOf isList textKind isText readListed readKind readsAs firstOf findFrom findInPayload
+unfolding readTlv stepAt walkFrom walkOf fixed readRecord layoutOf isList textKind isText readKind readsAs firstOf findFrom findInPayload
 of-finding = record {
   found-at = refl;
   none-found = refl;

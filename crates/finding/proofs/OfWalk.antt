@@ -38,21 +38,21 @@ module _ (p : List ℕ) where
       ∙ ap (λ (x : Answer TlvRead). andThen x (λ t. cond (eqb (t .tlv-type) code) (readKind code (valueIn (gives t) s)) (refuses 15 []))) (o .reads-as)
 
   -- so what reads or doesn't as a record of the walk's list reads so as a TLV
-  not-there : (code k : ℕ) → k < length (walkOf p .tlvs) → readsAt code p (walkOf p .tlvs) k ≡ false → readsThere code p k ≡ false
+  not-there : (code k : ℕ) → k < length (walkOf p .items) → readsAt code p (walkOf p .items) k ≡ false → readsThere code p k ≡ false
   not-there code k l e = ap isGiven (sym (as-tlv code k l)) ∙ e
 
   -- what is found among the walk's records is the TLV of that number, read where it stands
-  pub found-is-tlv : (code from : ℕ) (h : Hit) → gives h ≡ findFrom code (walkOf p .tlvs) p from → IsFirstTlv p code from h
+  pub found-is-tlv : (code from : ℕ) (h : Hit) → gives h ≡ findFrom code (walkOf p .items) p from → IsFirstTlv p code from h
   found-is-tlv code from h e =
-      let f = is-first code p (walkOf p .tlvs) from h e in
+      let f = is-first code p (walkOf p .items) from h e in
       record {
         reads = f .reads ∙ ap (readsAs code p) (sym (f .is)) ∙ as-tlv code (h .place) (f .there)
             ∙ ap (λ (t : Tlv). tlvAs code (drop (t .offset) p)) (f .is);
         first = λ k l m. not-there code k (omega (arith, f .there)) (f .first k l m);
       }
 
-  pub none-is-tlv : (code from : ℕ) → refuses 15 [] ≡ findFrom code (walkOf p .tlvs) p from → (k : ℕ) → from ≤ k → k < length (walkOf p .tlvs) → readsThere code p k ≡ false
-  none-is-tlv code from e k l m = not-there code k m (none-there code p (walkOf p .tlvs) from e k l m)
+  pub none-is-tlv : (code from : ℕ) → refuses 15 [] ≡ findFrom code (walkOf p .items) p from → (k : ℕ) → from ≤ k → k < length (walkOf p .items) → readsThere code p k ≡ false
+  none-is-tlv code from e k l m = not-there code k m (none-there code p (walkOf p .items) from e k l m)
 
   -- a list that is longer than the walk's, as `walk_into` leaves it, gives the same, if the payload has one
   by-kind : (code : ℕ) (us : List Tlv) (h : Hit) (b : Bool) → gives h ≡ cond b (firstOf code p 0 (walkOf p .items)) (refuses 16 []) → gives h ≡ cond b (firstOf code p 0 (walkOf p .items ++ us)) (refuses 16 [])

@@ -93,35 +93,36 @@ module _ (code : ℕ) (p : List ℕ) (from at place : ℕ) (w : Searching code p
   stops n vs e = sym (rest-nil code p from place) ∙ by-ahead [] (turned (stepAt p) (length p) goes (refuses n vs) e .0)
 
   -- a record that is reached, before these
-  module _ (t : Tlv) (ts : List Tlv) (e : rest code p from place (t ∷ ts) ≡ firstOf code p from (drop from (walkOf p .tlvs))) where
-    is-it : true ≡ isSought code p t place from → hitAt code p (Spot.At place t) ≡ firstOf code p from (drop from (walkOf p .tlvs))
+  module _ (t : Tlv) (ts : List Tlv) (e : rest code p from place (t ∷ ts) ≡ firstOf code p from (drop from (walkOf p .items))) where
+    is-it : true ≡ isSought code p t place from → hitAt code p (Spot.At place t) ≡ firstOf code p from (drop from (walkOf p .items))
     is-it h = sought-by (ltb place from) (readsAs code p t) place t (rest code p from (place + 1) ts) h ∙ sym (rest-cons code p from place t ts) ∙ e
 
-    is-not : false ≡ isSought code p t place from → rest code p from (place + 1) ts ≡ firstOf code p from (drop from (walkOf p .tlvs))
+    is-not : false ≡ isSought code p t place from → rest code p from (place + 1) ts ≡ firstOf code p from (drop from (walkOf p .items))
     is-not h = passed-by (ltb place from) (readsAs code p t) place t (rest code p from (place + 1) ts) h ∙ sym (rest-cons code p from place t ts) ∙ e
 
   -- at the marker: after it nothing is found
   module _ (t : Tlv) (end : ℕ) (e : gives (last t end) ≡ stepAt p at) where
-    pub marker-found : true ≡ isSought code p t place from → hitAt code p (Spot.At place t) ≡ firstOf code p from (drop from (walkOf p .tlvs))
-    marker-found = is-it t [] (by-step (gives (last t end)) e)
+    alone : rest code p from place (t ∷ []) ≡ firstOf code p from (drop from (walkOf p .items))
+    alone = by-ahead (t ∷ []) (turned (stepAt p) (length p) goes (gives (last t end)) e .0)
 
-    pub marker-passed : false ≡ isSought code p t place from → refuses 15 [] ≡ firstOf code p from (drop from (walkOf p .tlvs))
-    marker-passed h = sym (rest-nil code p from (place + 1)) ∙ is-not t [] (by-step (gives (last t end)) e) h
+    pub marker-found : true ≡ isSought code p t place from → hitAt code p (Spot.At place t) ≡ firstOf code p from (drop from (walkOf p .items))
+    marker-found = is-it t [] alone
+
+    pub marker-passed : false ≡ isSought code p t place from → refuses 15 [] ≡ firstOf code p from (drop from (walkOf p .items))
+    marker-passed h = sym (rest-nil code p from (place + 1)) ∙ is-not t [] alone h
 
   module _ (t : Tlv) (next : ℕ) (e : gives (passed t next) ≡ stepAt p at) where
-    pub found : true ≡ isSought code p t place from → hitAt code p (Spot.At place t) ≡ firstOf code p from (drop from (walkOf p .tlvs))
-    found = is-it t (on next .tlvs) (by-step (gives (passed t next)) e)
+    abbrev on : List Tlv
+    on = drop (place + 1) (walkOf p .items)
+
+    reached : rest code p from place (t ∷ on) ≡ firstOf code p from (drop from (walkOf p .items))
+    reached = by-ahead (t ∷ on) (Walks.ahead p at place (w .walking) t next e)
+
+    pub found : true ≡ isSought code p t place from → hitAt code p (Spot.At place t) ≡ firstOf code p from (drop from (walkOf p .items))
+    found = is-it t on reached
 
     pub goes-on : false ≡ isSought code p t place from → Searching code p from next (place + 1)
-    goes-on h =
-        let o = passes p at t next e in
-        record {
-          within = o .inside;
-          few = omega (arith, o .behind, w .few);
-          most = w .most - 1;
-          enough = omega (arith, o .behind, w .enough);
-          will = is-not t (on next .tlvs) (by-step (gives (passed t next)) e) h;
-        }
+    goes-on h = record { walking = Walks.goes-on p at place (w .walking) t next e; will = is-not t on reached h }
 
 -- the whole answer: 16, then the walk's refusal, then what the search found
 module _ (code : ℕ) (p : List ℕ) (from : ℕ) where
@@ -133,7 +134,7 @@ module _ (code : ℕ) (p : List ℕ) (from : ℕ) where
   unfolding findInPayload
   unwalked e n vs c = rw (e, Counts.ended-by (walkOf p) n vs c)
 
-  module _ (e : isKind code ≡ true) (n : WalkCount) (c : gives n ≡ counted (walkOf p)) (spot : Spot) (f : hitAt code p spot ≡ firstOf code p from (drop from (walkOf p .tlvs))) where
+  module _ (e : isKind code ≡ true) (n : WalkCount) (c : gives n ≡ counted (walkOf p)) (spot : Spot) (f : hitAt code p spot ≡ firstOf code p from (drop from (walkOf p .items))) where
     walked : hitAt code p spot ≡ findInPayload code p from
     unfolding findInPayload findFrom
     walked = f ∙ rw (e, Counts.ended-with (walkOf p) n c .0)

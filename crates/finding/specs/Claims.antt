@@ -69,7 +69,7 @@ tlvAs code s = andThen (readTlv s) (λ t. cond (eqb (t .tlv-type) code) (readKin
 
 -- whether TLV number k of the payload reads as one of the kind, where it stands
 abbrev pub readsThere : ℕ → List ℕ → ℕ → Bool
-readsThere code payload k = isGiven (tlvAs code (drop (offsetAt (walkOf payload .tlvs) k) payload))
+readsThere code payload k = isGiven (tlvAs code (drop (offsetAt (walkOf payload .items) k) payload))
 
 -- the TLV at the place that was found reads so, and none before it does, from the place asked for on
 pub record IsFirstTlv (payload : List ℕ) (code from : ℕ) (h : Hit) : Type 0 where
@@ -77,10 +77,10 @@ pub record IsFirstTlv (payload : List ℕ) (code from : ℕ) (h : Hit) : Type 0 
   pub first : (k : ℕ) → from ≤ k → k < h .place → readsThere code payload k ≡ false
 
 pub record OverAWalk : Type 0 where
-  pub found-is-tlv : (payload : List ℕ) (code from : ℕ) (h : Hit) → gives h ≡ findFrom code (walkOf payload .tlvs) payload from → IsFirstTlv payload code from h
+  pub found-is-tlv : (payload : List ℕ) (code from : ℕ) (h : Hit) → gives h ≡ findFrom code (walkOf payload .items) payload from → IsFirstTlv payload code from h
   -- 15: none of the payload's TLVs does, from that place on
-  pub none-is-tlv : (payload : List ℕ) (code from : ℕ) → refuses 15 [] ≡ findFrom code (walkOf payload .tlvs) payload from
-      → (k : ℕ) → from ≤ k → k < length (walkOf payload .tlvs) → readsThere code payload k ≡ false
+  pub none-is-tlv : (payload : List ℕ) (code from : ℕ) → refuses 15 [] ≡ findFrom code (walkOf payload .items) payload from
+      → (k : ℕ) → from ≤ k → k < length (walkOf payload .items) → readsThere code payload k ≡ false
   -- a list that is longer than the walk's, as `walk_into` leaves it, gives the same, if the payload has one
   pub in-filled-list : (payload : List ℕ) (code : ℕ) (c : WalkCount) (lent : List Tlv) (h : Hit) → gives h ≡ findFrom code (walkOf payload .items) payload 0
       → gives h ≡ findFrom code (filled (gives c) (walkOf payload .items) lent) payload 0
@@ -88,8 +88,8 @@ pub record OverAWalk : Type 0 where
   pub without-list : (payload : List ℕ) (code from padding : ℕ) → walkOf payload .end ≡ gives padding
       → findInPayload code payload from ≡ findFrom code (walkOf payload .items) payload from
   -- 2026-03: padding "is not looked at": whatever else follows the marker, TLV number k of the walk, the answer is the same
-  pub not-in-padding : (payload : List ℕ) (k : ℕ) → k < length (walkOf payload .tlvs) → isMarker (getD (walkOf payload .tlvs) k noTlv) ≡ true → (other : List ℕ) (code from : ℕ)
-      → findInPayload code (take (offsetAt (walkOf payload .tlvs) k + 3) payload ++ other) from ≡ findInPayload code payload from
+  pub not-in-padding : (payload : List ℕ) (k : ℕ) → k < length (walkOf payload .items) → isMarker (getD (walkOf payload .items) k noTlv) ≡ true → (other : List ℕ) (code from : ℕ)
+      → findInPayload code (take (offsetAt (walkOf payload .items) k + 3) payload ++ other) from ≡ findInPayload code payload from
 
 -- everything that is claimed of this crate
 pub record Claims : Type 0 where

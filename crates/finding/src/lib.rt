@@ -210,7 +210,7 @@ fn is_sought(t: Tlv, payload: &[u8], code: u8, place: usize, from: usize) -> boo
 
 // The first readable TLV of the kind among those that a walk of the payload reads, from so many on. The marker is looked at like any other, and nothing after it.
 fn search(payload: &[u8], code: u8, from: usize) -> Spot
-    ensures { λ r. ⌜ hitAt code (now (payload .entry)) r ≡ firstOf code (now (payload .entry)) from (drop from (walkOf (now (payload .entry)) .tlvs)) ⌝ }
+    ensures { λ r. ⌜ hitAt code (now (payload .entry)) r ≡ firstOf code (now (payload .entry)) from (drop from (walkOf (now (payload .entry)) .items)) ⌝ }
 {
     let mut at = 0;
     let mut place = 0;

@@ -28,7 +28,7 @@ returns-2 c = found _ _ _ _ _ (c .before .before .before .before .before .before
 add-place : tie.Need-add-place Inv-loop μ-loop
 add-place c =
     let o = passes _ _ _ _ (ap steppedOf (sym (c .before .before .before .tlv .given .1)) ∙ c .before .before .before .before .before .step .ensures) in
-    omega (arith, o .behind, o .inside, c .before .before .before .before .before .before .loop .inv .few)
+    omega (arith, o .behind, o .inside, c .before .before .before .before .before .before .loop .inv .walking .slow)
 
 loop-less : tie.Need-loop-less Inv-loop μ-loop
 loop-less c =
