@@ -1,9 +1,11 @@
 // Reading a command: its fields, numbers, and bytes written as hex pairs and repeats. A line that is too long, or gives too many bytes, counts as an empty
 // one, which is no command. What else is none is answered somehow; none is ever generated.
 ghost use mathlib.Core.Path.{_≡_};
-ghost use Prim.Native.Nat.{_+_, _≤_, _<_, _%_};
-ghost use lib.ListN.{length, getD};
+ghost use Prim.Native.Nat.{_+_, _-_, _≤_, _<_, _%_, min};
+ghost use lib.ListN.{length, getD, take, drop};
 ghost use Rattle.command_lines.specs.Decimal.{withDigit, numberOf};
+ghost use Rattle.command_lines.specs.Fields.{pieceOf, beyond};
+ghost use Rattle.command_lines.specs.PrivatePlaces.{Place};
 
 // The longest line, without its end.
 const LONGEST: usize = 32768;
@@ -11,13 +13,21 @@ const LONGEST: usize = 32768;
 // The most bytes that may come out of a line.
 const MOST: usize = 66000;
 
-// Where the first `b` from `from` on stands; the end where there is none.
-fn place_of(s: &[u8], from: usize, b: u8) -> usize
-    ensures { λ r. ⌜ r ≤ length (now (s .entry)) ⌝ }
+// The lesser of two.
+pub fn least(a: usize, b: usize) -> usize
+    ensures { λ r. ⌜ r ≡ min a b ⌝ }
+{
+    if a < b { a } else { b }
+}
+
+// Where the first separator from `from` on stands; the end where there is none.
+fn place_of(s: &[u8], from: usize, separator: u8) -> usize
+    requires { ⌜ from ≤ length (now s) ⌝ }
+    ensures { λ r. ⌜ Place separator (now (s .entry)) from r ⌝ }
 {
     let mut i = from;
     while i < s.len() {
-        if s[i] == b {
+        if s[i] == separator {
             return i;
         }
         i += 1;
@@ -25,23 +35,20 @@ fn place_of(s: &[u8], from: usize, b: u8) -> usize
     s.len()
 }
 
-// From a to e; nothing where that is no part of s.
+// From a to e, as far as s goes.
 pub fn part(s: &[u8], a: usize, e: usize) -> &[u8]
-    ensures { λ r. ⌜ (length (now r) ≤ e) × (length (now r) ≤ length (now (s .entry))) ⌝ }
+    ensures { λ r. ⌜ now r ≡ take (e - a) (drop a (now (s .entry))) ⌝ }
 {
-    if e <= s.len() {
-        if a <= e {
-            return &s[a..e];
-        }
+    if s.len() <= a {
+        return &s[..0];
     }
-    &s[..0]
-}
-
-// The lesser of two.
-pub fn least(a: usize, b: usize) -> usize
-    ensures { λ r. ⌜ (r ≤ a) × (r ≤ b) ⌝ }
-{
-    if a < b { a } else { b }
+    if e < a {
+        return &s[..0];
+    }
+    if s.len() < e {
+        return &s[a..];
+    }
+    &s[a..e]
 }
 
 // The byte at i, 0 past the end.
@@ -53,7 +60,8 @@ pub fn byte_at(s: &[u8], i: usize) -> u8
 
 // After the next separator.
 fn after(s: &[u8], separator: u8, at: usize) -> usize
-    ensures { λ r. ⌜ r ≤ length (now (s .entry)) ⌝ }
+    requires { ⌜ at ≤ length (now s) ⌝ }
+    ensures { λ r. ⌜ (r ≤ length (now (s .entry))) × (drop r (now (s .entry)) ≡ beyond separator (drop at (now (s .entry)))) ⌝ }
 {
     let end = place_of(s, at, separator);
     if end < s.len() { end + 1 } else { end }
@@ -61,7 +69,7 @@ fn after(s: &[u8], separator: u8, at: usize) -> usize
 
 // Piece number n, from 0, of what is separated so.
 pub fn piece(s: &[u8], separator: u8, n: usize) -> &[u8]
-    ensures { λ r. ⌜ length (now r) ≤ length (now (s .entry)) ⌝ }
+    ensures { λ r. ⌜ now r ≡ pieceOf separator n (now (s .entry)) ⌝ }
 {
     let mut at = 0;
     let mut i = 0;
@@ -92,7 +100,7 @@ pub fn pieces(s: &[u8], separator: u8) -> usize
 
 // Field number n of a line, from 0.
 pub fn field(line: &[u8], n: usize) -> &[u8]
-    ensures { λ r. ⌜ length (now r) ≤ length (now (line .entry)) ⌝ }
+    ensures { λ r. ⌜ now r ≡ pieceOf 32 n (now (line .entry)) ⌝ }
 {
     piece(line, b' ', n)
 }
@@ -123,11 +131,15 @@ pub fn number(s: &[u8]) -> u64
 }
 
 // The number in field n.
-pub fn number_in(line: &[u8], n: usize) -> u64 {
+pub fn number_in(line: &[u8], n: usize) -> u64
+    ensures { λ r. ⌜ r ≡ numberOf (pieceOf 32 n (now (line .entry))) ⌝ }
+{
     number(field(line, n))
 }
 
-pub fn size_in(line: &[u8], n: usize) -> usize {
+pub fn size_in(line: &[u8], n: usize) -> usize
+    ensures { λ r. ⌜ r ≡ numberOf (pieceOf 32 n (now (line .entry))) ⌝ }
+{
     number_in(line, n) as usize
 }
 
@@ -144,7 +156,7 @@ pub fn u16_of(n: u64) -> u16
 }
 
 pub fn byte_in(line: &[u8], n: usize) -> u8
-    ensures { λ r. ⌜ r < 256 ⌝ }
+    ensures { λ r. ⌜ r ≡ numberOf (pieceOf 32 n (now (line .entry))) % 256 ⌝ }
 {
     byte_of(number_in(line, n))
 }
@@ -249,7 +261,8 @@ pub fn command_of(line: &[u8], n: usize) -> &[u8]
 pub fn line_end(input: &[u8], at: usize, have: usize) -> usize
     ensures { λ r. ⌜ r ≤ have ⌝ }
 {
-    place_of(part(input, 0, have), at, b'\n')
+    let filled = part(input, 0, have);
+    place_of(filled, least(at, filled.len()), b'\n')
 }
 
 // Moves the bytes from a to e to the start, of a line that is too long only so many as show that; how many they are.
