@@ -14,6 +14,9 @@ use records::NeighborMac;
 use records::Profile2ApCapability;
 use records::Record;
 use records::SupportedFreqBand;
+ghost use mathlib.Core.Path.{_≡_};
+ghost use mathlib.Core.Logic.{_⊎_};
+ghost use Rattle.records.specs.Kinds.{codeOf, kindOf};
 
 // The address in field n.
 pub fn address_in(line: &[u8], n: usize) -> MacAddr {
@@ -138,7 +141,9 @@ fn capability_in(line: &[u8]) -> Profile2ApCapability {
 }
 
 // A record of several fields, those of the line from the fourth on.
-fn several_in(code: u8, line: &[u8]) -> Record {
+fn several_in(code: u8, line: &[u8]) -> Record
+    ensures { λ r. ⌜ (codeOf (kindOf r) ≡ code) ⊎ (r ≡ Record.EndOfMessage) ⌝ }
+{
     match code {
         8 => Record::LinkMetricQuery(query_in(line)),
         0x92 => Record::ClientAssociation(association_in(line)),
@@ -148,7 +153,9 @@ fn several_in(code: u8, line: &[u8]) -> Record {
 }
 
 // A record that is a code.
-fn coded_in(code: u8, line: &[u8]) -> Record {
+fn coded_in(code: u8, line: &[u8]) -> Record
+    ensures { λ r. ⌜ (codeOf (kindOf r) ≡ code) ⊎ (r ≡ Record.EndOfMessage) ⌝ }
+{
     match code {
         12 => Record::LinkMetricResultCode(result_of(code_in(line, 3))),
         16 => Record::SupportedFreqBand(band_of(code_in(line, 3))),
@@ -159,7 +166,9 @@ fn coded_in(code: u8, line: &[u8]) -> Record {
 }
 
 // The record of a kind whose fields are those of the line from the fourth on; the one without a field where the code is no record's.
-pub fn record_in(code: u8, line: &[u8]) -> Record {
+pub fn record_in(code: u8, line: &[u8]) -> Record
+    ensures { λ r. ⌜ (codeOf (kindOf r) ≡ code) ⊎ (r ≡ Record.EndOfMessage) ⌝ }
+{
     match code {
         1 => Record::AlMacAddress(address_in(line, 3)),
         2 => Record::MacAddress(address_in(line, 3)),
