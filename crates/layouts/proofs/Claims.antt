@@ -11,8 +11,8 @@ use Rattle.numbers.proofs.Firm.{by-equation, by-telling, both, firm, never}
 use Rattle.numbers.proofs.Answers.{given, gave, follows, mapped-given}
 use Rattle.layouts.specs.declared.Listing.{Listing}
 use Rattle.layouts.specs.declared.Listing.the-variants.{Of, Refused as NoList}
-use Rattle.layouts.specs.declared.End.{End}
-use Rattle.layouts.specs.declared.End.the-variants.{At, Refused as NoEnd}
+use Rattle.layouts.specs.declared.Ending.{Ending}
+use Rattle.layouts.specs.declared.Ending.the-variants.{At, Refused as NoEnd}
 use Rattle.layouts.specs.declared.Reading.{Reading}
 use Rattle.layouts.specs.declared.Reading.the-variants.{Value, Refused}
 use Rattle.layouts.specs.declared.Located.{Located}
@@ -22,7 +22,7 @@ use Rattle.layouts.specs.declared.Counted.the-variants.{Entries, Refused
 use Rattle.layouts.specs.Layouts.{Layout, Rest, handed-back, refused, ListKind, layoutOf}
 use Rattle.layouts.specs.Reading.{ListAt, Consumed, consumedTo, listingOf, endingOf, readingOf, readAs, readValue}
 use Rattle.layouts.specs.Access.{Span, spanOf, lengthAt, locatedOf, locateEntry, partOf, countedOf, countEntries}
-use Rattle.layouts.specs.Claims.{Firmness, levelsOf, Shown, Below, Values, Alone, ConsumedAlone, Claims}
+use Rattle.layouts.specs.Claims.{Firmness, levelsOf, Shown, Below, ListValues, ListAlone, ListsAlone, Claims}
 use Rattle.layouts.proofs.Within.{end-within}
 use Rattle.layouts.proofs.Laws.{read-to}
 use Rattle.layouts.proofs.Finding.{find-here}
@@ -39,7 +39,7 @@ listing-told (Of n p) (NoList x) e = never _ _ _ e
 listing-told (NoList x) (Of n p) e = never _ _ _ (sym e)
 listing-told (NoList x) (NoList y) e = ap NoList (firm ListAt x y e)
 
-ending-told : (a b : End) → endingOf a ≡ endingOf b → a ≡ b
+ending-told : (a b : Ending) → endingOf a ≡ endingOf b → a ≡ b
 ending-told (At p) (At q) e = ap At (given p q e)
 ending-told (At p) (NoEnd x) e = never _ _ _ e
 ending-told (NoEnd x) (At p) e = never _ _ _ (sym e)
@@ -115,7 +115,7 @@ every-entry code is s r n i x y h =
     let b = reached (a .kind .layout) is s (r .consumed) n i (e .ends) (a .says) h in
     record {
       span = b .span;
-      shown = answers (λ l t. spanOf l (is ++ i ∷ []) t) code s (a .kind) (a .value) (a .is) (a .reads) ∙ b .shown;
+      is = answers (λ l t. spanOf l (is ++ i ∷ []) t) code s (a .kind) (a .value) (a .is) (a .reads) ∙ b .is;
       ordered = b .ordered;
       inside = b .inside;
     }
@@ -131,7 +131,7 @@ no-numbers : (code : ℕ) (s : List ℕ) (r : Span) → locateEntry code [] s �
 unfolding locateEntry spanOf
 no-numbers code s r x = let a = asked (λ l t. spanOf l [] t) code s r x in never r 6 [] (sym (a .says))
 
-pub values : Values
+pub values : ListValues
 values = record { levels-3 = levels-3; consumed-within = consumed-within; own-count = own-count; every-entry = every-entry; no-other = no-other; no-numbers = no-numbers }
 
 -- a part of the first q bytes is the same part of all
@@ -153,7 +153,7 @@ module _ (code : ℕ) (s : List ℕ) (r : Consumed) (x : readValue code s ≡ gi
   short = consumed-within code s r x .0
 
   -- a kind that refuses a rest has read all bytes
-  whole : a .kind .rest ≡ refused → Alone code s r
+  whole : a .kind .rest ≡ refused → ListAlone code s r
   whole e =
       let all : t ≡ s = take-all (r .consumed) s (a .done .all e) in
       let l = a .done .all e in
@@ -212,17 +212,17 @@ module _ (code : ℕ) (s : List ℕ) (r : Consumed) (x : readValue code s ≡ gi
           part-alone s (v .start) (r .consumed) (v .end) (b .0) (b .1) short
       go (refuses n vs) y = refl
 
-    counted : Alone code s r
+    counted : ListAlone code s r
     unfolding readValue
     counted = record { reads = follows (layoutOf code) (a .kind) (λ k. readAs k t) (a .is) ∙ reads-as; counts = counts; located = located; parts = parts }
 
-  alone : Alone code s r
+  alone : ListAlone code s r
   alone = go (a .kind .rest) refl where
-    go : (b : Rest) → a .kind .rest ≡ b → Alone code s r
+    go : (b : Rest) → a .kind .rest ≡ b → ListAlone code s r
     go handed-back e = counted e
     go refused e = whole e
 
-pub consumed-alone : ConsumedAlone
+pub consumed-alone : ListsAlone
 consumed-alone = alone
 
 pub claims : Claims

@@ -6,7 +6,7 @@ use native.Mathlib.Numerals.{sub-one}
 use native.Mathlib.Omega.{arith}
 use borrow.Author.Tests.{lt-ltb, le-ltb}
 use Rattle.numbers.specs.Numbers.{gives, refuses, andThen, mapped}
-use Rattle.layouts.specs.declared.Row.{Row}
+use Rattle.layouts.specs.declared.LayoutRow.{LayoutRow}
 use Rattle.layouts.specs.Layouts.{Layout}
 use Rattle.layouts.specs.Reading.{ListAt, listOf, entriesEnd, endOf}
 use Rattle.layouts.specs.Access.{numbers, childAt, below, findEntry, spanOf}
@@ -40,10 +40,10 @@ unfolding findEntry
 find-here l s p = refl
 
 -- only an entry above the lowest level has entries, and they are of the row below
-pub child-level : (row : Row) (i : ℕ) (s : List ℕ) (p q : ℕ) → childAt (rowLayout row) i s p ≡ gives q → 0 < row .levels
+pub child-level : (row : LayoutRow) (i : ℕ) (s : List ℕ) (p q : ℕ) → childAt (rowLayout row) i s p ≡ gives q → 0 < row .levels
 child-level row i s p q x = let a = among (rowLayout row) i s p q x in list-level row s p (a .list) (a .has)
 
-pub below-row : (row : Row) → 0 < row .levels → below (rowLayout row) ≡ rowLayout (rowBelow row)
+pub below-row : (row : LayoutRow) → 0 < row .levels → below (rowLayout row) ≡ rowLayout (rowBelow row)
 below-row row h = rw (layout-more row (omega arith))
 
 -- the numbers of a path, one at a time

@@ -7,32 +7,32 @@ use native.Mathlib.Omega.{arith}
 use Rattle.numbers.specs.Numbers.{Answer, gives, refuses, andThen}
 use Rattle.numbers.proofs.Firm.{never}
 use Rattle.numbers.proofs.Answers.{follows, stops}
-use Rattle.layouts.specs.declared.Row.{Row}
+use Rattle.layouts.specs.declared.LayoutRow.{LayoutRow}
 use Rattle.layouts.specs.Layouts.{bytes, entry, ListKind}
 use Rattle.layouts.specs.Reading.{reaching, ListAt, headOf, countAt, listOf, entriesEnd, endOf, consumedTo, readAs}
 use Rattle.layouts.specs.Rows.{counting, rowBelow, layoutIn, rowLayout}
 use Rattle.layouts.proofs.Within.{list-leaf}
 
 -- a row's entry: its head, and its list where it has one
-pub layout-zero : (row : Row) → row .levels ≡ 0 → rowLayout row ≡ bytes (row .h0)
+pub layout-zero : (row : LayoutRow) → row .levels ≡ 0 → rowLayout row ≡ bytes (row .h0)
 unfolding layoutIn
 layout-zero row e = rw e
 
-pub layout-more : (row : Row) → (row .levels ≡ 0 → ⊥) → rowLayout row ≡ entry (row .h0) (counting (row .w0)) (rowLayout (rowBelow row))
+pub layout-more : (row : LayoutRow) → (row .levels ≡ 0 → ⊥) → rowLayout row ≡ entry (row .h0) (counting (row .w0)) (rowLayout (rowBelow row))
 unfolding layoutIn
 layout-more row f = go (row .levels) refl where
   go : (k : ℕ) → row .levels ≡ k → layoutIn k row ≡ entry (row .h0) (counting (row .w0)) (layoutIn (k - 1) (rowBelow row))
   go zero e = absurd (f e)
   go (suc k) e = rw (sub-one (suc k))
 
-head-of : (row : Row) → headOf (rowLayout row) ≡ row .h0
+head-of : (row : LayoutRow) → headOf (rowLayout row) ≡ row .h0
 unfolding layoutIn
 head-of row = go (row .levels) where
   go : (k : ℕ) → headOf (layoutIn k row) ≡ row .h0
   go zero = refl
   go (suc k) = refl
 
-module _ (row : Row) (s : List ℕ) (p : ℕ) where
+module _ (row : LayoutRow) (s : List ℕ) (p : ℕ) where
   -- the list of an entry stands after its head
   pub list-none : row .levels ≡ 0 → listOf (rowLayout row) s p ≡ refuses 6 []
   list-none e = rw (layout-zero row e) (list-leaf (row .h0) s p)

@@ -8,6 +8,8 @@ use lib.ListN.{length, getD, take}
 use lib.Seq.{getD-take, length-take-le}
 use lib.Dec.{ltb, T}
 use borrow.Author.Tests.{ltb-true}
+use Rattle.numbers.specs.Bytes.{bigEndian, numberAt}
+use Rattle.numbers.proofs.Bytes.{digitsAt, number-at}
 use Rattle.numbers.specs.Numbers.{Answer, gives, refuses, andThen}
 use Rattle.numbers.proofs.Answers.{given, gave, follows, mapped-given}
 use Rattle.layouts.specs.Layouts.{Counting, c1, c2, to-end, Layout, bytes, entry}
@@ -39,18 +41,25 @@ counted-below (entry k c2 e) c = c
 counted-below (entry k to-end e) c = absurd c
 
 module _ (s t : List ℕ) (m : ℕ) (g : Agree m s t) where
+  -- a number in them is the same
+  number-local : (w p : ℕ) → p + w ≤ m → p + w ≤ length s → numberAt w p t ≡ numberAt w p s
+  number-local w p b l = sym (number-at w p t (omega (arith, g .long))) ∙ ap bigEndian (digits w p b) ∙ number-at w p s l where
+    digits : (w p : ℕ) → p + w ≤ m → digitsAt w p t ≡ digitsAt w p s
+    digits zero p b = refl
+    digits (suc w) p b = rw (g .same p (omega arith), digits w (p + 1) (omega arith))
+
   count-local : (w : Counting) (h p : ℕ) (x : ListAt) → T (hasCount w) → x .first ≤ m → countAt w h s p ≡ gives x → countAt w h t p ≡ gives x
   unfolding countAt
   count-local c1 h p x c l y =
       let a = reached (p + 1) s _ x y in
       let z : p + 1 ≡ x .first = ap (λ x. x .first) (a .1) in
       let long = g .long in
-      rw (g .same p (omega arith)) (reaches (p + 1) t _ (omega arith) ∙ ap gives (a .1))
+      rw (number-local 1 p (omega arith) (a .0)) (reaches (p + 1) t _ (omega arith) ∙ ap gives (a .1))
   count-local c2 h p x c l y =
       let a = reached (p + 2) s _ x y in
       let z : p + 2 ≡ x .first = ap (λ x. x .first) (a .1) in
       let long = g .long in
-      rw (g .same p (omega arith), g .same (p + 1) (omega arith)) (reaches (p + 2) t _ (omega arith) ∙ ap gives (a .1))
+      rw (number-local 2 p (omega arith) (a .0)) (reaches (p + 2) t _ (omega arith) ∙ ap gives (a .1))
   count-local to-end h p x c l y = absurd c
 
   pub list-local : (l : Layout) (p : ℕ) (x : ListAt) → T (allCounted l) → x .first ≤ m → listOf l s p ≡ gives x → listOf l t p ≡ gives x

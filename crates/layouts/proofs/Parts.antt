@@ -59,7 +59,7 @@ module _ (l : Layout) (s : List ℕ) (m : ListAt) (q : ℕ) (has : listOf l s 0 
         parts = map (λ e. partOf (gives e) s) (r .spans .each);
         are = mapped-given _ _ (r .spans) (follows _ m _ has ∙ r .are);
         many = length-map (r .spans .each) _ ∙ spans-many f (m .many) (m .first) (r .spans) (r .are);
-        numbered = λ i. nth-map _ (r .spans .each) i ∙ ap (mapped _) (numbered i);
+        by-number = λ i. nth-map _ (r .spans .each) i ∙ ap (mapped _) (numbered i);
         all =
             ap (λ t. take (m .first) s ++ t) (spans-all f s (end-within (below l) s) (m .many) (m .first) (r .spans) (r .are)) ∙
             sym (take-add (m .first) (r .spans .end - m .first) s) ∙ ap (λ n. take n s) sum;

@@ -84,7 +84,7 @@ reached l is s q n i x y h =
     let found = find-last l is s i 0 ∙ follows (findEntry l is s 0) f (under i s) (g .is) ∙ follows _ (c .start) _ there in
     record {
       span = record { start = c .start; end = d .stop };
-      shown = span-last l is s i ∙ follows (findEntry l (is ++ i ∷ []) s 0) _ (ending s) found ∙ mapped-given _ _ (d .stop) (d .reads);
+      is = span-last l is s i ∙ follows (findEntry l (is ++ i ∷ []) s 0) _ (ending s) found ∙ mapped-given _ _ (d .stop) (d .reads);
       ordered = w .0;
       inside = omega arith;
     }

@@ -7,7 +7,7 @@ use lib.ListN.{length, take}
 use Rattle.numbers.specs.Numbers.{Answer, gives, mapped}
 use Rattle.numbers.specs.Firmness.{Firm}
 use Rattle.numbers.specs.Parts.{behind}
-use Rattle.layouts.specs.declared.Row.{Row}
+use Rattle.layouts.specs.declared.LayoutRow.{LayoutRow}
 use Rattle.layouts.specs.declared.Path.{Path}
 use Rattle.layouts.specs.Layouts.{Counting, to-end, Layout, bytes, entry, ListKind, layoutOf, isList}
 use Rattle.layouts.specs.Rows.{rowLayout}
@@ -16,9 +16,9 @@ use Rattle.layouts.specs.Access.{numbersOf, Span, spanOf, nthOf, partsIn
 
 -- each public call by its name: any two answers that its contract allows are one. A part is its bytes and its place.
 pub record Firmness : Type 0 where
-  pub list-at : (row : Row) (s : List ℕ) (at : ℕ) → Firm (λ r. listingOf r ≡ listOf (rowLayout row) s at)
-  pub read-list : (row : Row) (n : ℕ) (s : List ℕ) (at : ℕ) → Firm (λ r. endingOf r ≡ entriesEnd (endOf (rowLayout row) s) n at)
-  pub read-entry : (row : Row) (s : List ℕ) (at : ℕ) → Firm (λ r. endingOf r ≡ endOf (rowLayout row) s at)
+  pub list-at : (row : LayoutRow) (s : List ℕ) (at : ℕ) → Firm (λ r. listingOf r ≡ listOf (rowLayout row) s at)
+  pub read-list : (row : LayoutRow) (n : ℕ) (s : List ℕ) (at : ℕ) → Firm (λ r. endingOf r ≡ entriesEnd (endOf (rowLayout row) s) n at)
+  pub read-entry : (row : LayoutRow) (s : List ℕ) (at : ℕ) → Firm (λ r. endingOf r ≡ endOf (rowLayout row) s at)
   pub is-list : (code : ℕ) → Firm (λ r. r ≡ isList code)
   pub read-value : (code : ℕ) (s : List ℕ) → Firm (λ r. readingOf r ≡ readValue code s)
   pub locate : (code : ℕ) (path : Path) (s : List ℕ) → Firm (λ r. locatedOf r ≡ locateEntry code (numbersOf path) s)
@@ -34,7 +34,7 @@ levelsOf (entry n w e) = suc (levelsOf e)
 -- an entry that is found lies in the q bytes consumed
 pub record Shown (x : Answer Span) (q : ℕ) : Type 0 where
   pub span : Span
-  pub shown : x ≡ gives span
+  pub is : x ≡ gives span
   pub ordered : span .start ≤ span .end
   pub inside : span .end ≤ q
 
@@ -45,7 +45,7 @@ pub record Below (x : Answer ℕ) (i : ℕ) : Type 0 where
   pub less : i < many
 
 -- what holds of every value of every list kind
-pub record Values : Type 0 where
+pub record ListValues : Type 0 where
   pub levels-3 : (code : ℕ) (k : ListKind) → layoutOf code ≡ gives k → levelsOf (k .layout) ≤ 3
   -- consumed never exceeds the length, and with the rest it is the length
   pub consumed-within : (code : ℕ) (s : List ℕ) (r : Consumed) → readValue code s ≡ gives r → (r .consumed ≤ length s) × (r .consumed + r .rest ≡ length s)
@@ -59,14 +59,14 @@ pub record Values : Type 0 where
   pub no-numbers : (code : ℕ) (s : List ℕ) (r : Span) → locateEntry code [] s ≡ gives r → ⊥
 
 -- what is read depends on the consumed bytes alone: they read the same, with no rest, and so does every list and every entry in them
-pub record Alone (code : ℕ) (s : List ℕ) (r : Consumed) : Type 0 where
+pub record ListAlone (code : ℕ) (s : List ℕ) (r : Consumed) : Type 0 where
   pub reads : readValue code (take (r .consumed) s) ≡ gives (record { consumed = r .consumed; rest = 0; entries = r .entries })
   pub counts : (is : List ℕ) → countEntries code is (take (r .consumed) s) ≡ countEntries code is s
   pub located : (is : List ℕ) → locateEntry code is (take (r .consumed) s) ≡ locateEntry code is s
   pub parts : (is : List ℕ) → partOf (locateEntry code is (take (r .consumed) s)) (take (r .consumed) s) ≡ partOf (locateEntry code is s) s
 
-abbrev pub ConsumedAlone : Type 0
-ConsumedAlone = (code : ℕ) (s : List ℕ) (r : Consumed) → readValue code s ≡ gives r → Alone code s r
+abbrev pub ListsAlone : Type 0
+ListsAlone = (code : ℕ) (s : List ℕ) (r : Consumed) → readValue code s ≡ gives r → ListAlone code s r
 
 -- of any layout, whether or not it is in the table: the parts of the entries of a value's own list, as a list
 pub record Parts (l : Layout) (s : List ℕ) (m : ListAt) (q : ℕ) : Type 0 where
@@ -74,7 +74,7 @@ pub record Parts (l : Layout) (s : List ℕ) (m : ListAt) (q : ℕ) : Type 0 whe
   pub are : partsIn l s ≡ gives parts
   pub many : length parts ≡ m .many
   -- part number i is the one that asking for entry i gives; beyond the last, both refuse
-  pub numbered : (i : ℕ) → nthOf parts i ≡ mapped (λ e. partOf (gives e) s) (spanOf l (i ∷ []) s)
+  pub by-number : (i : ℕ) → nthOf parts i ≡ mapped (λ e. partOf (gives e) s) (spanOf l (i ∷ []) s)
   -- joined, after what stands in front of the first one, they are the bytes consumed
   pub all : take (m .first) s ++ flatten parts ≡ take q s
 
@@ -90,7 +90,7 @@ pub record Plain : Type 0 where
 -- everything that is claimed of this crate
 pub record Claims : Type 0 where
   pub firmness : Firmness
-  pub values : Values
-  pub consumed-alone : ConsumedAlone
+  pub values : ListValues
+  pub consumed-alone : ListsAlone
   pub parts-of-entries : PartsOfEntries
   pub plain : Plain

@@ -1,14 +1,15 @@
 -- Reading a value of a counted layout: "A list is read entry by entry, and an entry ends in the list of the level below" (document 01, "The 21 kinds").
 use mathlib.Core.Bool.{cond}
 use mathlib.Core.List.{List, []}
-use Prim.Native.Nat.{ℕ, zero, suc, _+_, _-_, _*_, _/_}
+use Prim.Native.Nat.{ℕ, zero, suc, _+_, _-_, _/_}
 use lib.Dec.{ltb, leb}
-use lib.ListN.{length, getD}
+use lib.ListN.{length}
 use Rattle.numbers.specs.Numbers.{Answer, gives, refuses, told, andThen}
+use Rattle.numbers.specs.Bytes.{numberAt}
 use Rattle.layouts.specs.declared.Listing.{Listing}
 use Rattle.layouts.specs.declared.Listing.the-variants.{Of, Refused as NoList}
-use Rattle.layouts.specs.declared.End.{End}
-use Rattle.layouts.specs.declared.End.the-variants.{At, Refused as NoEnd}
+use Rattle.layouts.specs.declared.Ending.{Ending}
+use Rattle.layouts.specs.declared.Ending.the-variants.{At, Refused as NoEnd}
 use Rattle.layouts.specs.declared.Reading.{Reading}
 use Rattle.layouts.specs.declared.Reading.the-variants.{Value, Refused}
 use Rattle.layouts.specs.Layouts.{Counting, c1, c2, to-end, Layout, bytes, entry, Rest, handed-back, refused, ListKind, layoutOf}
@@ -28,8 +29,8 @@ headOf (entry n w e) = n
 
 -- the list at p. To the end there are as many entries, of h bytes each, as wholly fit.
 unfoldable pub countAt : Counting → ℕ → List ℕ → ℕ → Answer ListAt
-countAt c1 h s p = reaching (p + 1) s (record { many = getD s p 0; first = p + 1 })
-countAt c2 h s p = reaching (p + 2) s (record { many = getD s p 0 * 256 + getD s (p + 1) 0; first = p + 2 })
+countAt c1 h s p = reaching (p + 1) s (record { many = numberAt 1 p s; first = p + 1 })
+countAt c2 h s p = reaching (p + 2) s (record { many = numberAt 2 p s; first = p + 2 })
 countAt to-end h s p = gives (record { many = (length s - p) / h; first = p })
 
 -- the list of the entry that starts at p, behind the entry's head; an entry that has none has "no entry" to ask for: 6
@@ -58,7 +59,7 @@ abbrev pub listingOf : Listing → Answer ListAt
 listingOf (Of n p) = gives (record { many = n; first = p })
 listingOf (NoList r) = told r
 
-abbrev pub endingOf : End → Answer ℕ
+abbrev pub endingOf : Ending → Answer ℕ
 endingOf (At p) = gives p
 endingOf (NoEnd r) = told r
 

@@ -1,11 +1,11 @@
 // An entry by its numbers.
 use crate::Counted;
-use crate::End;
+use crate::Ending;
+use crate::LayoutRow;
 use crate::Listing;
 use crate::Located;
 use crate::Path;
 use crate::Reading;
-use crate::Row;
 use crate::list_at;
 use crate::lists::read_row;
 use crate::read_entry;
@@ -20,12 +20,12 @@ ghost use Rattle.layouts.specs.PrivateRows.{kindWith, levelTold};
 
 // An entry that was found: its row, and where it starts.
 pub(crate) enum Level {
-    Of { row: Row, at: usize },
+    Of { row: LayoutRow, at: usize },
     Refused(Refusal),
 }
 
 // Where entry i of the list of the entry of this row that starts at p starts.
-fn child(row: Row, i: usize, s: &[u8], p: usize) -> End
+fn child(row: LayoutRow, i: usize, s: &[u8], p: usize) -> Ending
     ensures { λ r. ⌜ endingOf r ≡ childAt (rowLayout row) i (now (s .entry)) p ⌝ }
 {
     match list_at(row, s, p) {
@@ -33,14 +33,14 @@ fn child(row: Row, i: usize, s: &[u8], p: usize) -> End
             if i < n {
                 return read_list(row_below(row), i, s, first);
             }
-            End::Refused(Refusal::NoEntry)
+            Ending::Refused(Refusal::NoEntry)
         }
-        Listing::Refused(r) => End::Refused(r),
+        Listing::Refused(r) => Ending::Refused(r),
     }
 }
 
 // The entry with these numbers. Each turn takes one number and goes one level down.
-fn find_entry(value: Row, path: Path, s: &[u8]) -> Level
+fn find_entry(value: LayoutRow, path: Path, s: &[u8]) -> Level
     ensures { λ r. ⌜ levelTold r ≡ findEntry (rowLayout value) (numbersOf path) (now (s .entry)) 0 ⌝ }
 {
     let mut row = value;
@@ -51,10 +51,10 @@ fn find_entry(value: Row, path: Path, s: &[u8]) -> Level
     let mut i2 = path.i2;
     while 0 < left {
         match child(row, i0, s, at) {
-            End::At(q) => {
+            Ending::At(q) => {
                 at = q;
             }
-            End::Refused(r) => {
+            Ending::Refused(r) => {
                 return Level::Refused(r);
             }
         }
@@ -68,7 +68,7 @@ fn find_entry(value: Row, path: Path, s: &[u8]) -> Level
 }
 
 // Where the entry with these numbers lies.
-fn span_of(row: Row, path: Path, s: &[u8]) -> Located
+fn span_of(row: LayoutRow, path: Path, s: &[u8]) -> Located
     ensures { λ r. ⌜ locatedOf r ≡ spanOf (rowLayout row) (numbersOf path) (now (s .entry)) ⌝ }
 {
     if path.depth == 0 {
@@ -76,15 +76,15 @@ fn span_of(row: Row, path: Path, s: &[u8]) -> Located
     }
     match find_entry(row, path, s) {
         Level::Of { row: found, at } => match read_entry(found, s, at) {
-            End::At(end) => Located::Entry { start: at, end },
-            End::Refused(r) => Located::Refused(r),
+            Ending::At(end) => Located::Entry { start: at, end },
+            Ending::Refused(r) => Located::Refused(r),
         },
         Level::Refused(r) => Located::Refused(r),
     }
 }
 
 // How many entries the list of the entry with these numbers has.
-fn length_at(row: Row, path: Path, s: &[u8]) -> Counted
+fn length_at(row: LayoutRow, path: Path, s: &[u8]) -> Counted
     ensures { λ r. ⌜ countedOf r ≡ lengthAt (rowLayout row) (numbersOf path) (now (s .entry)) ⌝ }
 {
     match find_entry(row, path, s) {
@@ -97,7 +97,7 @@ fn length_at(row: Row, path: Path, s: &[u8]) -> Counted
 }
 
 // The same two, of a value that has to read whole first.
-pub(crate) fn locate_in(row: Row, strict: bool, path: Path, s: &[u8]) -> Located
+pub(crate) fn locate_in(row: LayoutRow, strict: bool, path: Path, s: &[u8]) -> Located
     ensures { λ r. ⌜ locatedOf r ≡ ofValue (λ l t. spanOf l (numbersOf path) t) (kindWith (rowLayout row) strict) (now (s .entry)) ⌝ }
 {
     match read_row(row, strict, s) {
@@ -110,7 +110,7 @@ pub(crate) fn locate_in(row: Row, strict: bool, path: Path, s: &[u8]) -> Located
     }
 }
 
-pub(crate) fn count_in(row: Row, strict: bool, path: Path, s: &[u8]) -> Counted
+pub(crate) fn count_in(row: LayoutRow, strict: bool, path: Path, s: &[u8]) -> Counted
     ensures { λ r. ⌜ countedOf r ≡ ofValue (λ l t. lengthAt l (numbersOf path) t) (kindWith (rowLayout row) strict) (now (s .entry)) ⌝ }
 {
     match read_row(row, strict, s) {

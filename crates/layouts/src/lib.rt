@@ -5,6 +5,7 @@ mod lists;
 mod rows;
 
 use numbers::Refusal;
+use numbers::wide;
 use rows::ListKindRow;
 ghost use mathlib.Core.Path.{_≡_};
 ghost use Rattle.numbers.specs.Parts.{behind};
@@ -15,7 +16,7 @@ ghost use Rattle.layouts.specs.Access.{numbersOf, locatedOf, locateEntry
 
 // A layout as a row of numbers: an entry of h0 bytes and then, where it has levels of lists, a list whose count has w0 bytes: 1 or 2, or 0 for a list that goes
 // to the end. An entry of that list is h1 bytes and then, where levels are left, a list whose count has w1 bytes, and so on. A value is an entry too.
-pub struct Row {
+pub struct LayoutRow {
     pub levels: u8,
     pub h0: u8,
     pub w0: u8,
@@ -33,7 +34,7 @@ pub enum Listing {
 }
 
 // Where a part ends.
-pub enum End {
+pub enum Ending {
     At(usize),
     Refused(Refusal),
 }
@@ -69,48 +70,48 @@ pub enum Counted {
 }
 
 // The list of the entry of this row that starts at `at`: it stands after the entry's head. An entry of the lowest level has none.
-pub fn list_at(row: Row, s: &[u8], at: usize) -> Listing
+pub fn list_at(row: LayoutRow, s: &[u8], at: usize) -> Listing
     ensures { λ r. ⌜ listingOf r ≡ listOf (rowLayout row) (now (s .entry)) at ⌝ }
 {
     if row.levels == 0 {
         return Listing::Refused(Refusal::NoEntry);
     }
-    match lists::reach(rows::wide(row.h0), s, at) {
-        End::At(q) => lists::count_at(row.w0, rows::wide(row.h1), s, q),
-        End::Refused(r) => Listing::Refused(r),
+    match lists::reach(wide(row.h0), s, at) {
+        Ending::At(q) => lists::count_at(row.w0, wide(row.h1), s, q),
+        Ending::Refused(r) => Listing::Refused(r),
     }
 }
 
 // Where n entries of this row end, the first of which starts at `at`. It goes over the entries in a loop, so that the stack grows with the levels alone.
-pub fn read_list(row: Row, n: usize, s: &[u8], at: usize) -> End
+pub fn read_list(row: LayoutRow, n: usize, s: &[u8], at: usize) -> Ending
     ensures { λ r. ⌜ endingOf r ≡ entriesEnd (endOf (rowLayout row) (now (s .entry))) n at ⌝ }
 {
     let mut p = at;
     let mut i = 0;
     while i < n {
         match read_entry(row, s, p) {
-            End::At(q) => {
+            Ending::At(q) => {
                 p = q;
             }
-            End::Refused(r) => {
-                return End::Refused(r);
+            Ending::Refused(r) => {
+                return Ending::Refused(r);
             }
         }
         i += 1;
     }
-    End::At(p)
+    Ending::At(p)
 }
 
 // Where the entry of this row that starts at `at` ends: in its list, if it has one.
-pub fn read_entry(row: Row, s: &[u8], at: usize) -> End
+pub fn read_entry(row: LayoutRow, s: &[u8], at: usize) -> Ending
     ensures { λ r. ⌜ endingOf r ≡ endOf (rowLayout row) (now (s .entry)) at ⌝ }
 {
     if row.levels == 0 {
-        return lists::reach(rows::wide(row.h0), s, at);
+        return lists::reach(wide(row.h0), s, at);
     }
     match list_at(row, s, at) {
         Listing::Of { n, first } => read_list(rows::row_below(row), n, s, first),
-        Listing::Refused(r) => End::Refused(r),
+        Listing::Refused(r) => Ending::Refused(r),
     }
 }
 

@@ -1,13 +1,14 @@
 // Where a list stands, and a value that is read whole.
-use crate::End;
+use crate::Ending;
+use crate::LayoutRow;
 use crate::Listing;
 use crate::Reading;
-use crate::Row;
 use crate::list_at;
 use crate::read_list;
 use crate::rows::row_below;
-use crate::rows::wide;
 use numbers::Refusal;
+use numbers::be16;
+use numbers::wide;
 ghost use mathlib.Core.Path.{_≡_};
 ghost use Prim.Native.Nat.{_+_, _≤_};
 ghost use lib.ListN.{length};
@@ -16,16 +17,16 @@ ghost use Rattle.layouts.specs.Rows.{counting, rowLayout};
 ghost use Rattle.layouts.specs.PrivateRows.{restWith, kindWith};
 
 // Where the n bytes at `at` end, if they are there.
-pub(crate) fn reach(n: usize, s: &[u8], at: usize) -> End
+pub(crate) fn reach(n: usize, s: &[u8], at: usize) -> Ending
     ensures { λ r. ⌜ endingOf r ≡ reaching (at + n) (now (s .entry)) (at + n) ⌝ }
 {
     if s.len() < at {
-        return End::Refused(Refusal::CutShort);
+        return Ending::Refused(Refusal::CutShort);
     }
     if s.len() - at < n {
-        return End::Refused(Refusal::CutShort);
+        return Ending::Refused(Refusal::CutShort);
     }
-    End::At(at + n)
+    Ending::At(at + n)
 }
 
 // The list at `at` whose count has w bytes, of entries with heads of h bytes.
@@ -55,19 +56,19 @@ pub(crate) fn count_at(w: u8, h: usize, s: &[u8], at: usize) -> Listing
         return Listing::Refused(Refusal::CutShort);
     }
     Listing::Of {
-        n: wide(s[at]) * 256 + wide(s[at + 1]),
+        n: be16(s[at], s[at + 1]),
         first: at + 2,
     }
 }
 
 // The value of this row at the start of s. Its count is read once, for the answer and for its entries.
-pub(crate) fn read_row(row: Row, strict: bool, s: &[u8]) -> Reading
+pub(crate) fn read_row(row: LayoutRow, strict: bool, s: &[u8]) -> Reading
     ensures { λ r. ⌜ readingOf r ≡ readAs (kindWith (rowLayout row) strict) (now (s .entry)) ⌝ }
 {
     match list_at(row, s, 0) {
         Listing::Of { n, first } => match read_list(row_below(row), n, s, first) {
-            End::At(end) => consumed_to(strict, end, n, s),
-            End::Refused(r) => Reading::Refused(r),
+            Ending::At(end) => consumed_to(strict, end, n, s),
+            Ending::Refused(r) => Reading::Refused(r),
         },
         Listing::Refused(r) => Reading::Refused(r),
     }

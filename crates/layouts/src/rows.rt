@@ -1,5 +1,5 @@
 // The table of list kinds.
-use crate::Row;
+use crate::LayoutRow;
 use numbers::Refusal;
 ghost use mathlib.Core.Path.{_≡_};
 ghost use Prim.Native.Nat.{_<_};
@@ -9,16 +9,16 @@ ghost use Rattle.layouts.specs.PrivateRows.{rowTold};
 
 // A row of the table, and whether bytes after its layout are refused.
 pub(crate) enum ListKindRow {
-    List(Row, bool),
+    List(LayoutRow, bool),
     Refused(Refusal),
 }
 
 // The row of the entries of its list.
-pub(crate) fn row_below(row: Row) -> Row
+pub(crate) fn row_below(row: LayoutRow) -> LayoutRow
     requires { ⌜ 0 < row .levels ⌝ }
     ensures { λ r. ⌜ r ≡ rowBelow row ⌝ }
 {
-    Row {
+    LayoutRow {
         levels: row.levels - 1,
         h0: row.h1,
         w0: row.w1,
@@ -31,10 +31,10 @@ pub(crate) fn row_below(row: Row) -> Row
 }
 
 // The rows of layouts with one, two and three levels of lists, written from the outside to the inside.
-fn one(h0: u8, w0: u8, h1: u8) -> Row
+fn one(h0: u8, w0: u8, h1: u8) -> LayoutRow
     ensures { λ r. ⌜ rowLayout r ≡ entry h0 (counting w0) (bytes h1) ⌝ }
 {
-    Row {
+    LayoutRow {
         levels: 1,
         h0,
         w0,
@@ -46,10 +46,10 @@ fn one(h0: u8, w0: u8, h1: u8) -> Row
     }
 }
 
-fn two(h0: u8, w0: u8, h1: u8, w1: u8, h2: u8) -> Row
+fn two(h0: u8, w0: u8, h1: u8, w1: u8, h2: u8) -> LayoutRow
     ensures { λ r. ⌜ rowLayout r ≡ entry h0 (counting w0) (entry h1 (counting w1) (bytes h2)) ⌝ }
 {
-    Row {
+    LayoutRow {
         levels: 2,
         h0,
         w0,
@@ -61,10 +61,10 @@ fn two(h0: u8, w0: u8, h1: u8, w1: u8, h2: u8) -> Row
     }
 }
 
-fn three(h0: u8, w0: u8, h1: u8, w1: u8, h2: u8, w2: u8, h3: u8) -> Row
+fn three(h0: u8, w0: u8, h1: u8, w1: u8, h2: u8, w2: u8, h3: u8) -> LayoutRow
     ensures { λ r. ⌜ rowLayout r ≡ entry h0 (counting w0) (entry h1 (counting w1) (entry h2 (counting w2) (bytes h3))) ⌝ }
 {
-    Row {
+    LayoutRow {
         levels: 3,
         h0,
         w0,
@@ -101,10 +101,4 @@ pub(crate) fn row_of(code: u8) -> ListKindRow
         30 => ListKindRow::List(three(0, 1, 6, 2, 6, 2, 6), true),
         _ => ListKindRow::Refused(Refusal::UnknownKind),
     }
-}
-
-pub(crate) fn wide(x: u8) -> usize
-    ensures { λ r. ⌜ (r ≡ x) × (r < 256) ⌝ }
-{
-    x as usize
 }

@@ -23,7 +23,7 @@ use Rattle.utf8.specs.Utf8.{isUtf8}
 use Rattle.texts.specs.Texts.{TextKind, string, textKind, radio, isText}
 use Rattle.texts.specs.Reading.{textSpan, radioList, Laid, textIn, allValid, wholeOf, consumedIn, readText}
 use Rattle.texts.specs.Access.{ofText, radioIn, radioCount, locateRadio, countRadios, locateText, locateRadioText}
-use Rattle.texts.specs.Claims.{Firmness, Text, Values, Alone, ConsumedAlone, Claims}
+use Rattle.texts.specs.Claims.{Firmness, Text, TextValues, TextAlone, TextsAlone, Claims}
 use Rattle.texts.proofs.Laws.{Among}
 use Rattle.texts.proofs.Whole.{Parts, parts, valid, list-within, each-within}
 use Rattle.texts.proofs.Asked.{answers, text-among, radio-among, one-radio, Inside, text-inside}
@@ -199,7 +199,7 @@ module _ (code : ℕ) (s : List ℕ) (r : Consumed) (a : Read code s r) where
       let e = mapped-given (textSpan l s) _ _ (n .is) in
       let b = inside _ e in
       record {
-        shown = record { span = textSpan l s (n .one); shown = is ∙ e; ordered = b .0; inside = b .1 };
+        lies = record { span = textSpan l s (n .one); is = is ∙ e; ordered = b .0; inside = b .1 };
         valid = ap (λ x. isUtf8 (partOf x s)) (is ∙ e) ∙ valid-number l s rs i (n .one) good (n .is);
       }
 
@@ -255,7 +255,7 @@ every-radio code s r i x l =
     let z = radios code s r a in
     let n = some-number (a .value .radios .each) i (omega arith) in
     let b = radio-lies code s r a (i ∷ []) (n .one) (n .is) in
-    record { span = n .one; shown = says code s r a (λ k v. radioIn (i ∷ []) v) ∙ n .is; ordered = b .0; inside = b .1 }
+    record { span = n .one; is = says code s r a (λ k v. radioIn (i ∷ []) v) ∙ n .is; ordered = b .0; inside = b .1 }
 
 every-radio-text : (s : List ℕ) (r : Consumed) (i : ℕ) → readText 0xD4 s ≡ gives r → i < r .entries → Text (locateRadioText i s) s (r .consumed)
 every-radio-text s r i x l =
@@ -334,7 +334,7 @@ module _ (code : ℕ) (s : List ℕ) (r : Consumed) (x : readText code s ≡ giv
   part : (x y z : Answer Span) → x ≡ z → y ≡ z → ((p : Span) → z ≡ gives p → Inside p (r .consumed)) → partOf x t ≡ partOf y s
   part x y z d e inside = ap (λ y. partOf y t) d ∙ part-same z s (r .consumed) fits inside ∙ ap (λ y. partOf y s) (sym e)
 
-  alone : Alone code s r
+  alone : TextAlone code s r
   unfolding readText locateRadio countRadios
   alone =
       let w = fits in
@@ -353,10 +353,10 @@ module _ (code : ℕ) (s : List ℕ) (r : Consumed) (x : readText code s ≡ giv
         radio-text-parts = λ c i. part _ _ _ (radio-text c i) (radio-text-asked code s r a c i) (radio-text-lies code s r a i);
       }
 
-pub consumed-alone : ConsumedAlone
+pub consumed-alone : TextsAlone
 consumed-alone = alone
 
-pub values : Values
+pub values : TextValues
 values = record {
   other-codes = other-codes;
   consumed-within = consumed-within;

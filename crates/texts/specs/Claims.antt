@@ -34,11 +34,11 @@ pub record Firmness : Type 0 where
 
 -- a text that is found lies in the q bytes consumed, and is valid
 pub record Text (x : Answer Span) (s : List ℕ) (q : ℕ) : Type 0 where
-  pub shown : Shown x q
+  pub lies : Shown x q
   pub valid : isUtf8 (partOf x s) ≡ true
 
 -- what holds of every value of every kind that holds text
-pub record Values : Type 0 where
+pub record TextValues : Type 0 where
   -- 16 for every other code
   pub other-codes : (code : ℕ) (s : List ℕ) → isText code ≡ false →
       (readText code s ≡ refuses 16 []) × ((is : List ℕ) → locateRadio code is s ≡ refuses 16 []) × ((is : List ℕ) → countRadios code is s ≡ refuses 16 [])
@@ -63,7 +63,7 @@ pub record Values : Type 0 where
   pub beyond : (code : ℕ) (s : List ℕ) (k : TextKind) (r : Consumed) (i : ℕ) → textKind code ≡ gives k → readText code s ≡ gives r → k .many ≤ i → locateText code i s ≡ refuses 6 []
 
 -- what is read depends on the consumed bytes alone: they read the same, with no rest, and so does every radio and every text in them
-pub record Alone (code : ℕ) (s : List ℕ) (r : Consumed) : Type 0 where
+pub record TextAlone (code : ℕ) (s : List ℕ) (r : Consumed) : Type 0 where
   pub reads : readText code (take (r .consumed) s) ≡ gives (record { consumed = r .consumed; rest = 0; entries = r .entries })
   pub counts : (is : List ℕ) → countRadios code is (take (r .consumed) s) ≡ countRadios code is s
   pub located : (is : List ℕ) → locateRadio code is (take (r .consumed) s) ≡ locateRadio code is s
@@ -73,11 +73,11 @@ pub record Alone (code : ℕ) (s : List ℕ) (r : Consumed) : Type 0 where
   pub radio-texts : code ≡ 0xD4 → (i : ℕ) → locateRadioText i (take (r .consumed) s) ≡ locateRadioText i s
   pub radio-text-parts : code ≡ 0xD4 → (i : ℕ) → partOf (locateRadioText i (take (r .consumed) s)) (take (r .consumed) s) ≡ partOf (locateRadioText i s) s
 
-abbrev pub ConsumedAlone : Type 0
-ConsumedAlone = (code : ℕ) (s : List ℕ) (r : Consumed) → readText code s ≡ gives r → Alone code s r
+abbrev pub TextsAlone : Type 0
+TextsAlone = (code : ℕ) (s : List ℕ) (r : Consumed) → readText code s ≡ gives r → TextAlone code s r
 
 -- everything that is claimed of this crate
 pub record Claims : Type 0 where
   pub firmness : Firmness
-  pub values : Values
-  pub consumed-alone : ConsumedAlone
+  pub values : TextValues
+  pub consumed-alone : TextsAlone

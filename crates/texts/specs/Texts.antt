@@ -12,8 +12,8 @@ pub record TextKind : Type 0 where
   pub piece : Layout
   pub radios : Bool
 
-abbrev kind : ℕ → Layout → Bool → TextKind
-kind n l r = record { many = n; piece = l; radios = r }
+abbrev withPieces : ℕ → Layout → Bool → TextKind
+withPieces n l r = record { many = n; piece = l; radios = r }
 
 -- a string with a one-byte length
 abbrev pub string : Layout
@@ -23,9 +23,9 @@ string = c1-of (bytes 1)
 -- length, then c1 of a 6-byte radio id and one such string"; 16 for any other code
 unfoldable pub textKind : ℕ → Answer TextKind
 textKind code =
-    cond (eqb code 21) (gives (kind 3 (bytes 64) false))
-    (cond (eqb code 22) (gives (kind 1 (to-end-of (bytes 1)) false))
-    (cond (eqb code 0xD4) (gives (kind 3 string true))
+    cond (eqb code 21) (gives (withPieces 3 (bytes 64) false))
+    (cond (eqb code 22) (gives (withPieces 1 (to-end-of (bytes 1)) false))
+    (cond (eqb code 0xD4) (gives (withPieces 3 string true))
     (refuses 16 [])))
 
 abbrev pub radio : Layout

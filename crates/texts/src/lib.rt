@@ -1,4 +1,4 @@
-// Values that hold text, names and addresses of devices: the pieces that a text stands in, each text UTF-8, and a text and a radio asked for by its number.
+// TextValues that hold text, names and addresses of devices: the pieces that a text stands in, each text UTF-8, and a text and a radio asked for by its number.
 mod access;
 mod pieces;
 mod reading;

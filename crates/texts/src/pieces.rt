@@ -1,10 +1,11 @@
 // The text of an entry, and entries one after the other.
-use layouts::End;
+use layouts::Ending;
+use layouts::LayoutRow;
 use layouts::Located;
-use layouts::Row;
 use layouts::read_entry;
 use layouts::read_list;
 use numbers::Refusal;
+use numbers::wide;
 use utf8::is_utf8;
 ghost use mathlib.Core.Path.{_≡_};
 ghost use Prim.Native.Nat.{_≤_};
@@ -50,7 +51,7 @@ fn count_size(w: u8) -> usize
 }
 
 // The text of the entry of this row that lies from `start` to `end`.
-fn text_span(row: Row, s: &[u8], start: usize, end: usize) -> TextAt
+fn text_span(row: LayoutRow, s: &[u8], start: usize, end: usize) -> TextAt
     requires { ⌜ (start ≤ end) × (end ≤ length (now s)) ⌝ }
     ensures { λ r. ⌜ textAt r ≡ textSpan (rowLayout row) (now (s .entry)) (record { start = start; end = end }) ⌝ }
 {
@@ -68,7 +69,7 @@ fn text_span(row: Row, s: &[u8], start: usize, end: usize) -> TextAt
 }
 
 // The text of an entry that was located.
-pub(crate) fn text_of(row: Row, located: Located, s: &[u8]) -> Located
+pub(crate) fn text_of(row: LayoutRow, located: Located, s: &[u8]) -> Located
     requires { ⌜ InValue (locatedOf located) (now s) ⌝ }
     ensures { λ r. ⌜ locatedOf r ≡ mapped (textSpan (rowLayout row) (now (s .entry))) (locatedOf located) ⌝ }
 {
@@ -85,14 +86,14 @@ pub(crate) fn text_of(row: Row, located: Located, s: &[u8]) -> Located
 }
 
 // Whether the texts of n entries that are there, the first of which starts at `at`, are UTF-8.
-pub(crate) fn all_valid(row: Row, n: usize, s: &[u8], at: usize) -> bool
+pub(crate) fn all_valid(row: LayoutRow, n: usize, s: &[u8], at: usize) -> bool
     ensures { λ r. ⌜ r ≡ validIn (rowLayout row) (now (s .entry)) (spansFrom (endOf (rowLayout row) (now (s .entry))) n at) ⌝ }
 {
     let mut p = at;
     let mut i = 0;
     while i < n {
         match read_entry(row, s, p) {
-            End::At(q) => {
+            Ending::At(q) => {
                 let text = text_span(row, s, p, q);
                 let start = text.start;
                 let end = text.end;
@@ -101,7 +102,7 @@ pub(crate) fn all_valid(row: Row, n: usize, s: &[u8], at: usize) -> bool
                 }
                 p = q;
             }
-            End::Refused(_) => {
+            Ending::Refused(_) => {
                 return false;
             }
         }
@@ -111,23 +112,17 @@ pub(crate) fn all_valid(row: Row, n: usize, s: &[u8], at: usize) -> bool
 }
 
 // Entry i of n, the first of which starts at `at`.
-pub(crate) fn nth(row: Row, n: usize, i: usize, s: &[u8], at: usize) -> Located
+pub(crate) fn nth(row: LayoutRow, n: usize, i: usize, s: &[u8], at: usize) -> Located
     ensures { λ r. ⌜ locatedOf r ≡ nthAt (rowLayout row) n i (now (s .entry)) at ⌝ }
 {
     if n <= i {
         return Located::Refused(Refusal::NoEntry);
     }
     match read_list(row, i, s, at) {
-        End::At(start) => match read_entry(row, s, start) {
-            End::At(end) => Located::Entry { start, end },
-            End::Refused(r) => Located::Refused(r),
+        Ending::At(start) => match read_entry(row, s, start) {
+            Ending::At(end) => Located::Entry { start, end },
+            Ending::Refused(r) => Located::Refused(r),
         },
-        End::Refused(r) => Located::Refused(r),
+        Ending::Refused(r) => Located::Refused(r),
     }
-}
-
-fn wide(x: u8) -> usize
-    ensures { λ r. ⌜ (r ≡ x) × (r ≤ 255) ⌝ }
-{
-    x as usize
 }

@@ -3,7 +3,7 @@ use crate::pieces::all_valid;
 use crate::rows::TextRow;
 use crate::rows::radio;
 use crate::rows::radio_list;
-use layouts::End;
+use layouts::Ending;
 use layouts::Listing;
 use layouts::list_at;
 use layouts::read_list;
@@ -36,14 +36,14 @@ fn lay(row: TextRow, s: &[u8]) -> Outlined
 {
     let piece = row.piece;
     match read_list(piece, row.many, s, 0) {
-        End::At(p) => match radios_at(row.radios, s, p) {
+        Ending::At(p) => match radios_at(row.radios, s, p) {
             Listing::Of { n, first } => match read_list(radio(), n, s, first) {
-                End::At(end) => Outlined::Of { n, first, end },
-                End::Refused(r) => Outlined::Refused(r),
+                Ending::At(end) => Outlined::Of { n, first, end },
+                Ending::Refused(r) => Outlined::Refused(r),
             },
             Listing::Refused(r) => Outlined::Refused(r),
         },
-        End::Refused(r) => Outlined::Refused(r),
+        Ending::Refused(r) => Outlined::Refused(r),
     }
 }
 

@@ -1,5 +1,5 @@
 // The table of the kinds that hold text.
-use layouts::Row;
+use layouts::LayoutRow;
 use numbers::Refusal;
 ghost use mathlib.Core.Path.{_≡_};
 ghost use Rattle.layouts.specs.Layouts.{c1-of};
@@ -10,7 +10,7 @@ ghost use Rattle.texts.specs.PrivateSteps.{rowTold};
 // A row of the table: so many pieces of this layout, and then the radios, where there are any.
 pub(crate) struct TextRow {
     pub many: usize,
-    pub piece: Row,
+    pub piece: LayoutRow,
     pub radios: bool,
 }
 
@@ -20,10 +20,10 @@ pub(crate) enum TextKindRow {
 }
 
 // A piece of so many bytes; and then, at level 1, a list of bytes whose count has w bytes, or that goes to the end where w is 0.
-fn piece(levels: u8, h: u8, w: u8) -> Row
+fn piece(levels: u8, h: u8, w: u8) -> LayoutRow
     ensures { λ r. ⌜ r ≡ record { levels = levels; h0 = h; w0 = w; h1 = 1; w1 = 0; h2 = 0; w2 = 0; h3 = 0 } ⌝ }
 {
-    Row {
+    LayoutRow {
         levels,
         h0: h,
         w0: w,
@@ -36,17 +36,17 @@ fn piece(levels: u8, h: u8, w: u8) -> Row
 }
 
 // A radio: its id of 6 bytes, and a string.
-pub(crate) fn radio() -> Row
+pub(crate) fn radio() -> LayoutRow
     ensures { λ r. ⌜ rowLayout r ≡ radio ⌝ }
 {
     piece(1, 6, 1)
 }
 
 // The list of the radios.
-pub(crate) fn radio_list() -> Row
+pub(crate) fn radio_list() -> LayoutRow
     ensures { λ r. ⌜ rowLayout r ≡ c1-of radio ⌝ }
 {
-    Row {
+    LayoutRow {
         levels: 2,
         h0: 0,
         w0: 1,
@@ -58,7 +58,7 @@ pub(crate) fn radio_list() -> Row
     }
 }
 
-fn text_row(many: usize, piece: Row, radios: bool) -> TextKindRow
+fn text_row(many: usize, piece: LayoutRow, radios: bool) -> TextKindRow
     ensures { λ r. ⌜ r ≡ TextKindRow.Text (record { many = many; piece = piece; radios = radios }) ⌝ }
 {
     TextKindRow::Text(TextRow {

@@ -1,7 +1,7 @@
--- The test for UTF-8 passes exactly the octets of the grammar, and a text may be cut between two characters.
+-- The test for UTF-8 accepts exactly the octets of the grammar, and a text may be cut between two characters.
 use mathlib.Core.Path.{_≡_, refl, sym, ap, _∙_}
 use mathlib.Core.Bool.{Bool, true, false, cond}
-use mathlib.Core.List.{List, [], _∷_, _++_, append-assoc}
+use mathlib.Core.List.{List, [], _∷_, _++_, flatten, append-assoc}
 use mathlib.Core.Logic.{inl, inr}
 use mathlib.Core.Option.{Option, none, some}
 use Prim.Native.Nat.{ℕ, zero, suc, _≤_}
@@ -10,7 +10,7 @@ use lib.ListN.{take, drop}
 use lib.Seq.{take-append-seam, drop-append-seam}
 use lib.Dec.{leb}
 use borrow.Author.Tests.{leb-true}
-use Rattle.utf8.specs.Utf8.{Range, Form, forms, Fits, OneOf, Characters, joined, Octets, inRange, begun, goesOn, passes, isUtf8}
+use Rattle.utf8.specs.Utf8.{Range, Form, forms, Fits, OneOf, Characters, Octets, inRange, begun, goesOn, accepts, isUtf8}
 use Rattle.utf8.specs.Claims.{Exactly, beginOf, Cut}
 use Rattle.utf8.proofs.Grammar.{in-range, Begins, begun-is}
 
@@ -40,23 +40,23 @@ record Split (rs : List Range) (s : List ℕ) : Type 0 where
   octets : Octets behind
   all : part ++ behind ≡ s
 
-split : (s : List ℕ) (rs : List Range) → passes rs s ≡ true → Split rs s
-unfolding passes
+split : (s : List ℕ) (rs : List Range) → accepts rs s ≡ true → Split rs s
+unfolding accepts flatten
 split [] [] e = record { part = []; fits = tt; behind = []; octets = record { list = []; each = tt; all = refl }; all = refl }
 split [] (r ∷ rs) e = never-true e
 split (b ∷ s) [] e = go (begun forms b) refl e (split s)
   where
-    go : (o : Option (List Range)) → begun forms b ≡ o → goesOn o (λ t. passes t s) ≡ true → ((rs : List Range) → passes rs s ≡ true → Split rs s) → Split [] (b ∷ s)
+    go : (o : Option (List Range)) → begun forms b ≡ o → goesOn o (λ t. accepts t s) ≡ true → ((rs : List Range) → accepts rs s ≡ true → Split rs s) → Split [] (b ∷ s)
     go none o e on = never-true e
     go (some ts) o e on =
         let x = on ts e in
         let y = x .octets in
         let one : OneOf forms (b ∷ x .part) = is-character forms b ts (x .part) o (x .fits) in
-        let all : b ∷ x .part ++ joined (y .list) ≡ b ∷ s = ap (λ t. b ∷ x .part ++ t) (y .all) ∙ ap (λ t. b ∷ t) (x .all) in
+        let all : b ∷ x .part ++ flatten (y .list) ≡ b ∷ s = ap (λ t. b ∷ x .part ++ t) (y .all) ∙ ap (λ t. b ∷ t) (x .all) in
         record { part = []; fits = tt; behind = b ∷ s; octets = record { list = (b ∷ x .part) ∷ y .list; each = (one, y .each); all = all }; all = refl }
 split (b ∷ s) (r ∷ rs) e = go (inRange r b) refl e (split s rs)
   where
-    go : (t : Bool) → inRange r b ≡ t → goesOn (cond t (some rs) none) (λ t. passes t s) ≡ true → (passes rs s ≡ true → Split rs s) → Split (r ∷ rs) (b ∷ s)
+    go : (t : Bool) → inRange r b ≡ t → goesOn (cond t (some rs) none) (λ t. accepts t s) ≡ true → (accepts rs s ≡ true → Split rs s) → Split (r ∷ rs) (b ∷ s)
     go true t e on =
         let x = on e in
         let i = is-in r b t in
@@ -71,8 +71,8 @@ sound s e = let x = split s [] e in go (x .part) (x .fits) (x .behind) (x .octet
     go (b ∷ bs) f behind o a = absurd f
 
 -- what is awaited passes, and so does a character
-fits-pass : (rs : List Range) (c s : List ℕ) → Fits rs c → passes rs (c ++ s) ≡ passes [] s
-unfolding passes
+fits-pass : (rs : List Range) (c s : List ℕ) → Fits rs c → accepts rs (c ++ s) ≡ accepts [] s
+unfolding accepts
 fits-pass [] [] s f = refl
 fits-pass [] (b ∷ c) s f = absurd f
 fits-pass (r ∷ rs) [] s f = absurd f
@@ -98,17 +98,17 @@ no-bytes (f ∷ fs) x = go x (no-bytes fs) where
   go (inl y) on = absurd y
   go (inr y) on = on y
 
-character-passes : (c s : List ℕ) → OneOf forms c → passes [] (c ++ s) ≡ passes [] s
-unfolding passes
+character-passes : (c s : List ℕ) → OneOf forms c → accepts [] (c ++ s) ≡ accepts [] s
+unfolding accepts
 character-passes [] s x = no-bytes forms x
 character-passes (b ∷ c) s x =
     let z = begun-by forms b c x in
     rw (begun-is forms b (z .awaited) tt (z .begins)) (fits-pass (z .awaited) c s (z .fits))
 
-characters-pass : (cs : List (List ℕ)) → Characters cs → isUtf8 (joined cs) ≡ true
-unfolding passes
+characters-pass : (cs : List (List ℕ)) → Characters cs → isUtf8 (flatten cs) ≡ true
+unfolding accepts flatten
 characters-pass [] x = refl
-characters-pass (c ∷ cs) x = character-passes c (joined cs) (x .0) ∙ characters-pass cs (x .1)
+characters-pass (c ∷ cs) x = character-passes c (flatten cs) (x .0) ∙ characters-pass cs (x .1)
 
 pub exactly : Exactly
 exactly s = (sound s, λ o. ap isUtf8 (sym (o .all)) ∙ characters-pass (o .list) (o .each))
@@ -124,15 +124,16 @@ others zero cs x = x
 others (suc n) [] x = tt
 others (suc n) (c ∷ cs) x = others n cs (x .1)
 
-rejoined : (n : ℕ) (cs : List (List ℕ)) → joined (take n cs) ++ joined (drop n cs) ≡ joined cs
+rejoined : (n : ℕ) (cs : List (List ℕ)) → flatten (take n cs) ++ flatten (drop n cs) ≡ flatten cs
+unfolding flatten
 rejoined zero cs = refl
 rejoined (suc n) [] = refl
-rejoined (suc n) (c ∷ cs) = append-assoc c (joined (take n cs)) (joined (drop n cs)) ∙ ap (λ t. c ++ t) (rejoined n cs)
+rejoined (suc n) (c ∷ cs) = append-assoc c (flatten (take n cs)) (flatten (drop n cs)) ∙ ap (λ t. c ++ t) (rejoined n cs)
 
 pub cut : Cut
 cut s o n =
-    let a = joined (take n (o .list)) in
-    let b = joined (drop n (o .list)) in
+    let a = flatten (take n (o .list)) in
+    let b = flatten (drop n (o .list)) in
     let all : s ≡ a ++ b = sym (rejoined n (o .list) ∙ o .all) in
     let front : take (beginOf o n) s ≡ a = ap (take (beginOf o n)) all ∙ take-append-seam a b in
     let back : drop (beginOf o n) s ≡ b = ap (drop (beginOf o n)) all ∙ drop-append-seam a b in

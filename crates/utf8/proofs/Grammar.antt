@@ -12,7 +12,7 @@ use lib.Seq.{drop-cons}
 use lib.Bits.{bitOr, and-le-l, and-le-r, or-add-and}
 use lib.Dec.{leb, ltb, eqb, T, eqb·suc-zero}
 use borrow.Author.Tests.{le-leb, lt-leb, ltb-true}
-use Rattle.utf8.specs.Utf8.{Range, Form, forms, inRange, begun, onward, ended, passes, isUtf8}
+use Rattle.utf8.specs.Utf8.{Range, Form, forms, inRange, begun, onward, mayEnd, accepts, isUtf8}
 use Rattle.utf8.specs.PrivateUtf8.{ranges}
 
 -- a byte is in a range, or below it, or above it
@@ -74,19 +74,19 @@ begun-none (f ∷ fs) b x = go (x .0) (begun-none fs b (x .1)) where
   go (inr h) e = rw (above-range (f .first) b h) e
 
 -- the test goes on by the byte at i
-pub goes-on : (rs ts : List Range) (s : List ℕ) (i : ℕ) → i < length s → onward rs (getD s i 0) ≡ some ts → passes rs (drop i s) ≡ passes ts (drop (i + 1) s)
-unfolding passes
+pub goes-on : (rs ts : List Range) (s : List ℕ) (i : ℕ) → i < length s → onward rs (getD s i 0) ≡ some ts → accepts rs (drop i s) ≡ accepts ts (drop (i + 1) s)
+unfolding accepts
 goes-on rs ts s i h e = rw (add-one i, drop-cons s i 0 h, e)
 
-pub goes-off : (rs : List Range) (s : List ℕ) (i : ℕ) → i < length s → onward rs (getD s i 0) ≡ none → passes rs (drop i s) ≡ false
-unfolding passes
+pub goes-off : (rs : List Range) (s : List ℕ) (i : ℕ) → i < length s → onward rs (getD s i 0) ≡ none → accepts rs (drop i s) ≡ false
+unfolding accepts
 goes-off rs s i h e = rw (drop-cons s i 0 h, e)
 
 -- and ends behind the last one
-pub comes-to-end : (n low high : ℕ) (s : List ℕ) (i : ℕ) → length s ≤ i → passes (ranges n low high) (drop i s) ≡ eqb n 0
-unfolding passes
+pub comes-to-end : (n low high : ℕ) (s : List ℕ) (i : ℕ) → length s ≤ i → accepts (ranges n low high) (drop i s) ≡ eqb n 0
+unfolding accepts
 comes-to-end n low high s i h = rw (drop-of-length-le s h) (go n) where
-  go : (n : ℕ) → ended (ranges n low high) ≡ eqb n 0
+  go : (n : ℕ) → mayEnd (ranges n low high) ≡ eqb n 0
   go zero = refl
   go (suc n) = sym (eqb·suc-zero n)
 

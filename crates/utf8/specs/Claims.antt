@@ -1,23 +1,23 @@
 -- What is claimed of this crate's call and definitions; proofs/Claims.antt proves it.
 use mathlib.Core.Path.{_≡_}
 use mathlib.Core.Bool.{true}
-use mathlib.Core.List.{List}
+use mathlib.Core.List.{List, flatten}
 use Prim.Native.Nat.{ℕ}
 use lib.ListN.{length, take, drop}
 use Rattle.numbers.specs.Firmness.{Firm}
-use Rattle.utf8.specs.Utf8.{joined, Octets, isUtf8}
+use Rattle.utf8.specs.Utf8.{Octets, isUtf8}
 
 -- the public call by its name: any two answers that its contract allows are one
 pub record Firmness : Type 0 where
   pub is-utf8 : (s : List ℕ) → Firm (λ r. r ≡ isUtf8 s)
 
--- what the test passes is exactly a sequence of RFC 3629's characters
+-- what the test accepts is exactly a sequence of RFC 3629's characters
 abbrev pub Exactly : Type 0
 Exactly = (s : List ℕ) → (isUtf8 s ≡ true → Octets s) × (Octets s → isUtf8 s ≡ true)
 
 -- where character n of a text starts, and so where the one before it ends
 abbrev pub beginOf : {s : List ℕ} → Octets s → ℕ → ℕ
-beginOf o n = length (joined (take n (o .list)))
+beginOf o n = length (flatten (take n (o .list)))
 
 -- a text that is cut there is two texts
 abbrev pub Cut : Type 0

@@ -11,7 +11,7 @@
 --     UTF8-tail   = %x80-BF
 use mathlib.Core.Path.{_≡_}
 use mathlib.Core.Bool.{Bool, true, false, cond}
-use mathlib.Core.List.{List, [], _∷_, _++_}
+use mathlib.Core.List.{List, [], _∷_, flatten}
 use mathlib.Core.Logic.{_⊎_}
 use mathlib.Core.Option.{Option, none, some}
 use Prim.Native.Nat.{ℕ, _≤_}
@@ -67,17 +67,13 @@ abbrev pub Characters : List (List ℕ) → Type 0
 Characters [] = Unit
 Characters (c ∷ cs) = OneOf forms c × Characters cs
 
-abbrev pub joined : List (List ℕ) → List ℕ
-joined [] = []
-joined (c ∷ cs) = c ++ joined cs
-
--- UTF8-octets: characters, one behind the other
+-- UTF8-octets: characters, one after the other
 pub record Octets (s : List ℕ) : Type 0 where
   pub list : List (List ℕ)
   pub each : Characters list
-  pub all : joined list ≡ s
+  pub all : flatten list ≡ s
 
--- The same as a test, which goes from byte to byte; that it passes exactly the octets is claimed in Claims and proved. Where a character has begun, the ranges of
+-- The same as a test, which goes from byte to byte; that it accepts exactly the octets is claimed in Claims and proved. Where a character has begun, the ranges of
 -- its bytes that are still to come are awaited.
 abbrev pub inRange : Range → ℕ → Bool
 inRange r b = cond (leb (r .low) b) (leb b (r .high)) false
@@ -92,17 +88,17 @@ abbrev pub onward : List Range → ℕ → Option (List Range)
 onward [] b = begun forms b
 onward (r ∷ rs) b = cond (inRange r b) (some rs) none
 
-abbrev pub ended : List Range → Bool
-ended [] = true
-ended (r ∷ rs) = false
+abbrev pub mayEnd : List Range → Bool
+mayEnd [] = true
+mayEnd (r ∷ rs) = false
 
 abbrev pub goesOn : Option (List Range) → (List Range → Bool) → Bool
 goesOn none f = false
 goesOn (some rs) f = f rs
 
-unfoldable pub passes : List Range → List ℕ → Bool
-passes rs [] = ended rs
-passes rs (b ∷ s) = goesOn (onward rs b) (λ t. passes t s)
+unfoldable pub accepts : List Range → List ℕ → Bool
+accepts rs [] = mayEnd rs
+accepts rs (b ∷ s) = goesOn (onward rs b) (λ t. accepts t s)
 
 abbrev pub isUtf8 : List ℕ → Bool
-isUtf8 s = passes [] s
+isUtf8 s = accepts [] s

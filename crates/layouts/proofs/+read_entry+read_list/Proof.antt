@@ -11,7 +11,7 @@ use Rattle.layouts.proofs.+read_entry+read_list.Lts-read_list as read-l
 use Rattle.layouts.proofs.list_at.Reads as list-at-reads
 use Rattle.layouts.proofs.lists.reach.Reads as reach-reads
 use Rattle.layouts.proofs.rows.row_below.Reads as row-below-reads
-use Rattle.layouts.proofs.rows.wide.Reads as wide-reads
+use Rattle.numbers.proofs.wide.Reads as wide-reads
 use Rattle.layouts.proofs.+read_entry+read_list.{statement}
 use Rattle.layouts.proofs.+read_entry+read_list.Tie.{close}
 use borrow.Author.Needs.{needs}

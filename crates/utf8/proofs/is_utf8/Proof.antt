@@ -6,12 +6,12 @@ use mathlib.Core.Path.{_≡_, sym, _∙_}
 use Prim.Native.Nat.{_-_, _≤_}
 use native.Mathlib.Omega.{arith}
 use lib.ListN.{length, drop}
-use Rattle.utf8.specs.Utf8.{passes, isUtf8}
+use Rattle.utf8.specs.Utf8.{accepts, isUtf8}
 use Rattle.utf8.specs.PrivateUtf8.{awaits}
 use Rattle.utf8.proofs.Grammar.{goes-on, goes-off, comes-to-end}
 
 abbrev Inv-loop : tie.InvT-loop
-Inv-loop s awaited₀ i₀ awaited i = (i ≤ length s) × (isUtf8 s ≡ passes (awaits awaited) (drop i s))
+Inv-loop s awaited₀ i₀ awaited i = (i ≤ length s) × (isUtf8 s ≡ accepts (awaits awaited) (drop i s))
 
 abbrev μ-loop : tie.MeasureT-loop
 μ-loop s awaited₀ i₀ awaited i = length s - i

@@ -3,10 +3,13 @@ use borrow.Author.Needs.{needs}
 use Rattle.layouts.proofs.lists.count_at.Statement.{statement}
 use Rattle.layouts.proofs.lists.count_at.Tie as tie
 use borrow.Author.Tests.{eq-eqb, ne-eqb, le-leb, lt-leb}
+use mathlib.Core.Path.{_≡_, _∙_}
 use native.Mathlib.Omega.{arith}
 use Prim.Native.Nat.{_+_}
 use lib.ListN.{length}
 use native.Mathlib.Nat.{div-zero}
+use Rattle.numbers.specs.Bytes.{numberAt}
+use Rattle.numbers.proofs.Bytes.{number-at}
 use Rattle.layouts.specs.Reading.{countAt}
 
 returns : tie.Need-returns
@@ -29,8 +32,8 @@ returns-4 : tie.Need-returns-4
 unfolding countAt
 returns-4 c =
     let a = c .before .before .before .before .before .before .args in
-    let n = c .wide .ensures in
-    simp (n .0, c .before .before .before .if3 .taken, le-leb (a .at + 1) (length (a .s .now)) (omega arith))
+    let n : c .wide .result ≡ numberAt 1 (a .at) (a .s .now) = omega (arith, c .wide .ensures .0, number-at 1 (a .at) (a .s .now) (omega arith)) in
+    simp (n, c .before .before .before .if3 .taken, le-leb (a .at + 1) (length (a .s .now)) (omega arith))
 
 returns-5 : tie.Need-returns-5
 unfolding countAt
@@ -41,13 +44,10 @@ returns-5 c =
 returns-6 : tie.Need-returns-6
 unfolding countAt
 returns-6 c =
-    let b = c .before .before .before .before in
+    let b = c .before .before .before in
     let a = b .before .before .before .before .args in
-    let high = c .before .before .wide2 .ensures in
-    let low = c .wide3 .ensures in
     simp (
-      high .0,
-      low .0,
+      c .be16 .ensures .0 ∙ number-at 2 (a .at) (a .s .now) (omega arith),
       ne-eqb _ _ (b .before .before .if1 .left),
       ne-eqb _ _ (b .before .if3 .left),
       le-leb (a .at + 2) (length (a .s .now)) (omega arith),
@@ -70,11 +70,8 @@ count-at-spec =
     (λ c. search needs)
     returns-5
     (λ c. search needs)
-    (λ c κs. search needs)
-    (λ c. search needs)
     (λ c. search needs)
     (λ c. search needs)
     (λ c κs. search needs)
-    (λ c. search needs)
     (λ c. search needs)
     returns-6)
