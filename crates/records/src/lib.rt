@@ -164,6 +164,31 @@ pub struct Profile2ApCapability {
     pub max_vids: u8,
 }
 
+// The codes of these kinds.
+pub const END_OF_MESSAGE: u8 = 0;
+
+pub const AL_MAC_ADDRESS: u8 = 1;
+
+pub const MAC_ADDRESS: u8 = 2;
+
+pub const SEARCHED_ROLE: u8 = 13;
+
+pub const SUPPORTED_ROLE: u8 = 15;
+
+pub const SUPPORTED_FREQ_BAND: u8 = 16;
+
+pub const IEEE1905_PROFILE_VERSION: u8 = 26;
+
+pub const LINK_METRIC_RESULT_CODE: u8 = 12;
+
+pub const LINK_METRIC_QUERY: u8 = 8;
+
+pub const CLIENT_ASSOCIATION: u8 = 0x92;
+
+pub const MULTI_AP_PROFILE: u8 = 0xB3;
+
+pub const PROFILE2_AP_CAPABILITY: u8 = 0xB4;
+
 // The kinds whose value is a record.
 pub enum Kind {
     EndOfMessage,
@@ -212,18 +237,18 @@ fn kind_of(code: u8) -> KnownKind
     ensures { λ r. ⌜ knownOf r ≡ withCode code kinds ⌝ }
 {
     match code {
-        0 => KnownKind::Is(Kind::EndOfMessage),
-        1 => KnownKind::Is(Kind::AlMacAddress),
-        2 => KnownKind::Is(Kind::MacAddress),
-        13 => KnownKind::Is(Kind::SearchedRole),
-        15 => KnownKind::Is(Kind::SupportedRole),
-        16 => KnownKind::Is(Kind::SupportedFreqBand),
-        26 => KnownKind::Is(Kind::Ieee1905ProfileVersion),
-        12 => KnownKind::Is(Kind::LinkMetricResultCode),
-        8 => KnownKind::Is(Kind::LinkMetricQuery),
-        0x92 => KnownKind::Is(Kind::ClientAssociation),
-        0xB3 => KnownKind::Is(Kind::MultiApProfile),
-        0xB4 => KnownKind::Is(Kind::Profile2ApCapability),
+        END_OF_MESSAGE => KnownKind::Is(Kind::EndOfMessage),
+        AL_MAC_ADDRESS => KnownKind::Is(Kind::AlMacAddress),
+        MAC_ADDRESS => KnownKind::Is(Kind::MacAddress),
+        SEARCHED_ROLE => KnownKind::Is(Kind::SearchedRole),
+        SUPPORTED_ROLE => KnownKind::Is(Kind::SupportedRole),
+        SUPPORTED_FREQ_BAND => KnownKind::Is(Kind::SupportedFreqBand),
+        IEEE1905_PROFILE_VERSION => KnownKind::Is(Kind::Ieee1905ProfileVersion),
+        LINK_METRIC_RESULT_CODE => KnownKind::Is(Kind::LinkMetricResultCode),
+        LINK_METRIC_QUERY => KnownKind::Is(Kind::LinkMetricQuery),
+        CLIENT_ASSOCIATION => KnownKind::Is(Kind::ClientAssociation),
+        MULTI_AP_PROFILE => KnownKind::Is(Kind::MultiApProfile),
+        PROFILE2_AP_CAPABILITY => KnownKind::Is(Kind::Profile2ApCapability),
         _ => KnownKind::None,
     }
 }
@@ -243,18 +268,18 @@ pub fn code_of(item: Record) -> u8
     ensures { λ r. ⌜ r ≡ codeOf (kindOf item) ⌝ }
 {
     match item {
-        Record::EndOfMessage => 0,
-        Record::AlMacAddress(_) => 1,
-        Record::MacAddress(_) => 2,
-        Record::SearchedRole(_) => 13,
-        Record::SupportedRole(_) => 15,
-        Record::SupportedFreqBand(_) => 16,
-        Record::Ieee1905ProfileVersion(_) => 26,
-        Record::LinkMetricResultCode(_) => 12,
-        Record::LinkMetricQuery(_) => 8,
-        Record::ClientAssociation(_) => 0x92,
-        Record::MultiApProfile(_) => 0xB3,
-        Record::Profile2ApCapability(_) => 0xB4,
+        Record::EndOfMessage => END_OF_MESSAGE,
+        Record::AlMacAddress(_) => AL_MAC_ADDRESS,
+        Record::MacAddress(_) => MAC_ADDRESS,
+        Record::SearchedRole(_) => SEARCHED_ROLE,
+        Record::SupportedRole(_) => SUPPORTED_ROLE,
+        Record::SupportedFreqBand(_) => SUPPORTED_FREQ_BAND,
+        Record::Ieee1905ProfileVersion(_) => IEEE1905_PROFILE_VERSION,
+        Record::LinkMetricResultCode(_) => LINK_METRIC_RESULT_CODE,
+        Record::LinkMetricQuery(_) => LINK_METRIC_QUERY,
+        Record::ClientAssociation(_) => CLIENT_ASSOCIATION,
+        Record::MultiApProfile(_) => MULTI_AP_PROFILE,
+        Record::Profile2ApCapability(_) => PROFILE2_AP_CAPABILITY,
     }
 }
 
