@@ -7,8 +7,8 @@ use native.Mathlib.Omega.{arith}
 use lib.Dec.{eqb}
 use borrow.Author.Tests.{eqb-true}
 use Rattle.numbers.specs.Numbers.{gives, isGiven}
-use Rattle.records.specs.declared.Kind.{Kind}
-use Rattle.records.specs.Kinds.{kinds, codeOf}
+use Rattle.records.specs.declared.RecordKind.{RecordKind}
+use Rattle.records.specs.Kinds.{recordKinds, codeOf}
 use Rattle.records.specs.Reading.{isRecord, withCode}
 use Rattle.layouts.specs.Layouts.{layoutOf, isList}
 use Rattle.texts.specs.Texts.{textKind, isText}
@@ -20,15 +20,15 @@ use Rattle.kinds.specs.Claims.{Apart}
 abbrev hasEntries : ℕ → Bool
 hasEntries code = cond (isList code) true (isText code)
 
-abbrev noneListed : List Kind → Bool
+abbrev noneListed : List RecordKind → Bool
 noneListed [] = true
 noneListed (k ∷ ks) = cond (hasEntries (codeOf k)) false (noneListed ks)
 
-tested : noneListed kinds ≡ true
+tested : noneListed recordKinds ≡ true
 unfolding isList layoutOf isText textKind
 tested = refl
 
-of-these : (code : ℕ) (ks : List Kind) → noneListed ks ≡ true → isGiven (withCode code ks) ≡ true → hasEntries code ≡ false
+of-these : (code : ℕ) (ks : List RecordKind) → noneListed ks ≡ true → isGiven (withCode code ks) ≡ true → hasEntries code ≡ false
 of-these code [] t e = let z : _≡_ {A = ℕ} 0 1 = cc in absurd (omega arith)
 of-these code (k ∷ ks) t e = by-list (hasEntries (codeOf k)) refl t (of-these code ks)
   where
@@ -50,7 +50,7 @@ unfolding isList layoutOf
 text-apart = of-three (λ c. isList c ≡ false) refl refl refl
 
 pub apart : Apart
-apart code = (λ r. neither (isList code) (isText code) (of-these code kinds tested r), text-apart code)
+apart code = (λ r. neither (isList code) (isText code) (of-these code recordKinds tested r), text-apart code)
 
 -- so a record's code is of the records' family
 pub of-records : (code : ℕ) → isRecord code ≡ true → Family.Record ≡ familyOf code

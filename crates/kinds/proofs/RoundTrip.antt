@@ -29,7 +29,7 @@ use Rattle.texts.proofs.Claims as texts
 use Rattle.kinds.specs.declared.Family.{Family}
 use Rattle.kinds.specs.Kinds.{Typed, one, familyOf, oneRecord, oneList, readBy, readKind, locateBy, locateKind, countBy, countKind, textBy, locateTextIn}
 use Rattle.kinds.specs.Writing.{kindBytes}
-use Rattle.kinds.specs.Claims.{valueAt, Same, ReadsBack, RecordReadsBack, WritesBack, ValueWritesBack, TlvWritesBack}
+use Rattle.kinds.specs.Claims.{valueAt, SameValue, ReadsBack, RecordReadsBack, WritesBack, ValueWritesBack, TlvWritesBack}
 use Rattle.kinds.proofs.Apart.{of-records, inventory}
 use Rattle.kinds.proofs.Laws.{reads, within, size, written, written-bytes}
 
@@ -44,7 +44,7 @@ record SameBy (family : Family) (code : ℕ) (t : Typed Record) (s v : List ℕ)
   pub radio-texts : code ≡ 0xD4 → (i : ℕ) → locateRadioText i v ≡ locateRadioText i s
   pub radio-text-parts : code ≡ 0xD4 → (i : ℕ) → partOf (locateRadioText i v) v ≡ partOf (locateRadioText i s) s
 
-same-by : (code : ℕ) (t : Typed Record) (s v : List ℕ) → SameBy (familyOf code) code t s v → Same code t s v
+same-by : (code : ℕ) (t : Typed Record) (s v : List ℕ) → SameBy (familyOf code) code t s v → SameValue code t s v
 unfolding readKind locateKind countKind locateTextIn
 same-by code t s v a = record {
   reads = a .reads;
@@ -123,7 +123,7 @@ module _ (code : ℕ) (s : List ℕ) (bytes : Bytes s) where
         radio-text-parts = no-radios e (λ (n : Family.Record ≡ Family.Text). let z : _≡_ {A = ℕ} 0 1 = cc in omega arith);
       })
 
-  alone : (t : Typed Record) → readKind code s ≡ gives t → Same code t s (take (t .consumed) s)
+  alone : (t : Typed Record) → readKind code s ≡ gives t → SameValue code t s (take (t .consumed) s)
   alone t e = same-by code t s (take (t .consumed) s) (alone-by (familyOf code) refl t (reads code s refl ∙ e))
 
 pub reads-back : ReadsBack
@@ -133,7 +133,7 @@ reads-back code s behind t bytes e fits =
     let l : length u ≤ longestValue = omega (arith, z) in
     let b : tlvBytes code u ≡ kindBytes code s = written-bytes code s t (sym e) in
     let v : valueAt (kindBytes code s ++ behind) ≡ u = ap (λ (w : List ℕ). valueAt (w ++ behind)) (sym b) ∙ round-trip .value-written code u behind l in
-    (ap (λ (w : List ℕ). readTlv (w ++ behind)) (sym b) ∙ sym (round-trip .read-written code u behind l), subst (Same code t s) (sym v) (alone code s bytes t e))
+    (ap (λ (w : List ℕ). readTlv (w ++ behind)) (sym b) ∙ sym (round-trip .read-written code u behind l), subst (SameValue code t s) (sym v) (alone code s bytes t e))
 
 -- from a record
 pub record-reads-back : RecordReadsBack

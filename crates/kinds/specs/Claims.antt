@@ -51,7 +51,7 @@ abbrev pub valueAt : List ℕ → List ℕ
 valueAt s = valueIn (readTlv s) s
 
 -- the value v reads as t did, with nothing after it, and its entries at every level, its texts and those of its radios are those of the value s: the whole answers, and byte for byte
-pub record Same (code : ℕ) (t : Typed Record) (s v : List ℕ) : Type 0 where
+pub record SameValue (code : ℕ) (t : Typed Record) (s v : List ℕ) : Type 0 where
   pub reads : readKind code v ≡ gives (record { held = t .held; consumed = t .consumed; rest = 0 })
   pub counts : (numbers : List ℕ) → countKind code numbers v ≡ countKind code numbers s
   pub located : (numbers : List ℕ) → locateKind code numbers v ≡ locateKind code numbers s
@@ -65,7 +65,7 @@ pub record Same (code : ℕ) (t : Typed Record) (s v : List ℕ) : Type 0 where
 abbrev pub ReadsBack : Type 0
 ReadsBack = (code : ℕ) (s behind : List ℕ) (t : Typed Record) → Bytes s → readKind code s ≡ gives t → t .consumed ≤ longestValue
     → (readTlv (kindBytes code s ++ behind) ≡ gives (asRead code (take (t .consumed) s)))
-    × Same code t s (valueAt (kindBytes code s ++ behind))
+    × SameValue code t s (valueAt (kindBytes code s ++ behind))
 
 -- what is written from a record reads back as that record; no reading gives a record that is not written so
 abbrev pub RecordReadsBack : Type 0

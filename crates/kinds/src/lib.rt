@@ -6,8 +6,8 @@ use layouts::Path;
 use layouts::Reading;
 use numbers::Refusal;
 use records::Measured;
-use records::Read;
 use records::Record;
+use records::RecordAnswer;
 ghost use mathlib.Core.Path.{_≡_};
 ghost use Prim.Native.Nat.{ℕ};
 ghost use lib.ListN.{length};
@@ -105,12 +105,12 @@ fn read_record(code: u8, s: &[u8]) -> KindRead
     ensures { λ r. ⌜ kindReadOf r ≡ mapped (oneRecord (length (now (s .entry)))) (readRecord code (now (s .entry))) ⌝ }
 {
     match records::read_record(code, s) {
-        Read::Got { record, consumed } => KindRead::Record {
+        RecordAnswer::Got { record, consumed } => KindRead::Record {
             record,
             consumed,
             rest: s.len() - consumed,
         },
-        Read::Refused(refusal) => KindRead::Refused(refusal),
+        RecordAnswer::Refused(refusal) => KindRead::Refused(refusal),
     }
 }
 

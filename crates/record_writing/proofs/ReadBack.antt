@@ -16,7 +16,7 @@ use Rattle.records.specs.declared.AssociationState.{AssociationState}
 use Rattle.records.specs.declared.MultiApProfile.{MultiApProfile}
 use Rattle.records.specs.declared.Record.{Record}
 use Rattle.records.specs.Values.{bands, bandOf, bandByte, versions, versionOf, versionByte, results, resultOf, resultByte, profiles, profileOf, profileByte, stateOf, stateByte, bytesOf}
-use Rattle.records.specs.declared.Kind.{Kind}
+use Rattle.records.specs.declared.RecordKind.{RecordKind}
 use Rattle.records.specs.Kinds.{kindOf}
 use Rattle.records.specs.Reading.{fixed, ofKind}
 use Rattle.records.proofs.Codes.{past}
@@ -57,7 +57,7 @@ stands : (n : ℕ) (ok : Bool) (held r : Record) (t : List ℕ) → n ≡ length
 stands n ok held r t size taken is = rw (is, size) (sym (whole (length (bytesOf r)) ok r (bytesOf r ++ t) (omega (arith, length-append (bytesOf r) t)) taken))
 
 query-back : (n k : ℕ) (m : NeighborMac) (t : List ℕ) → agrees n m ≡ true →
-    let q = Record.LinkMetricQuery (record { «neighbor_type» = n; «neighbor_mac» = m; «requested_metrics» = k }) in ofKind Kind.LinkMetricQuery (bytesOf q ++ t) ≡ gives (itself q)
+    let q = Record.LinkMetricQuery (record { «neighbor_type» = n; «neighbor_mac» = m; «requested_metrics» = k }) in ofKind RecordKind.LinkMetricQuery (bytesOf q ++ t) ≡ gives (itself q)
 query-back n k (NeighborMac.Address m) t h = stands _ _ _ (Record.LinkMetricQuery (record { «neighbor_type» = n; «neighbor_mac» = NeighborMac.Address m; «requested_metrics» = k })) t (simp h) refl (simp h)
 query-back n k NeighborMac.None t h =
     let f = not-true (eqb n 1) h in

@@ -13,7 +13,7 @@ use Rattle.numbers.specs.Bytes.{Bytes}
 use Rattle.records.specs.declared.AssociationState.{AssociationState}
 use Rattle.records.specs.declared.Record.{Record}
 use Rattle.records.specs.Values.{bandOf, bandByte, versionOf, versionByte, resultOf, resultByte, profileOf, profileByte, stateOf, stateByte, hasAddress, queryIn, bytesOf}
-use Rattle.records.specs.declared.Kind.{Kind}
+use Rattle.records.specs.declared.RecordKind.{RecordKind}
 use Rattle.records.specs.Kinds.{kindOf}
 use Rattle.records.specs.Reading.{RecordRead, fixed, ofKind}
 use Rattle.records.proofs.Given.{reads, reads-empty}
@@ -64,33 +64,33 @@ state-kept b h a = go (eqb b 128) refl where
       omega arith
 
 -- what was read, and the bytes that it was read from
-pub record Kept (k : Kind) (s : List ℕ) (x : RecordRead) : Type 0 where
+pub record Kept (k : RecordKind) (s : List ℕ) (x : RecordRead) : Type 0 where
   pub same : kindOf (x .value) ≡ k
   pub bytes : bytesOf (x .value) ≡ take (x .consumed) s
   pub good : readable (x .value) ≡ true
 
 -- a layout whose bytes are the record's
-holds : (k : Kind) (n : ℕ) (ok : Bool) (r : Record) (s : List ℕ) (x : RecordRead) → fixed n ok r s ≡ gives x →
+holds : (k : RecordKind) (n : ℕ) (ok : Bool) (r : Record) (s : List ℕ) (x : RecordRead) → fixed n ok r s ≡ gives x →
     (n ≤ length s → ok ≡ true → Kept k s (record { value = r; consumed = n })) → Kept k s x
 holds k n ok r s x e then = let h = reads n ok r s x e in rw (← h .is) (then (h .within) (h .taken))
 
-query-kept : (s : List ℕ) → let n = cond {A = ℕ} (hasAddress (getD s 0 0)) 8 2 in n ≤ length s → Kept Kind.LinkMetricQuery s (record { value = Record.LinkMetricQuery (queryIn s); consumed = n })
+query-kept : (s : List ℕ) → let n = cond {A = ℕ} (hasAddress (getD s 0 0)) 8 2 in n ≤ length s → Kept RecordKind.LinkMetricQuery s (record { value = Record.LinkMetricQuery (queryIn s); consumed = n })
 query-kept s h = go (eqb (getD s 0 0) 1) refl
   where
-    go : (x : Bool) → eqb (getD s 0 0) 1 ≡ x → Kept Kind.LinkMetricQuery s (record { value = Record.LinkMetricQuery (queryIn s); consumed = cond (hasAddress (getD s 0 0)) 8 2 })
+    go : (x : Bool) → eqb (getD s 0 0) 1 ≡ x → Kept RecordKind.LinkMetricQuery s (record { value = Record.LinkMetricQuery (queryIn s); consumed = cond (hasAddress (getD s 0 0)) 8 2 })
     go true e = record { same = refl; bytes = simp e (front 8 s (simp e at h)); good = simp e }
     go false e = record { same = refl; bytes = simp e (front 2 s (simp e at h)); good = simp e }
 
-pub kept : (k : Kind) (s : List ℕ) → Bytes s → (x : RecordRead) → ofKind k s ≡ gives x → Kept k s x
-kept Kind.EndOfMessage s b x e = rw (← reads-empty _ s x e) (record { same = refl; bytes = refl; good = refl })
-kept Kind.AlMacAddress s b x e = holds _ _ _ _ s x e (λ h a. record { same = refl; bytes = front 6 s h; good = refl })
-kept Kind.MacAddress s b x e = holds _ _ _ _ s x e (λ h a. record { same = refl; bytes = front 6 s h; good = refl })
-kept Kind.SearchedRole s b x e = holds _ _ _ _ s x e (λ h a. record { same = refl; bytes = front 1 s h; good = a })
-kept Kind.SupportedRole s b x e = holds _ _ _ _ s x e (λ h a. record { same = refl; bytes = front 1 s h; good = a })
-kept Kind.SupportedFreqBand s b x e = let y = band-kept (getD s 0 0) in holds _ _ _ _ s x e (λ h a. record { same = refl; bytes = rw (y .0) (front 1 s h); good = y .1 })
-kept Kind.Ieee1905ProfileVersion s b x e = let y = version-kept (getD s 0 0) in holds _ _ _ _ s x e (λ h a. record { same = refl; bytes = rw (y .0) (front 1 s h); good = y .1 })
-kept Kind.LinkMetricResultCode s b x e = let y = result-kept (getD s 0 0) in holds _ _ _ _ s x e (λ h a. record { same = refl; bytes = rw (y .0) (front 1 s h); good = y .1 })
-kept Kind.LinkMetricQuery s b x e = holds _ _ _ _ s x e (λ h a. query-kept s h)
-kept Kind.ClientAssociation s b x e = holds _ _ _ _ s x e (λ h a. record { same = refl; bytes = rw (state-kept (getD s 12 0) (b 12) a) (front 13 s h); good = refl })
-kept Kind.MultiApProfile s b x e = holds _ _ _ _ s x e (λ h a. let y = profile-kept (getD s 0 0) a in record { same = refl; bytes = rw (y .0) (front 1 s h); good = y .1 })
-kept Kind.Profile2ApCapability s b x e = holds _ _ _ _ s x e (λ h a. record { same = refl; bytes = rw (flags-kept s (b 2)) (front 4 s h); good = lt-ltb (getD s 2 0 % 8) 8 (omega arith) })
+pub kept : (k : RecordKind) (s : List ℕ) → Bytes s → (x : RecordRead) → ofKind k s ≡ gives x → Kept k s x
+kept RecordKind.EndOfMessage s b x e = rw (← reads-empty _ s x e) (record { same = refl; bytes = refl; good = refl })
+kept RecordKind.AlMacAddress s b x e = holds _ _ _ _ s x e (λ h a. record { same = refl; bytes = front 6 s h; good = refl })
+kept RecordKind.MacAddress s b x e = holds _ _ _ _ s x e (λ h a. record { same = refl; bytes = front 6 s h; good = refl })
+kept RecordKind.SearchedRole s b x e = holds _ _ _ _ s x e (λ h a. record { same = refl; bytes = front 1 s h; good = a })
+kept RecordKind.SupportedRole s b x e = holds _ _ _ _ s x e (λ h a. record { same = refl; bytes = front 1 s h; good = a })
+kept RecordKind.SupportedFreqBand s b x e = let y = band-kept (getD s 0 0) in holds _ _ _ _ s x e (λ h a. record { same = refl; bytes = rw (y .0) (front 1 s h); good = y .1 })
+kept RecordKind.Ieee1905ProfileVersion s b x e = let y = version-kept (getD s 0 0) in holds _ _ _ _ s x e (λ h a. record { same = refl; bytes = rw (y .0) (front 1 s h); good = y .1 })
+kept RecordKind.LinkMetricResultCode s b x e = let y = result-kept (getD s 0 0) in holds _ _ _ _ s x e (λ h a. record { same = refl; bytes = rw (y .0) (front 1 s h); good = y .1 })
+kept RecordKind.LinkMetricQuery s b x e = holds _ _ _ _ s x e (λ h a. query-kept s h)
+kept RecordKind.ClientAssociation s b x e = holds _ _ _ _ s x e (λ h a. record { same = refl; bytes = rw (state-kept (getD s 12 0) (b 12) a) (front 13 s h); good = refl })
+kept RecordKind.MultiApProfile s b x e = holds _ _ _ _ s x e (λ h a. let y = profile-kept (getD s 0 0) a in record { same = refl; bytes = rw (y .0) (front 1 s h); good = y .1 })
+kept RecordKind.Profile2ApCapability s b x e = holds _ _ _ _ s x e (λ h a. record { same = refl; bytes = rw (flags-kept s (b 2)) (front 4 s h); good = lt-ltb (getD s 2 0 % 8) 8 (omega arith) })

@@ -3,18 +3,18 @@ use mathlib.Core.Path.{_≡_, sym, ap}
 use Prim.Native.Nat.{ℕ}
 use Rattle.numbers.proofs.Answers.{given}
 use Rattle.numbers.proofs.Firm.{firm, never, by-equation, by-telling}
-use Rattle.records.specs.declared.Read.{Read}
+use Rattle.records.specs.declared.RecordAnswer.{RecordAnswer}
 use Rattle.records.specs.declared.Measured.{Measured}
 use Rattle.records.specs.Reading.{RecordRead, gotOf, measuredOf}
 use Rattle.records.specs.Claims.{Firmness, Inside, Claims}
 use Rattle.records.proofs.Ways.{by-kind}
 use Rattle.records.proofs.Given.{consumed-within}
 
-read-one : (a b : Read) → gotOf a ≡ gotOf b → a ≡ b
-read-one (Read.Got r n) (Read.Got r′ n′) e = ap (λ (x : RecordRead). Read.Got (x .value) (x .consumed)) (given _ _ e)
-read-one (Read.Got r n) (Read.Refused f) e = never _ _ _ e
-read-one (Read.Refused f) (Read.Got r n) e = never _ _ _ (sym e)
-read-one (Read.Refused f) (Read.Refused g) e = ap Read.Refused (firm RecordRead f g e)
+read-one : (a b : RecordAnswer) → gotOf a ≡ gotOf b → a ≡ b
+read-one (RecordAnswer.Got r n) (RecordAnswer.Got r′ n′) e = ap (λ (x : RecordRead). RecordAnswer.Got (x .value) (x .consumed)) (given _ _ e)
+read-one (RecordAnswer.Got r n) (RecordAnswer.Refused f) e = never _ _ _ e
+read-one (RecordAnswer.Refused f) (RecordAnswer.Got r n) e = never _ _ _ (sym e)
+read-one (RecordAnswer.Refused f) (RecordAnswer.Refused g) e = ap RecordAnswer.Refused (firm RecordRead f g e)
 
 measured-one : (a b : Measured) → measuredOf a ≡ measuredOf b → a ≡ b
 measured-one (Measured.Bytes n) (Measured.Bytes m) e = ap Measured.Bytes (given n m e)

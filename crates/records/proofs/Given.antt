@@ -11,8 +11,8 @@ use Rattle.numbers.specs.Numbers.{Answer, gives, refuses, andThen, isGiven}
 use Rattle.numbers.proofs.Answers.{given, gave}
 use Rattle.numbers.proofs.Firm.{never}
 use Rattle.records.specs.declared.Record.{Record}
-use Rattle.records.specs.declared.Kind.{Kind}
-use Rattle.records.specs.Kinds.{kinds, codeOf}
+use Rattle.records.specs.declared.RecordKind.{RecordKind}
+use Rattle.records.specs.Kinds.{recordKinds, codeOf}
 use Rattle.records.specs.Reading.{RecordRead, empty, fixed, ofKind, withCode, isRecord, readRecord}
 
 -- an answer that is not 16
@@ -67,22 +67,22 @@ module _ (r : Record) (s : List ℕ) where
       go true = refl
       go false = refl
 
-formed : (k : Kind) (s : List ℕ) → Formed s (ofKind k s)
-formed Kind.EndOfMessage s = empty-formed _ s
-formed Kind.AlMacAddress s = fixed-formed _ _ _ s
-formed Kind.MacAddress s = fixed-formed _ _ _ s
-formed Kind.SearchedRole s = fixed-formed _ _ _ s
-formed Kind.SupportedRole s = fixed-formed _ _ _ s
-formed Kind.SupportedFreqBand s = fixed-formed _ _ _ s
-formed Kind.Ieee1905ProfileVersion s = fixed-formed _ _ _ s
-formed Kind.LinkMetricResultCode s = fixed-formed _ _ _ s
-formed Kind.LinkMetricQuery s = fixed-formed _ _ _ s
-formed Kind.ClientAssociation s = fixed-formed _ _ _ s
-formed Kind.MultiApProfile s = fixed-formed _ _ _ s
-formed Kind.Profile2ApCapability s = fixed-formed _ _ _ s
+formed : (k : RecordKind) (s : List ℕ) → Formed s (ofKind k s)
+formed RecordKind.EndOfMessage s = empty-formed _ s
+formed RecordKind.AlMacAddress s = fixed-formed _ _ _ s
+formed RecordKind.MacAddress s = fixed-formed _ _ _ s
+formed RecordKind.SearchedRole s = fixed-formed _ _ _ s
+formed RecordKind.SupportedRole s = fixed-formed _ _ _ s
+formed RecordKind.SupportedFreqBand s = fixed-formed _ _ _ s
+formed RecordKind.Ieee1905ProfileVersion s = fixed-formed _ _ _ s
+formed RecordKind.LinkMetricResultCode s = fixed-formed _ _ _ s
+formed RecordKind.LinkMetricQuery s = fixed-formed _ _ _ s
+formed RecordKind.ClientAssociation s = fixed-formed _ _ _ s
+formed RecordKind.MultiApProfile s = fixed-formed _ _ _ s
+formed RecordKind.Profile2ApCapability s = fixed-formed _ _ _ s
 
 -- a code has its kind in the list, or is refused by 16
-coded : (c : ℕ) (ks : List Kind) (k : Kind) → withCode c ks ≡ gives k → codeOf k ≡ c
+coded : (c : ℕ) (ks : List RecordKind) (k : RecordKind) → withCode c ks ≡ gives k → codeOf k ≡ c
 coded c [] k e = never _ _ _ (sym e)
 coded c (j ∷ ks) k e = go (eqb c (codeOf j)) refl (coded c ks k) e
   where
@@ -90,7 +90,7 @@ coded c (j ∷ ks) k e = go (eqb c (codeOf j)) refl (coded c ks k) e
     go true f later e = let i : j ≡ k = cc in rw (← i) (sym (eqb-true c (codeOf j) f))
     go false f later e = later e
 
-unknown : (c : ℕ) (ks : List Kind) → isKnown (withCode c ks) ≡ isGiven (withCode c ks)
+unknown : (c : ℕ) (ks : List RecordKind) → isKnown (withCode c ks) ≡ isGiven (withCode c ks)
 unknown c [] = refl
 unknown c (k ∷ ks) = go (eqb c (codeOf k)) (unknown c ks)
   where
@@ -100,21 +100,21 @@ unknown c (k ∷ ks) = go (eqb c (codeOf k)) (unknown c ks)
 
 pub known : (c : ℕ) (s : List ℕ) → isKnown (readRecord c s) ≡ isRecord c
 unfolding readRecord
-known c s = go (withCode c kinds) (unknown c kinds)
+known c s = go (withCode c recordKinds) (unknown c recordKinds)
   where
-    go : (a : Answer Kind) → isKnown a ≡ isGiven a → isKnown (andThen a (λ k. ofKind k s)) ≡ isGiven a
+    go : (a : Answer RecordKind) → isKnown a ≡ isGiven a → isKnown (andThen a (λ k. ofKind k s)) ≡ isGiven a
     go (gives k) e = formed k s .is-known
     go (refuses n vs) e = e
 
 -- the kind that a code which reads has
 pub record Coded (c : ℕ) (s : List ℕ) (x : RecordRead) : Type 0 where
-  pub kind : Kind
+  pub kind : RecordKind
   pub its : codeOf kind ≡ c
   pub reads : ofKind kind s ≡ gives x
 
 pub kind-read : (c : ℕ) (s : List ℕ) (x : RecordRead) → readRecord c s ≡ gives x → Coded c s x
 unfolding readRecord
-kind-read c s x e = let g = gave (withCode c kinds) (λ k. ofKind k s) x e in record { kind = g .first; its = coded c kinds (g .first) (g .is); reads = g .then }
+kind-read c s x e = let g = gave (withCode c recordKinds) (λ k. ofKind k s) x e in record { kind = g .first; its = coded c recordKinds (g .first) (g .is); reads = g .then }
 
 -- consumed never exceeds the value's length, so that the rest is what stands behind it
 pub consumed-within : (c : ℕ) (s : List ℕ) (x : RecordRead) → readRecord c s ≡ gives x → x .consumed ≤ length s

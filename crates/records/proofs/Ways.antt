@@ -7,8 +7,8 @@ use lib.ListN.{length}
 use borrow.Author.Tests.{lt-ltb, le-ltb}
 use Rattle.numbers.specs.Numbers.{Answer, gives, refuses, andThen}
 use Rattle.records.specs.declared.Record.{Record}
-use Rattle.records.specs.declared.Kind.{Kind}
-use Rattle.records.specs.Kinds.{kinds, codeOf}
+use Rattle.records.specs.declared.RecordKind.{RecordKind}
+use Rattle.records.specs.Kinds.{recordKinds, codeOf}
 use Rattle.records.specs.Reading.{empty, fixed, ofKind, withCode, readRecord}
 
 module _ (r : Record) (s : List ℕ) where
@@ -34,22 +34,22 @@ module _ (n : ℕ) (ok : Bool) (r : Record) (s : List ℕ) where
   whole h a = simp (le-ltb (length s) n h, a)
 
 -- what the code says, and then the kind's reading
-pub by-code : (c : ℕ) (s : List ℕ) (a : Answer Kind) → a ≡ withCode c kinds → andThen a (λ k. ofKind k s) ≡ readRecord c s
+pub by-code : (c : ℕ) (s : List ℕ) (a : Answer RecordKind) → a ≡ withCode c recordKinds → andThen a (λ k. ofKind k s) ≡ readRecord c s
 unfolding readRecord
-by-code c s a e = ap (λ (b : Answer Kind). andThen b (λ k. ofKind k s)) e
+by-code c s a e = ap (λ (b : Answer RecordKind). andThen b (λ k. ofKind k s)) e
 
 -- each code of the list is its own kind's: no two have one code
-pub by-kind : (k : Kind) (s : List ℕ) → readRecord (codeOf k) s ≡ ofKind k s
+pub by-kind : (k : RecordKind) (s : List ℕ) → readRecord (codeOf k) s ≡ ofKind k s
 unfolding readRecord
-by-kind Kind.EndOfMessage s = refl
-by-kind Kind.AlMacAddress s = refl
-by-kind Kind.MacAddress s = refl
-by-kind Kind.SearchedRole s = refl
-by-kind Kind.SupportedRole s = refl
-by-kind Kind.SupportedFreqBand s = refl
-by-kind Kind.Ieee1905ProfileVersion s = refl
-by-kind Kind.LinkMetricResultCode s = refl
-by-kind Kind.LinkMetricQuery s = refl
-by-kind Kind.ClientAssociation s = refl
-by-kind Kind.MultiApProfile s = refl
-by-kind Kind.Profile2ApCapability s = refl
+by-kind RecordKind.EndOfMessage s = refl
+by-kind RecordKind.AlMacAddress s = refl
+by-kind RecordKind.MacAddress s = refl
+by-kind RecordKind.SearchedRole s = refl
+by-kind RecordKind.SupportedRole s = refl
+by-kind RecordKind.SupportedFreqBand s = refl
+by-kind RecordKind.Ieee1905ProfileVersion s = refl
+by-kind RecordKind.LinkMetricResultCode s = refl
+by-kind RecordKind.LinkMetricQuery s = refl
+by-kind RecordKind.ClientAssociation s = refl
+by-kind RecordKind.MultiApProfile s = refl
+by-kind RecordKind.Profile2ApCapability s = refl

@@ -6,21 +6,21 @@ use lib.ListN.{length}
 use Rattle.numbers.specs.Numbers.{gives, mapped}
 use Rattle.numbers.specs.Firmness.{Firm}
 use Rattle.records.specs.declared.Record.{Record}
-use Rattle.records.specs.declared.Kind.{Kind}
+use Rattle.records.specs.declared.RecordKind.{RecordKind}
 use Rattle.records.specs.Kinds.{codeOf, kindOf}
 use Rattle.records.specs.Reading.{RecordRead, gotOf, measuredOf, isRecord, ofKind, readRecord}
 
 -- each public call by its name: any two answers that its contract allows are one
 pub record Firmness : Type 0 where
   pub read-record : (code : ℕ) (s : List ℕ) → Firm (λ r. gotOf r ≡ readRecord code s)
-  pub read-client-association : (s : List ℕ) → Firm (λ r. gotOf r ≡ ofKind Kind.ClientAssociation s)
+  pub read-client-association : (s : List ℕ) → Firm (λ r. gotOf r ≡ ofKind RecordKind.ClientAssociation s)
   pub code-of : (item : Record) → Firm (λ n. n ≡ codeOf (kindOf item))
   pub is-record : (code : ℕ) → Firm (λ b. b ≡ isRecord code)
   pub measure : (code : ℕ) (s : List ℕ) → Firm (λ m. measuredOf m ≡ mapped (λ x. x .consumed) (readRecord code s))
 
 -- no two kinds have one code: a kind's code reads as that kind
 abbrev pub OwnCodes : Type 0
-OwnCodes = (k : Kind) (s : List ℕ) → readRecord (codeOf k) s ≡ ofKind k s
+OwnCodes = (k : RecordKind) (s : List ℕ) → readRecord (codeOf k) s ≡ ofKind k s
 
 -- what was consumed lies in the value, so that the rest is what stands behind it
 abbrev pub Inside : Type 0

@@ -6,20 +6,20 @@ use lib.Dec.{eqb, ltb}
 use lib.ListN.{length, getD}
 use Rattle.numbers.specs.Numbers.{Answer, gives, refuses, told, andThen, isGiven}
 use Rattle.records.specs.declared.Record.{Record}
-use Rattle.records.specs.declared.Read.{Read}
+use Rattle.records.specs.declared.RecordAnswer.{RecordAnswer}
 use Rattle.records.specs.declared.Measured.{Measured}
 use Rattle.records.specs.Values.{addressAt, bandOf, versionOf, resultOf, profileOf, hasAddress, queryIn, associationIn, capabilityIn}
-use Rattle.records.specs.declared.Kind.{Kind}
-use Rattle.records.specs.Kinds.{kinds, codeOf}
+use Rattle.records.specs.declared.RecordKind.{RecordKind}
+use Rattle.records.specs.Kinds.{recordKinds, codeOf}
 
 pub record RecordRead : Type 0 where
   pub value : Record
   pub consumed : ℕ
 
 -- what each answer of a reader says
-abbrev pub gotOf : Read → Answer RecordRead
-gotOf (Read.Got r n) = gives (record { value = r; consumed = n })
-gotOf (Read.Refused r) = told r
+abbrev pub gotOf : RecordAnswer → Answer RecordRead
+gotOf (RecordAnswer.Got r n) = gives (record { value = r; consumed = n })
+gotOf (RecordAnswer.Refused r) = told r
 
 abbrev pub measuredOf : Measured → Answer ℕ
 measuredOf (Measured.Bytes n) = gives n
@@ -40,29 +40,29 @@ abbrev any : Bool
 any = true
 
 -- the lines of document 01's table: the bytes that the layout takes, what of them is accepted ("role not 0, association bits 0-6 set, profile 0" are not), the record
-abbrev pub ofKind : Kind → List ℕ → Answer RecordRead
-ofKind Kind.EndOfMessage s = empty Record.EndOfMessage s
-ofKind Kind.AlMacAddress s = fixed 6 any (Record.AlMacAddress (addressAt s 0)) s
-ofKind Kind.MacAddress s = fixed 6 any (Record.MacAddress (addressAt s 0)) s
-ofKind Kind.SearchedRole s = fixed 1 (eqb (getD s 0 0) 0) (Record.SearchedRole (getD s 0 0)) s
-ofKind Kind.SupportedRole s = fixed 1 (eqb (getD s 0 0) 0) (Record.SupportedRole (getD s 0 0)) s
-ofKind Kind.SupportedFreqBand s = fixed 1 any (Record.SupportedFreqBand (bandOf (getD s 0 0))) s
-ofKind Kind.Ieee1905ProfileVersion s = fixed 1 any (Record.Ieee1905ProfileVersion (versionOf (getD s 0 0))) s
-ofKind Kind.LinkMetricResultCode s = fixed 1 any (Record.LinkMetricResultCode (resultOf (getD s 0 0))) s
-ofKind Kind.LinkMetricQuery s = fixed (cond (hasAddress (getD s 0 0)) 8 2) any (Record.LinkMetricQuery (queryIn s)) s
-ofKind Kind.ClientAssociation s = fixed 13 (eqb (getD s 12 0 % 128) 0) (Record.ClientAssociation (associationIn s)) s
-ofKind Kind.MultiApProfile s = fixed 1 (ltb 0 (getD s 0 0)) (Record.MultiApProfile (profileOf (getD s 0 0))) s
-ofKind Kind.Profile2ApCapability s = fixed 4 any (Record.Profile2ApCapability (capabilityIn s)) s
+abbrev pub ofKind : RecordKind → List ℕ → Answer RecordRead
+ofKind RecordKind.EndOfMessage s = empty Record.EndOfMessage s
+ofKind RecordKind.AlMacAddress s = fixed 6 any (Record.AlMacAddress (addressAt s 0)) s
+ofKind RecordKind.MacAddress s = fixed 6 any (Record.MacAddress (addressAt s 0)) s
+ofKind RecordKind.SearchedRole s = fixed 1 (eqb (getD s 0 0) 0) (Record.SearchedRole (getD s 0 0)) s
+ofKind RecordKind.SupportedRole s = fixed 1 (eqb (getD s 0 0) 0) (Record.SupportedRole (getD s 0 0)) s
+ofKind RecordKind.SupportedFreqBand s = fixed 1 any (Record.SupportedFreqBand (bandOf (getD s 0 0))) s
+ofKind RecordKind.Ieee1905ProfileVersion s = fixed 1 any (Record.Ieee1905ProfileVersion (versionOf (getD s 0 0))) s
+ofKind RecordKind.LinkMetricResultCode s = fixed 1 any (Record.LinkMetricResultCode (resultOf (getD s 0 0))) s
+ofKind RecordKind.LinkMetricQuery s = fixed (cond (hasAddress (getD s 0 0)) 8 2) any (Record.LinkMetricQuery (queryIn s)) s
+ofKind RecordKind.ClientAssociation s = fixed 13 (eqb (getD s 12 0 % 128) 0) (Record.ClientAssociation (associationIn s)) s
+ofKind RecordKind.MultiApProfile s = fixed 1 (ltb 0 (getD s 0 0)) (Record.MultiApProfile (profileOf (getD s 0 0))) s
+ofKind RecordKind.Profile2ApCapability s = fixed 4 any (Record.Profile2ApCapability (capabilityIn s)) s
 
 -- the first of these kinds that has the code; 16 where none has
-abbrev pub withCode : ℕ → List Kind → Answer Kind
+abbrev pub withCode : ℕ → List RecordKind → Answer RecordKind
 withCode c [] = refuses 16 []
 withCode c (k ∷ ks) = cond (eqb c (codeOf k)) (gives k) (withCode c ks)
 
 -- whether a code is a record's
 abbrev pub isRecord : ℕ → Bool
-isRecord c = isGiven (withCode c kinds)
+isRecord c = isGiven (withCode c recordKinds)
 
 -- "Order elsewhere: 16, then .. 3, 4, 5"
 unfoldable pub readRecord : ℕ → List ℕ → Answer RecordRead
-readRecord c s = andThen (withCode c kinds) (λ k. ofKind k s)
+readRecord c s = andThen (withCode c recordKinds) (λ k. ofKind k s)

@@ -8,7 +8,7 @@ pub use reading::read_client_association;
 ghost use mathlib.Core.Path.{_≡_};
 ghost use Rattle.records.specs.Values.{bandOf, versionOf, resultOf, profileOf, stateOf, unitsOf};
 ghost use Rattle.numbers.specs.Numbers.{mapped};
-ghost use Rattle.records.specs.Kinds.{kinds, codeOf, kindOf};
+ghost use Rattle.records.specs.Kinds.{recordKinds, codeOf, kindOf};
 ghost use Rattle.records.specs.Reading.{gotOf, readRecord, measuredOf, withCode, isRecord};
 ghost use Rattle.records.specs.PrivateKinds.{knownOf};
 
@@ -190,7 +190,7 @@ pub const MULTI_AP_PROFILE: u8 = 0xB3;
 pub const PROFILE2_AP_CAPABILITY: u8 = 0xB4;
 
 // The kinds whose value is a record.
-pub enum Kind {
+pub enum RecordKind {
     EndOfMessage,
     AlMacAddress,
     MacAddress,
@@ -222,44 +222,44 @@ pub enum Record {
 }
 
 // What reading a typed value finds: the record, and how many bytes its layout took; the bytes behind them are the rest.
-pub enum Read {
+pub enum RecordAnswer {
     Got { record: Record, consumed: usize },
     Refused(Refusal),
 }
 
 // The kind that has a code, or that none has it.
 pub(crate) enum KnownKind {
-    Is(Kind),
+    Is(RecordKind),
     None,
 }
 
 fn kind_of(code: u8) -> KnownKind
-    ensures { λ r. ⌜ knownOf r ≡ withCode code kinds ⌝ }
+    ensures { λ r. ⌜ knownOf r ≡ withCode code recordKinds ⌝ }
 {
     match code {
-        END_OF_MESSAGE => KnownKind::Is(Kind::EndOfMessage),
-        AL_MAC_ADDRESS => KnownKind::Is(Kind::AlMacAddress),
-        MAC_ADDRESS => KnownKind::Is(Kind::MacAddress),
-        SEARCHED_ROLE => KnownKind::Is(Kind::SearchedRole),
-        SUPPORTED_ROLE => KnownKind::Is(Kind::SupportedRole),
-        SUPPORTED_FREQ_BAND => KnownKind::Is(Kind::SupportedFreqBand),
-        IEEE1905_PROFILE_VERSION => KnownKind::Is(Kind::Ieee1905ProfileVersion),
-        LINK_METRIC_RESULT_CODE => KnownKind::Is(Kind::LinkMetricResultCode),
-        LINK_METRIC_QUERY => KnownKind::Is(Kind::LinkMetricQuery),
-        CLIENT_ASSOCIATION => KnownKind::Is(Kind::ClientAssociation),
-        MULTI_AP_PROFILE => KnownKind::Is(Kind::MultiApProfile),
-        PROFILE2_AP_CAPABILITY => KnownKind::Is(Kind::Profile2ApCapability),
+        END_OF_MESSAGE => KnownKind::Is(RecordKind::EndOfMessage),
+        AL_MAC_ADDRESS => KnownKind::Is(RecordKind::AlMacAddress),
+        MAC_ADDRESS => KnownKind::Is(RecordKind::MacAddress),
+        SEARCHED_ROLE => KnownKind::Is(RecordKind::SearchedRole),
+        SUPPORTED_ROLE => KnownKind::Is(RecordKind::SupportedRole),
+        SUPPORTED_FREQ_BAND => KnownKind::Is(RecordKind::SupportedFreqBand),
+        IEEE1905_PROFILE_VERSION => KnownKind::Is(RecordKind::Ieee1905ProfileVersion),
+        LINK_METRIC_RESULT_CODE => KnownKind::Is(RecordKind::LinkMetricResultCode),
+        LINK_METRIC_QUERY => KnownKind::Is(RecordKind::LinkMetricQuery),
+        CLIENT_ASSOCIATION => KnownKind::Is(RecordKind::ClientAssociation),
+        MULTI_AP_PROFILE => KnownKind::Is(RecordKind::MultiApProfile),
+        PROFILE2_AP_CAPABILITY => KnownKind::Is(RecordKind::Profile2ApCapability),
         _ => KnownKind::None,
     }
 }
 
 // The typed value s of the kind with this code.
-pub fn read_record(code: u8, s: &[u8]) -> Read
+pub fn read_record(code: u8, s: &[u8]) -> RecordAnswer
     ensures { λ r. ⌜ gotOf r ≡ readRecord code (now (s .entry)) ⌝ }
 {
     match kind_of(code) {
         KnownKind::Is(kind) => reading::read_as(kind, s),
-        KnownKind::None => Read::Refused(Refusal::UnknownKind),
+        KnownKind::None => RecordAnswer::Refused(Refusal::UnknownKind),
     }
 }
 
@@ -304,10 +304,10 @@ pub fn measure(code: u8, s: &[u8]) -> Measured
     ensures { λ r. ⌜ measuredOf r ≡ mapped (λ x. x .consumed) (readRecord code (now (s .entry))) ⌝ }
 {
     match read_record(code, s) {
-        Read::Got {
+        RecordAnswer::Got {
             record: _,
             consumed,
         } => Measured::Bytes(consumed),
-        Read::Refused(refusal) => Measured::Refused(refusal),
+        RecordAnswer::Refused(refusal) => Measured::Refused(refusal),
     }
 }

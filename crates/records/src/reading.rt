@@ -3,15 +3,15 @@ use crate::AssociationState;
 use crate::ByteCounterUnits;
 use crate::ClientAssociation;
 use crate::Ieee1905ProfileVersion;
-use crate::Kind;
 use crate::LinkMetricQuery;
 use crate::LinkMetricResultCode;
 use crate::MacAddr;
 use crate::MultiApProfile;
 use crate::NeighborMac;
 use crate::Profile2ApCapability;
-use crate::Read;
 use crate::Record;
+use crate::RecordAnswer;
+use crate::RecordKind;
 use crate::SupportedFreqBand;
 use numbers::Refusal;
 ghost use mathlib.Core.Path.{_≡_};
@@ -21,87 +21,87 @@ ghost use Rattle.records.specs.Values.{addressAt};
 ghost use Rattle.records.specs.Reading.{gotOf, fixed, ofKind};
 
 // A value of a kind.
-pub(crate) fn read_as(kind: Kind, s: &[u8]) -> Read
+pub(crate) fn read_as(kind: RecordKind, s: &[u8]) -> RecordAnswer
     ensures { λ r. ⌜ gotOf r ≡ ofKind kind (now (s .entry)) ⌝ }
 {
     match kind {
-        Kind::EndOfMessage => read_end_of_message(s),
-        Kind::AlMacAddress => read_al_mac_address(s),
-        Kind::MacAddress => read_mac_address(s),
-        Kind::SearchedRole => read_searched_role(s),
-        Kind::SupportedRole => read_supported_role(s),
-        Kind::SupportedFreqBand => read_supported_freq_band(s),
-        Kind::Ieee1905ProfileVersion => read_ieee1905_profile_version(s),
-        Kind::LinkMetricResultCode => read_link_metric_result_code(s),
-        Kind::LinkMetricQuery => read_link_metric_query(s),
-        Kind::ClientAssociation => read_client_association(s),
-        Kind::MultiApProfile => read_multi_ap_profile(s),
-        Kind::Profile2ApCapability => read_profile2_ap_capability(s),
+        RecordKind::EndOfMessage => read_end_of_message(s),
+        RecordKind::AlMacAddress => read_al_mac_address(s),
+        RecordKind::MacAddress => read_mac_address(s),
+        RecordKind::SearchedRole => read_searched_role(s),
+        RecordKind::SupportedRole => read_supported_role(s),
+        RecordKind::SupportedFreqBand => read_supported_freq_band(s),
+        RecordKind::Ieee1905ProfileVersion => read_ieee1905_profile_version(s),
+        RecordKind::LinkMetricResultCode => read_link_metric_result_code(s),
+        RecordKind::LinkMetricQuery => read_link_metric_query(s),
+        RecordKind::ClientAssociation => read_client_association(s),
+        RecordKind::MultiApProfile => read_multi_ap_profile(s),
+        RecordKind::Profile2ApCapability => read_profile2_ap_capability(s),
     }
 }
 
-fn read_end_of_message(s: &[u8]) -> Read
-    ensures { λ r. ⌜ gotOf r ≡ ofKind Kind.EndOfMessage (now (s .entry)) ⌝ }
+fn read_end_of_message(s: &[u8]) -> RecordAnswer
+    ensures { λ r. ⌜ gotOf r ≡ ofKind RecordKind.EndOfMessage (now (s .entry)) ⌝ }
 {
     if 0 < s.len() {
-        return Read::Refused(Refusal::LeftOver);
+        return RecordAnswer::Refused(Refusal::LeftOver);
     }
-    Read::Got {
+    RecordAnswer::Got {
         record: Record::EndOfMessage,
         consumed: 0,
     }
 }
 
-fn read_al_mac_address(s: &[u8]) -> Read
-    ensures { λ r. ⌜ gotOf r ≡ ofKind Kind.AlMacAddress (now (s .entry)) ⌝ }
+fn read_al_mac_address(s: &[u8]) -> RecordAnswer
+    ensures { λ r. ⌜ gotOf r ≡ ofKind RecordKind.AlMacAddress (now (s .entry)) ⌝ }
 {
     fixed(6, true, Record::AlMacAddress(address_at(s, 0)), s)
 }
 
-fn read_mac_address(s: &[u8]) -> Read
-    ensures { λ r. ⌜ gotOf r ≡ ofKind Kind.MacAddress (now (s .entry)) ⌝ }
+fn read_mac_address(s: &[u8]) -> RecordAnswer
+    ensures { λ r. ⌜ gotOf r ≡ ofKind RecordKind.MacAddress (now (s .entry)) ⌝ }
 {
     fixed(6, true, Record::MacAddress(address_at(s, 0)), s)
 }
 
-fn read_searched_role(s: &[u8]) -> Read
-    ensures { λ r. ⌜ gotOf r ≡ ofKind Kind.SearchedRole (now (s .entry)) ⌝ }
+fn read_searched_role(s: &[u8]) -> RecordAnswer
+    ensures { λ r. ⌜ gotOf r ≡ ofKind RecordKind.SearchedRole (now (s .entry)) ⌝ }
 {
     let role = byte_at(s, 0);
     fixed(1, role == 0, Record::SearchedRole(role), s)
 }
 
-fn read_supported_role(s: &[u8]) -> Read
-    ensures { λ r. ⌜ gotOf r ≡ ofKind Kind.SupportedRole (now (s .entry)) ⌝ }
+fn read_supported_role(s: &[u8]) -> RecordAnswer
+    ensures { λ r. ⌜ gotOf r ≡ ofKind RecordKind.SupportedRole (now (s .entry)) ⌝ }
 {
     let role = byte_at(s, 0);
     fixed(1, role == 0, Record::SupportedRole(role), s)
 }
 
-fn read_supported_freq_band(s: &[u8]) -> Read
-    ensures { λ r. ⌜ gotOf r ≡ ofKind Kind.SupportedFreqBand (now (s .entry)) ⌝ }
+fn read_supported_freq_band(s: &[u8]) -> RecordAnswer
+    ensures { λ r. ⌜ gotOf r ≡ ofKind RecordKind.SupportedFreqBand (now (s .entry)) ⌝ }
 {
     let band = SupportedFreqBand::from_u8(byte_at(s, 0));
     fixed(1, true, Record::SupportedFreqBand(band), s)
 }
 
-fn read_ieee1905_profile_version(s: &[u8]) -> Read
-    ensures { λ r. ⌜ gotOf r ≡ ofKind Kind.Ieee1905ProfileVersion (now (s .entry)) ⌝ }
+fn read_ieee1905_profile_version(s: &[u8]) -> RecordAnswer
+    ensures { λ r. ⌜ gotOf r ≡ ofKind RecordKind.Ieee1905ProfileVersion (now (s .entry)) ⌝ }
 {
     let version = Ieee1905ProfileVersion::from_u8(byte_at(s, 0));
     fixed(1, true, Record::Ieee1905ProfileVersion(version), s)
 }
 
-fn read_link_metric_result_code(s: &[u8]) -> Read
-    ensures { λ r. ⌜ gotOf r ≡ ofKind Kind.LinkMetricResultCode (now (s .entry)) ⌝ }
+fn read_link_metric_result_code(s: &[u8]) -> RecordAnswer
+    ensures { λ r. ⌜ gotOf r ≡ ofKind RecordKind.LinkMetricResultCode (now (s .entry)) ⌝ }
 {
     let result = LinkMetricResultCode::from_u8(byte_at(s, 0));
     fixed(1, true, Record::LinkMetricResultCode(result), s)
 }
 
 // Only a query about one neighbour, whose first byte is 1, has an address.
-fn read_link_metric_query(s: &[u8]) -> Read
-    ensures { λ r. ⌜ gotOf r ≡ ofKind Kind.LinkMetricQuery (now (s .entry)) ⌝ }
+fn read_link_metric_query(s: &[u8]) -> RecordAnswer
+    ensures { λ r. ⌜ gotOf r ≡ ofKind RecordKind.LinkMetricQuery (now (s .entry)) ⌝ }
 {
     let neighbor_type = byte_at(s, 0);
     if neighbor_type == 1 {
@@ -120,8 +120,8 @@ fn read_link_metric_query(s: &[u8]) -> Read
     fixed(2, true, Record::LinkMetricQuery(query), s)
 }
 
-pub fn read_client_association(s: &[u8]) -> Read
-    ensures { λ r. ⌜ gotOf r ≡ ofKind Kind.ClientAssociation (now (s .entry)) ⌝ }
+pub fn read_client_association(s: &[u8]) -> RecordAnswer
+    ensures { λ r. ⌜ gotOf r ≡ ofKind RecordKind.ClientAssociation (now (s .entry)) ⌝ }
 {
     let last = byte_at(s, 12);
     let association = ClientAssociation {
@@ -137,8 +137,8 @@ pub fn read_client_association(s: &[u8]) -> Read
     )
 }
 
-fn read_multi_ap_profile(s: &[u8]) -> Read
-    ensures { λ r. ⌜ gotOf r ≡ ofKind Kind.MultiApProfile (now (s .entry)) ⌝ }
+fn read_multi_ap_profile(s: &[u8]) -> RecordAnswer
+    ensures { λ r. ⌜ gotOf r ≡ ofKind RecordKind.MultiApProfile (now (s .entry)) ⌝ }
 {
     let first = byte_at(s, 0);
     let profile = MultiApProfile::from_u8(first);
@@ -146,8 +146,8 @@ fn read_multi_ap_profile(s: &[u8]) -> Read
 }
 
 // The third byte: units in bits 7-6, flags in bits 5, 4 and 3, and three reserved bits, which are kept.
-fn read_profile2_ap_capability(s: &[u8]) -> Read
-    ensures { λ r. ⌜ gotOf r ≡ ofKind Kind.Profile2ApCapability (now (s .entry)) ⌝ }
+fn read_profile2_ap_capability(s: &[u8]) -> RecordAnswer
+    ensures { λ r. ⌜ gotOf r ≡ ofKind RecordKind.Profile2ApCapability (now (s .entry)) ⌝ }
 {
     let flags = byte_at(s, 2);
     let capability = Profile2ApCapability {
@@ -164,19 +164,19 @@ fn read_profile2_ap_capability(s: &[u8]) -> Read
 }
 
 // A layout of so many bytes, and the record in them: the value may end inside the layout, or hold what its kind refuses. Bytes behind it are the rest.
-fn fixed(size: usize, accepted: bool, item: Record, s: &[u8]) -> Read
+fn fixed(size: usize, accepted: bool, item: Record, s: &[u8]) -> RecordAnswer
     ensures { λ r. ⌜ gotOf r ≡ fixed size accepted item (now (s .entry)) ⌝ }
 {
     if s.len() < size {
-        return Read::Refused(Refusal::CutShort);
+        return RecordAnswer::Refused(Refusal::CutShort);
     }
     if accepted {
-        return Read::Got {
+        return RecordAnswer::Got {
             record: item,
             consumed: size,
         };
     }
-    Read::Refused(Refusal::BadValue)
+    RecordAnswer::Refused(Refusal::BadValue)
 }
 
 // The address in the six bytes from p; the layouts have addresses at 0, 1 and 6.

@@ -3,7 +3,7 @@ use mathlib.Core.List.{List, []}
 use Prim.Native.Nat.{ℕ}
 use Rattle.numbers.specs.Numbers.{Answer, gives, refuses, told, andThen, mapped}
 use Rattle.records.specs.declared.ClientAssociation.{ClientAssociation}
-use Rattle.records.specs.declared.Kind.{Kind}
+use Rattle.records.specs.declared.RecordKind.{RecordKind}
 use Rattle.records.specs.declared.Record.{Record}
 use Rattle.records.specs.Kinds.{codeOf}
 use Rattle.records.specs.Reading.{readRecord}
@@ -43,7 +43,7 @@ associationOf (Record.MultiApProfile p) = refuses 16 []
 associationOf (Record.Profile2ApCapability c) = refuses 16 []
 
 abbrev pub associationCode : ℕ
-associationCode = codeOf Kind.ClientAssociation
+associationCode = codeOf RecordKind.ClientAssociation
 
 -- the association in a value of kind 0x92, as the existing reader gives it: its 3 and 5; and how many bytes it took
 pub record AssociationRead : Type 0 where

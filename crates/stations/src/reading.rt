@@ -3,8 +3,8 @@ use crate::Answered;
 use crate::Applied;
 use numbers::Refusal;
 use records::ClientAssociation;
-use records::Read;
 use records::Record;
+use records::RecordAnswer;
 ghost use mathlib.Core.Path.{_≡_};
 ghost use Rattle.numbers.specs.Numbers.{mapped};
 ghost use Rattle.stations.specs.Events.{answeredOf, appliedOf, associationRead};
@@ -23,14 +23,14 @@ pub(crate) fn association_in(value: &[u8]) -> Association
     ensures { λ r. ⌜ associationGot r ≡ associationRead (now (value .entry)) ⌝ }
 {
     match records::read_client_association(value) {
-        Read::Got { record, consumed } => {
+        RecordAnswer::Got { record, consumed } => {
             // Of this kind reading gives no other record.
             let Record::ClientAssociation(e) = record else {
                 return Association::Refused(Refusal::UnknownKind);
             };
             Association::Event { e, consumed }
         }
-        Read::Refused(refusal) => Association::Refused(refusal),
+        RecordAnswer::Refused(refusal) => Association::Refused(refusal),
     }
 }
 
