@@ -9,7 +9,8 @@ use Rattle.numbers.specs.Numbers.{gives, refuses}
 use Rattle.machines.specs.Machine.{those}
 use Rattle.framing.specs.Tlv.{readTlv, valueIn, header, writeSize, leaves}
 use Rattle.framing.specs.Cmdu.{readHeader}
-use Rattle.walking.specs.Walk.{passed, last, ended, stepAt, walkOf, counted, listed, filled}
+use Rattle.walking.specs.Steps.{passed, last, ended}
+use Rattle.walking.specs.Walk.{stepAt, walkOf, counted, listed, filled}
 use Rattle.records.specs.declared.Record.{Record}
 use Rattle.records.specs.declared.SupportedFreqBand.{SupportedFreqBand}
 use Rattle.records.specs.declared.Ieee1905ProfileVersion.{Ieee1905ProfileVersion}

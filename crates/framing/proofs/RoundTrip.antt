@@ -1,12 +1,12 @@
 -- Reading what was written gives the same type and value, and writing what was read gives the consumed bytes.
 use mathlib.Core.Path.{_≡_, sym, ap, _∙_}
 use mathlib.Core.List.{List, [], _∷_, _++_}
-use Prim.Native.Nat.{ℕ, _+_, _/_, _%_, _≤_}
+use Prim.Native.Nat.{ℕ, _+_, _≤_}
 use native.Mathlib.Omega.{arith}
 use lib.ListN.{length, take, drop, length-append}
 use lib.Seq.{take-append-seam, take-add, length-take-le}
 use Rattle.numbers.specs.Numbers.{gives}
-use Rattle.numbers.specs.Bytes.{inBytes, Bytes}
+use Rattle.numbers.specs.Bytes.{inBytes, AllBytes}
 use Rattle.numbers.proofs.Bytes.{said-back, bytes-at-back}
 use Rattle.framing.specs.Tlv.{TlvRead, readTlv, declared, valueIn, longestValue, tlvBytes}
 use Rattle.framing.specs.Claims.{asRead}
@@ -21,10 +21,10 @@ read-written t v rest h =
 pub value-written : (t : ℕ) (v rest : List ℕ) → length v ≤ longestValue → valueIn (readTlv (tlvBytes t v ++ rest)) (tlvBytes t v ++ rest) ≡ v
 value-written t v rest h = rw (← read-written t v rest h) (take-append-seam v rest)
 
-pub written-read : (s : List ℕ) → Bytes s → (t : TlvRead) → gives t ≡ readTlv s → tlvBytes (t .tlv-type) (valueIn (readTlv s) s) ≡ take (t .consumed) s
+pub written-read : (s : List ℕ) → AllBytes s → (t : TlvRead) → gives t ≡ readTlv s → tlvBytes (t .tlv-type) (valueIn (readTlv s) s) ≡ take (t .consumed) s
 written-read s b t e = rw (← e) (by-bytes s b t (reads s t e))
   where
-    by-bytes : (s : List ℕ) → Bytes s → (t : TlvRead) → Reads s t → tlvBytes (t .tlv-type) (take (t .value-length) (drop 3 s)) ≡ take (t .consumed) s
+    by-bytes : (s : List ℕ) → AllBytes s → (t : TlvRead) → Reads s t → tlvBytes (t .tlv-type) (take (t .value-length) (drop 3 s)) ≡ take (t .consumed) s
     by-bytes [] b t r = absurd (omega (arith, r .all, r .inside))
     by-bytes (x ∷ []) b t r = absurd (omega (arith, r .all, r .inside))
     by-bytes (x ∷ y ∷ []) b t r = absurd (omega (arith, r .all, r .inside))

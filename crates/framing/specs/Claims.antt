@@ -5,7 +5,7 @@ use Prim.Native.Nat.{ℕ, _+_, _<_, _≤_}
 use lib.ListN.{length, take}
 use denote.Ref.{RefT, now}
 use Rattle.numbers.specs.Numbers.{Answer, gives, refuses}
-use Rattle.numbers.specs.Bytes.{Bytes}
+use Rattle.numbers.specs.Bytes.{AllBytes}
 use Rattle.numbers.specs.Parts.{behind}
 use Rattle.numbers.specs.Firmness.{Firm}
 use Rattle.framing.specs.Tlv.{TlvRead, readOf, readTlv, valueIn, valueFrom, header, tlvBytes, writtenOf, longestValue, writeSize, leaves}
@@ -31,7 +31,7 @@ pub record RoundTrip : Type 0 where
   pub read-written : (t : ℕ) (v rest : List ℕ) → length v ≤ longestValue → gives (asRead t v) ≡ readTlv (tlvBytes t v ++ rest)
   pub value-written : (t : ℕ) (v rest : List ℕ) → length v ≤ longestValue → valueIn (readTlv (tlvBytes t v ++ rest)) (tlvBytes t v ++ rest) ≡ v
   -- writing what was read gives the consumed bytes
-  pub written-read : (s : List ℕ) → Bytes s → (t : TlvRead) → gives t ≡ readTlv s → tlvBytes (t .tlv-type) (valueIn (readTlv s) s) ≡ take (t .consumed) s
+  pub written-read : (s : List ℕ) → AllBytes s → (t : TlvRead) → gives t ≡ readTlv s → tlvBytes (t .tlv-type) (valueIn (readTlv s) s) ≡ take (t .consumed) s
 
 -- 2026-01: "the exact shortfall: the bytes that must be added before that same number would no longer be given"
 abbrev pub numberIn : {A : Type 0} → Answer A → ℕ

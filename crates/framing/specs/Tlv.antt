@@ -11,7 +11,7 @@ use Rattle.framing.specs.declared.Read.the-variants as Read
 use Rattle.framing.specs.declared.Written.{Written}
 use Rattle.framing.specs.declared.Written.the-variants as Written
 
--- what reading gives: the type, how long the value is that stands behind the three header bytes, and the bytes consumed
+-- what reading gives: the type, how long the value is that stands after the three header bytes, and the bytes consumed
 pub record TlvRead : Type 0 where
   pub tlv-type : ℕ
   pub value-length : ℕ

@@ -12,7 +12,7 @@ ghost use Rattle.framing.specs.Cmdu.{headerOf, readHeader};
 // The longest value that a length in two bytes can say.
 const LONGEST_VALUE: usize = 65535;
 
-// What reading a TLV finds: its type, the length of its value, and the bytes consumed. The value stands behind the three header bytes.
+// What reading a TLV finds: its type, the length of its value, and the bytes consumed. The value stands after the three header bytes.
 pub enum Read {
     Whole {
         tlv_type: u8,

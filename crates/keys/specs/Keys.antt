@@ -3,7 +3,7 @@ use mathlib.Core.Path.{_≡_}
 use mathlib.Core.List.{List}
 use Prim.Native.Nat.{ℕ, _+_, _*_, _/_, _%_, _<_}
 use lib.ListN.{length}
-use Rattle.numbers.specs.Bytes.{bigEndian, inBytes, Bytes}
+use Rattle.numbers.specs.Bytes.{bigEndian, inBytes, AllBytes}
 
 abbrev pub keyOf : List ℕ → ℕ → ℕ
 keyOf sender message-id = bigEndian sender * 65536 + message-id
@@ -13,7 +13,7 @@ pub record Origin : Type 0 where
   pub sender : List ℕ
   pub message-id : ℕ
   pub six : length sender ≡ 6
-  pub bytes : Bytes sender
+  pub bytes : AllBytes sender
   pub two : message-id < 65536
 
 abbrev pub keyFor : Origin → ℕ

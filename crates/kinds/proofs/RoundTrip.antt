@@ -11,7 +11,7 @@ use borrow.Author.Tests.{ltb-true, ltb-false}
 use Rattle.numbers.specs.Numbers.{Answer, gives, refuses, andThen, mapped}
 use Rattle.numbers.proofs.Answers.{given, mapped-gave, mapped-given}
 use Rattle.framing.specs.Tlv.{TlvRead, readTlv, valueIn, longestValue, writeSize, tlvBytes}
-use Rattle.numbers.specs.Bytes.{Bytes}
+use Rattle.numbers.specs.Bytes.{AllBytes}
 use Rattle.framing.proofs.Claims.{round-trip}
 use Rattle.records.specs.declared.Record.{Record}
 use Rattle.records.specs.Kinds.{codeOf, kindOf}
@@ -64,7 +64,7 @@ six x y a b e f = rw (e, f)
 no-parts : (x y : Answer (Typed Record)) (s v : List ℕ) (a b : Typed Record) → x ≡ gives a → y ≡ gives b → partOf (andThen x (λ t. refuses 6 [])) v ≡ partOf (andThen y (λ t. refuses 6 [])) s
 no-parts x y s v a b e f = rw (e, f)
 
-module _ (code : ℕ) (s : List ℕ) (bytes : Bytes s) where
+module _ (code : ℕ) (s : List ℕ) (bytes : AllBytes s) where
   no-radios : {A : Type 0} {family : Family} → family ≡ familyOf code → (family ≡ Family.Text → ⊥) → code ≡ 0xD4 → A
   no-radios e n c = absurd (n (e ∙ ap familyOf c ∙ inventory))
 
@@ -154,7 +154,7 @@ record Kept (code : ℕ) (s : List ℕ) (t : Typed Record) (r : Record) : Type 0
   pub bytes : bytesOf r ≡ take (t .consumed) s
   pub writable : readable r ≡ true
 
-module _ (code : ℕ) (s : List ℕ) (bytes : Bytes s) (t : Typed Record) (r : Record) (held : t .held ≡ one r) where
+module _ (code : ℕ) (s : List ℕ) (bytes : AllBytes s) (t : Typed Record) (r : Record) (held : t .held ≡ one r) where
   kept-by : (family : Family) → readBy family code s ≡ gives t → Kept code s t r
   kept-by Family.List h = let g = mapped-gave oneList (readValue code s) t h in let z : _≡_ {A = ℕ} 0 1 = cc (ap (λ t. t .held) (given (oneList (g .first)) t (g .then))) in absurd (omega arith)
   kept-by Family.Text h = let g = mapped-gave oneList (readText code s) t h in let z : _≡_ {A = ℕ} 0 1 = cc (ap (λ t. t .held) (given (oneList (g .first)) t (g .then))) in absurd (omega arith)
@@ -182,7 +182,7 @@ value-writes-back code s t bytes e = record {
 }
 
 -- a part of bytes are bytes
-part-bytes : (n k : ℕ) (s : List ℕ) → Bytes s → Bytes (take n (drop k s))
+part-bytes : (n k : ℕ) (s : List ℕ) → AllBytes s → AllBytes (take n (drop k s))
 part-bytes n k s bytes i = go (ltb i n) refl
   where
     go : (b : Bool) → ltb i n ≡ b → getD (take n (drop k s)) i 0 < 256
@@ -191,7 +191,7 @@ part-bytes n k s bytes i = go (ltb i n) refl
 
 pub tlv-writes-back : TlvWritesBack
 tlv-writes-back s t v bytes e h rest =
-    let b : Bytes (valueAt s) = rw e (part-bytes (t .value-length) 3 s bytes) in
+    let b : AllBytes (valueAt s) = rw e (part-bytes (t .value-length) 3 s bytes) in
     let all = within (t .tlv-type) (valueAt s) v (sym h) .1 in
     let c : v .consumed ≡ length (valueAt s) = omega arith in
     subst (WritesBack (t .tlv-type) (valueAt s) v)

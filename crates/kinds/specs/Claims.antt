@@ -9,7 +9,7 @@ use Rattle.numbers.specs.Numbers.{gives, mapped}
 use Rattle.numbers.specs.Firmness.{Firm}
 use Rattle.numbers.specs.Parts.{behind}
 use Rattle.framing.specs.Tlv.{TlvRead, readTlv, valueIn, writtenOf, longestValue, writeSize, tlvBytes, leaves}
-use Rattle.numbers.specs.Bytes.{Bytes}
+use Rattle.numbers.specs.Bytes.{AllBytes}
 use Rattle.framing.specs.Claims.{asRead}
 use Rattle.framing.specs.declared.Written.{Written}
 use Rattle.records.specs.declared.Record.{Record}
@@ -63,7 +63,7 @@ pub record SameValue (code : ℕ) (t : Typed Record) (s v : List ℕ) : Type 0 w
 
 -- what is written from a value reads back, whatever stands after it
 abbrev pub ReadsBack : Type 0
-ReadsBack = (code : ℕ) (s behind : List ℕ) (t : Typed Record) → Bytes s → readKind code s ≡ gives t → t .consumed ≤ longestValue
+ReadsBack = (code : ℕ) (s behind : List ℕ) (t : Typed Record) → AllBytes s → readKind code s ≡ gives t → t .consumed ≤ longestValue
     → (readTlv (kindBytes code s ++ behind) ≡ gives (asRead code (take (t .consumed) s)))
     × SameValue code t s (valueAt (kindBytes code s ++ behind))
 
@@ -81,11 +81,11 @@ pub record WritesBack (code : ℕ) (s : List ℕ) (t : Typed Record) (tlv : List
 
 -- a value that was read: the TLV of the consumed bytes, and nothing of the rest
 abbrev pub ValueWritesBack : Type 0
-ValueWritesBack = (code : ℕ) (s : List ℕ) (t : Typed Record) → Bytes s → readKind code s ≡ gives t → WritesBack code s t (tlvBytes code (take (t .consumed) s))
+ValueWritesBack = (code : ℕ) (s : List ℕ) (t : Typed Record) → AllBytes s → readKind code s ≡ gives t → WritesBack code s t (tlvBytes code (take (t .consumed) s))
 
 -- a TLV that was read, whose value reads with no rest: the TLV's own bytes
 abbrev pub TlvWritesBack : Type 0
-TlvWritesBack = (s : List ℕ) (t : TlvRead) (v : Typed Record) → Bytes s → readTlv s ≡ gives t → readKind (t .tlv-type) (valueAt s) ≡ gives v → v .rest ≡ 0
+TlvWritesBack = (s : List ℕ) (t : TlvRead) (v : Typed Record) → AllBytes s → readTlv s ≡ gives t → readKind (t .tlv-type) (valueAt s) ≡ gives v → v .rest ≡ 0
     → WritesBack (t .tlv-type) (valueAt s) v (take (t .consumed) s)
 
 -- everything that is claimed of this crate

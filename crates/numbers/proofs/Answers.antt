@@ -9,7 +9,7 @@ use Rattle.numbers.proofs.Firm.{never}
 pub given : {A : Type 0} (a b : A) → gives a ≡ gives b → a ≡ b
 given a b e = cc
 
--- behind what is given comes what follows; behind a refusal, nothing
+-- after what is given comes what follows; after a refusal, nothing
 pub follows : {A B : Type 0} (x : Answer A) (a : A) (f : A → Answer B) → x ≡ gives a → andThen x f ≡ f a
 follows x a f e = rw e
 

@@ -7,7 +7,7 @@ use native.Mathlib.Nat.{pow-suc, zero-add, add-zero}
 use native.Mathlib.Numerals.{add-one}
 use lib.ListN.{length, take, drop, getD, length-drop}
 use lib.Seq.{drop-cons, getD-drop, length-take-le, drop-append-le, take-append-le}
-use Rattle.numbers.specs.Bytes.{bigEndianAfter, bigEndian, numberAt, inBytes, Bytes}
+use Rattle.numbers.specs.Bytes.{bigEndianAfter, bigEndian, numberAt, inBytes, AllBytes}
 
 -- bytes after bytes
 pub after-append : (n : ℕ) (a b : List ℕ) → bigEndianAfter n (a ++ b) ≡ bigEndianAfter (bigEndianAfter n a) b
@@ -19,8 +19,8 @@ said-back zero n h = omega (arith, h)
 said-back (suc w) n h =
     after-append 0 (inBytes w (n / 256)) (n % 256 ∷ []) ∙ rw (said-back w (n / 256) (omega (arith, h, pow-suc 256 w))) (omega arith)
 
--- the bytes of a number behind which some bytes stand
-in-bytes-after : (w n : ℕ) (bs : List ℕ) → Bytes bs → inBytes (length bs + w) (bigEndianAfter n bs) ≡ inBytes w n ++ bs
+-- the bytes of a number after which some bytes stand
+in-bytes-after : (w n : ℕ) (bs : List ℕ) → AllBytes bs → inBytes (length bs + w) (bigEndianAfter n bs) ≡ inBytes w n ++ bs
 in-bytes-after w n [] h = rw (zero-add, append-nil)
 in-bytes-after w n (b ∷ bs) h =
     let more : suc (length bs) + w ≡ length bs + suc w = omega arith in
@@ -28,18 +28,18 @@ in-bytes-after w n (b ∷ bs) h =
     let low : (n * 256 + b) % 256 ≡ b = omega (arith, h 0) in
     rw (more, in-bytes-after (suc w) (n * 256 + b) bs (λ i. h (suc i)), high, low, append-assoc)
 
-pub bytes-back : (bs : List ℕ) → Bytes bs → inBytes (length bs) (bigEndian bs) ≡ bs
+pub bytes-back : (bs : List ℕ) → AllBytes bs → inBytes (length bs) (bigEndian bs) ≡ bs
 bytes-back bs h = rw (← add-zero (length bs)) (in-bytes-after 0 0 bs h)
 
 -- so many bytes say one number alone
-pub one-number : (a b : List ℕ) → length a ≡ length b → Bytes a → Bytes b → bigEndian a ≡ bigEndian b → a ≡ b
+pub one-number : (a b : List ℕ) → length a ≡ length b → AllBytes a → AllBytes b → bigEndian a ≡ bigEndian b → a ≡ b
 one-number a b l h k e = sym (bytes-back a h) ∙ rw (l, e) (bytes-back b k)
 
 -- a part of bytes is bytes
-part-bytes : (w p : ℕ) (s : List ℕ) → Bytes s → Bytes (take w (drop p s))
+part-bytes : (w p : ℕ) (s : List ℕ) → AllBytes s → AllBytes (take w (drop p s))
 part-bytes w p s h = start w (drop p s) (λ i. rw getD-drop (h (p + i)))
   where
-    start : (w : ℕ) (s : List ℕ) → Bytes s → Bytes (take w s)
+    start : (w : ℕ) (s : List ℕ) → AllBytes s → AllBytes (take w s)
     start zero s h i = omega arith
     start (suc w) [] h i = omega arith
     start (suc w) (b ∷ s) h zero = h 0
@@ -59,7 +59,7 @@ module _ (w p : ℕ) (s : List ℕ) (inside : p + w ≤ length s) where
       taken (suc w) p h = rw (drop-cons s p 0 (omega arith), taken w (p + 1) (omega arith), add-one)
 
   -- it says the bytes where it stands
-  pub bytes-at-back : Bytes s → inBytes w (numberAt w p s) ≡ take w (drop p s)
+  pub bytes-at-back : AllBytes s → inBytes w (numberAt w p s) ≡ take w (drop p s)
   bytes-at-back h =
       let l : length (take w (drop p s)) ≡ w = length-take-le w (drop p s) (simp length-drop (omega arith)) in
       rw l at (bytes-back (take w (drop p s)) (part-bytes w p s h))

@@ -21,5 +21,5 @@ inBytes zero n = []
 inBytes (suc w) n = inBytes w (n / 256) ++ (n % 256 ∷ [])
 
 -- each element is a byte
-abbrev pub Bytes : List ℕ → Type 0
-Bytes s = (i : ℕ) → getD s i 0 < 256
+abbrev pub AllBytes : List ℕ → Type 0
+AllBytes s = (i : ℕ) → getD s i 0 < 256

@@ -3,7 +3,7 @@ use mathlib.Core.Path.{_≡_}
 use mathlib.Core.List.{List, [], _∷_}
 use Prim.Native.Nat.{ℕ, _^_, _<_}
 use lib.ListN.{length}
-use Rattle.numbers.specs.Bytes.{bigEndian, inBytes, Bytes}
+use Rattle.numbers.specs.Bytes.{bigEndian, inBytes, AllBytes}
 use Rattle.numbers.specs.Numbers.{number, values, carried}
 use Rattle.numbers.specs.Firmness.{Firm}
 use Rattle.numbers.specs.declared.Refusal.{Refusal}
@@ -22,7 +22,7 @@ ToldApart = (a b : Refusal) → number a ≡ number b → values a ≡ values b 
 -- a number and its bytes say each other
 pub record SaidBack : Type 0 where
   pub of-number : (w n : ℕ) → n < 256 ^ w → bigEndian (inBytes w n) ≡ n
-  pub of-bytes : (bs : List ℕ) → Bytes bs → inBytes (length bs) (bigEndian bs) ≡ bs
+  pub of-bytes : (bs : List ℕ) → AllBytes bs → inBytes (length bs) (bigEndian bs) ≡ bs
 
 -- everything that is claimed of this crate
 pub record Claims : Type 0 where

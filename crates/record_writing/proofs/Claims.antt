@@ -8,7 +8,7 @@ use lib.ListN.{length}
 use lib.Seq.{length-take-le}
 use Rattle.numbers.specs.Numbers.{gives}
 use Rattle.numbers.proofs.Firm.{by-equation, by-telling, both}
-use Rattle.numbers.specs.Bytes.{Bytes}
+use Rattle.numbers.specs.Bytes.{AllBytes}
 use Rattle.framing.specs.Claims.{asRead}
 use Rattle.framing.specs.Tlv.{longestValue, readTlv, valueIn, tlvBytes, writtenOf}
 use Rattle.framing.proofs.Firm.{written-one}
@@ -38,7 +38,7 @@ read-back r rest h e = by-kind (kindOf r) (bytesOf r ++ rest) ∙ back r rest h 
 alone : (r : Record) → readable r ≡ true → readRecord (codeOf (kindOf r)) (bytesOf r) ≡ gives (itself r)
 alone r h = rw (append-nil (bytesOf r)) at (read-back r [] h (λ e. refl))
 
-write-back : (c : ℕ) (s : List ℕ) (x : RecordRead) → Bytes s → readRecord c s ≡ gives x → Rewritten c s x
+write-back : (c : ℕ) (s : List ℕ) (x : RecordRead) → AllBytes s → readRecord c s ≡ gives x → Rewritten c s x
 write-back c s x b e =
     let k = kind-read c s x e in
     let y = kept (k .kind) s b x (k .reads) in
@@ -47,7 +47,7 @@ write-back c s x b e =
     let again : itself (x .value) ≡ x = rw size in
     record { own = own; bytes = y .bytes; writable = y .good; alone = rw (← y .bytes, ← own, ← again) (alone (x .value) (y .good)) }
 
-never-read : (r : Record) (c : ℕ) (s : List ℕ) (x : RecordRead) → readable r ≡ false → Bytes s → readRecord c s ≡ gives x → x .value ≡ r → ⊥
+never-read : (r : Record) (c : ℕ) (s : List ℕ) (x : RecordRead) → readable r ≡ false → AllBytes s → readRecord c s ≡ gives x → x .value ≡ r → ⊥
 never-read r c s x f b e v =
     let z : true ≡ false = sym (write-back c s x b e .writable) ∙ ap readable v ∙ f in
     let z′ : _≡_ {A = ℕ} 0 1 = cc in

@@ -9,7 +9,7 @@ use lib.ListN.{length, getD, take, drop}
 use lib.Seq.{drop-cons}
 use borrow.Author.Tests.{le-leb, ltb-true, lt-ltb, eqb-true, eqb-false}
 use Rattle.numbers.specs.Numbers.{gives}
-use Rattle.numbers.specs.Bytes.{Bytes}
+use Rattle.numbers.specs.Bytes.{AllBytes}
 use Rattle.records.specs.declared.AssociationState.{AssociationState}
 use Rattle.records.specs.declared.Record.{Record}
 use Rattle.records.specs.Values.{bandOf, bandByte, versionOf, versionByte, resultOf, resultByte, profileOf, profileByte, stateOf, stateByte, hasAddress, queryIn, bytesOf}
@@ -81,7 +81,7 @@ query-kept s h = go (eqb (getD s 0 0) 1) refl
     go true e = record { same = refl; bytes = simp e (front 8 s (simp e at h)); good = simp e }
     go false e = record { same = refl; bytes = simp e (front 2 s (simp e at h)); good = simp e }
 
-pub kept : (k : RecordKind) (s : List ℕ) → Bytes s → (x : RecordRead) → ofKind k s ≡ gives x → Kept k s x
+pub kept : (k : RecordKind) (s : List ℕ) → AllBytes s → (x : RecordRead) → ofKind k s ≡ gives x → Kept k s x
 kept RecordKind.EndOfMessage s b x e = rw (← reads-empty _ s x e) (record { same = refl; bytes = refl; good = refl })
 kept RecordKind.AlMacAddress s b x e = holds _ _ _ _ s x e (λ h a. record { same = refl; bytes = front 6 s h; good = refl })
 kept RecordKind.MacAddress s b x e = holds _ _ _ _ s x e (λ h a. record { same = refl; bytes = front 6 s h; good = refl })

@@ -7,7 +7,7 @@ use lib.ListN.{length, take}
 use Rattle.numbers.specs.Numbers.{gives}
 use Rattle.numbers.specs.Firmness.{Firm}
 use Rattle.framing.specs.declared.Written.{Written}
-use Rattle.numbers.specs.Bytes.{Bytes}
+use Rattle.numbers.specs.Bytes.{AllBytes}
 use Rattle.framing.specs.Claims.{asRead}
 use Rattle.framing.specs.Tlv.{readTlv, valueIn, tlvBytes, writtenOf, leaves}
 use Rattle.records.specs.declared.Record.{Record}
@@ -46,9 +46,9 @@ pub record RoundTrips : Type 0 where
   pub tlv-back : (item : Record) (rest : List ℕ) → readable item ≡ true → let t = tlvBytes (codeOf (kindOf item)) (bytesOf item) ++ rest in
       (readTlv t ≡ gives (asRead (codeOf (kindOf item)) (bytesOf item)))
       × (readRecord (codeOf (kindOf item)) (valueIn (readTlv t) t) ≡ gives (itself item))
-  pub write-back : (code : ℕ) (s : List ℕ) (x : RecordRead) → Bytes s → readRecord code s ≡ gives x → Rewritten code s x
+  pub write-back : (code : ℕ) (s : List ℕ) (x : RecordRead) → AllBytes s → readRecord code s ≡ gives x → Rewritten code s x
   -- no bytes read as a record that is refused by 9
-  pub never-read : (item : Record) (code : ℕ) (s : List ℕ) (x : RecordRead) → readable item ≡ false → Bytes s → readRecord code s ≡ gives x → x .value ≡ item → ⊥
+  pub never-read : (item : Record) (code : ℕ) (s : List ℕ) (x : RecordRead) → readable item ≡ false → AllBytes s → readRecord code s ≡ gives x → x .value ≡ item → ⊥
 
 -- everything that is claimed of this crate
 pub record Claims : Type 0 where

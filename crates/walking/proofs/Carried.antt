@@ -1,10 +1,10 @@
 -- How far a walk goes alike with more bytes after the payload: over all its TLVs, where none is a marker, and up to where it ended or was refused.
-use mathlib.Core.Path.{_≡_, refl, sym, ap, _∙_}
-use mathlib.Core.Bool.{Bool, true, false}
-use mathlib.Core.List.{List, [], _∷_, _++_}
-use Prim.Native.Nat.{ℕ, zero, suc, _+_, _<_, _≤_}
+use mathlib.Core.Path.{_≡_, sym, ap, _∙_}
+use mathlib.Core.Bool.{true, false}
+use mathlib.Core.List.{List, [], _++_}
+use Prim.Native.Nat.{ℕ, zero, suc, _+_, _≤_}
 use native.Mathlib.Omega.{arith}
-use lib.ListN.{length, length-append, drop, take, getD}
+use lib.ListN.{length, length-append, drop}
 use lib.Seq.{drop-append-le}
 use Rattle.numbers.specs.Numbers.{Answer, gives, refuses}
 use Rattle.numbers.proofs.Firm.{never}
@@ -12,12 +12,11 @@ use Rattle.framing.specs.Tlv.{readTlv}
 use Rattle.framing.proofs.Shortfall.{longer}
 use Rattle.walking.specs.declared.Tlv.{Tlv}
 use Rattle.walking.specs.Steps.{ended, passed, last}
-use Rattle.walking.specs.Walk.{isMarker, stepAt, noTlv}
+use Rattle.walking.specs.Walk.{isMarker, stepAt}
 use Rattle.walking.specs.Claims.{Unmarked}
 use Rattle.walking.proofs.Chained.{Has}
 use Rattle.walking.proofs.Going.{at-end, onward, final, stopped}
 use Rattle.walking.proofs.Stepping.{passes, steps, steps-same}
-use Rattle.walking.proofs.Stepping as step
 
 -- the marker is a marker
 pub marked-last : {B : Type 0} (p : List ℕ) (at : ℕ) (t : Tlv) (to : ℕ) → gives (last t to) ≡ stepAt p at → isMarker t ≡ false → B

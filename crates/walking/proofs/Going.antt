@@ -4,7 +4,7 @@ use mathlib.Core.List.{List, [], _∷_}
 use Prim.Native.Nat.{ℕ, zero, suc, _-_, _<_, _≤_}
 use native.Mathlib.Omega.{arith}
 use Rattle.numbers.specs.Numbers.{Answer, gives, refuses}
-use Rattle.walking.specs.Steps.{Ahead, ended, passed, last, Walk, walkBy, walkFrom}
+use Rattle.walking.specs.Steps.{Ahead, ended, passed, last, walkBy, walkFrom}
 
 pub data Goes {A : Type 0} (step : ℕ → Answer (Ahead A)) (size : ℕ) : ℕ → List A → Answer ℕ → Type 0 where
   at-end : {at : ℕ} → gives ended ≡ step at → Goes step size at [] (gives 0)

@@ -16,7 +16,7 @@ use Rattle.walking.specs.Walk.{isMarker, stepAt, walkOf, noTlv, offsetAt
 use Rattle.walking.specs.Claims.{Ends, Unmarked}
 use Rattle.walking.proofs.Carried.{marked-last}
 use Rattle.walking.proofs.Chained.{Has, of-walk, the-walk, stands}
-use Rattle.walking.proofs.Going.{Goes, at-end, onward, final, stopped}
+use Rattle.walking.proofs.Going.{at-end, onward, final, stopped}
 use Rattle.walking.proofs.Stepping.{empty, passes, lasts, Steps, steps, steps-same}
 
 -- the message's bytes up to the offset `cut`, and other bytes after them

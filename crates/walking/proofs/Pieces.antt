@@ -4,18 +4,16 @@ use mathlib.Core.Bool.{Bool, true, false, cond}
 use mathlib.Core.List.{List, [], _∷_, _++_, map, map-append, flatten}
 use Prim.Native.Nat.{ℕ, zero, suc, _+_, _-_, _<_, _≤_}
 use native.Mathlib.Omega.{arith}
-use lib.Dec.{ltb}
-use lib.ListN.{length, take, drop, getD, length-append, length-take, length-drop, length-map, take-append-drop}
+use lib.ListN.{length, take, drop, getD, length-append, length-drop, length-map, take-append-drop}
 use lib.Seq.{drop-append-le, take-append-le, drop-append-add, take-take, take-all, length-take-le}
-use borrow.Author.Tests.{lt-ltb, le-ltb, ltb-true, ltb-false}
-use Rattle.numbers.specs.Numbers.{Answer, gives, refuses}
+use Rattle.numbers.specs.Numbers.{Answer, gives}
 use Rattle.numbers.proofs.Firm.{never}
 use Rattle.numbers.proofs.Answers.{given}
-use Rattle.framing.specs.Tlv.{TlvRead, readTlv}
+use Rattle.framing.specs.Tlv.{readTlv}
 use Rattle.framing.proofs.Reading.{reads-same}
 use Rattle.walking.specs.declared.Tlv.{Tlv}
-use Rattle.walking.specs.Steps.{Ahead, ended, passed, last, Walk}
-use Rattle.walking.specs.Walk.{isMarker, stepBy, stepAt, walkOf, noTlv, offsetAt}
+use Rattle.walking.specs.Steps.{passed, last, Walk}
+use Rattle.walking.specs.Walk.{isMarker, stepAt, walkOf, noTlv, offsetAt}
 use Rattle.walking.specs.Pieces.{pieceOf, pieces}
 use Rattle.walking.specs.Claims.{Unmarked, IsTlv, InPieces}
 use Rattle.walking.proofs.Carried.{carried}

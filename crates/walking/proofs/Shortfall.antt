@@ -2,7 +2,7 @@
 use mathlib.Core.Path.{_≡_, refl, sym, ap, _∙_, subst}
 use mathlib.Core.Bool.{Bool, true, false, cond}
 use mathlib.Core.List.{List, [], _∷_, _++_}
-use Prim.Native.Nat.{ℕ, _+_, _-_, _<_}
+use Prim.Native.Nat.{ℕ, _+_, _<_}
 use native.Mathlib.Omega.{arith}
 use lib.Dec.{ltb}
 use lib.ListN.{length, drop, length-append, length-drop}
@@ -15,11 +15,11 @@ use Rattle.framing.specs.Claims.{numberIn}
 use Rattle.framing.proofs.Shortfall.{numbered, of-tlv, fills-up}
 use Rattle.walking.specs.declared.Tlv.{Tlv}
 use Rattle.walking.specs.Steps.{ended, passed, last, Walk}
-use Rattle.walking.specs.Walk.{isMarker, WalkCount, stepBy, stepAt, walkOf, counted}
+use Rattle.walking.specs.Walk.{isMarker, stepBy, stepAt, walkOf, counted}
 use Rattle.walking.specs.Claims.{refusedAt, MissingAt}
-use Rattle.walking.proofs.Carried.{Carried, carried, refused-unmarked}
+use Rattle.walking.proofs.Carried.{carried, refused-unmarked}
 use Rattle.walking.proofs.Chained.{Has, of-walk, the-walk}
-use Rattle.walking.proofs.Going.{at-end, onward, final, stopped, turned}
+use Rattle.walking.proofs.Going.{at-end, onward, final, stopped}
 use Rattle.walking.proofs.Listed.{ended-by}
 use Rattle.walking.proofs.Stepping.{by-reading}
 use Rattle.walking.proofs.Stepping as step

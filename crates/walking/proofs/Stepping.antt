@@ -2,7 +2,7 @@
 use mathlib.Core.Path.{_≡_, refl, sym, ap, _∙_}
 use mathlib.Core.Bool.{Bool, true, false, cond}
 use mathlib.Core.List.{List}
-use Prim.Native.Nat.{ℕ, zero, suc, _+_, _-_, _≤_, _<_}
+use Prim.Native.Nat.{ℕ, _+_, _-_, _≤_, _<_}
 use native.Mathlib.Omega.{arith}
 use lib.Dec.{eqb, ltb}
 use lib.ListN.{length, take, drop, getD, length-drop}
@@ -48,7 +48,7 @@ module _ (p : List ℕ) (at : ℕ) where
   pub by-mark : at < length p → (r : TlvRead) → gives r ≡ readTlv (drop at p) → (b : Bool) → b ≡ isMarker (recordOf r) → gives (over b (recordOf r) (at + r .consumed)) ≡ stepAt p at
   by-mark h r e b m = ap (λ (x : Bool). gives (over x (recordOf r) (at + r .consumed))) m ∙ by-reading h (gives r) e
 
-  -- the marker ends behind its header's three bytes
+  -- the marker ends after its header's three bytes
   pub by-marker : at < length p → (r : TlvRead) → gives r ≡ readTlv (drop at p) → true ≡ isMarker (recordOf r) → gives (last (recordOf r) (at + 3)) ≡ stepAt p at
   by-marker h r e m =
       let n : at + 3 ≡ at + r .consumed = omega (arith, reads (drop at p) r e .all, empty (recordOf r) (sym m)) in

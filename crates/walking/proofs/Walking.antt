@@ -5,7 +5,7 @@ use Prim.Native.Nat.{ℕ, _+_, _-_, _≤_}
 use native.Mathlib.Omega.{arith}
 use lib.ListN.{length, drop, length-drop}
 use lib.Seq.{drop-drop}
-use Rattle.numbers.specs.Numbers.{Answer, gives, refuses}
+use Rattle.numbers.specs.Numbers.{gives, refuses}
 use Rattle.walking.specs.declared.Tlv.{Tlv}
 use Rattle.walking.specs.Steps.{ended, passed, last}
 use Rattle.walking.specs.Walk.{stepAt, walkOf, counted}

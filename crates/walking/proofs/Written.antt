@@ -1,12 +1,12 @@
 -- The TLVs of a walk that succeeds, one after the other, and then the padding, are the payload, byte for byte: as pieces of it, and written anew.
-use mathlib.Core.Path.{_≡_, refl, sym, ap, _∙_, subst}
-use mathlib.Core.List.{List, [], _∷_, _++_, map, flatten, append-assoc, append-nil}
+use mathlib.Core.Path.{_≡_, sym, ap, _∙_, subst}
+use mathlib.Core.List.{List, _++_, map, flatten, append-assoc, append-nil}
 use Prim.Native.Nat.{ℕ, _+_, _-_, _<_, _≤_}
 use native.Mathlib.Omega.{arith}
 use lib.ListN.{length, take, drop, drop-of-length-le, take-append-drop}
 use lib.Seq.{drop-drop, getD-drop}
 use Rattle.numbers.specs.Numbers.{Answer, gives}
-use Rattle.numbers.specs.Bytes.{Bytes}
+use Rattle.numbers.specs.Bytes.{AllBytes}
 use Rattle.numbers.proofs.Firm.{never}
 use Rattle.numbers.proofs.Answers.{given}
 use Rattle.framing.specs.Tlv.{readTlv, valueIn, tlvBytes}
@@ -26,7 +26,7 @@ module _ (p : List ℕ) where
   pub as-piece : Tells (pieceOf p)
   as-piece at t next o = rw (o .starts)
 
-  pub as-written : Bytes p → Tells (tlvOf p)
+  pub as-written : AllBytes p → Tells (tlvOf p)
   as-written bytes at t next o =
       let f : t .offset + 3 ≡ at + 3 = rw (o .starts) in
       let v : take (t .length) (drop (t .offset + 3) p) ≡ valueIn (readTlv (drop at p)) (drop at p) = rw (← o .reads-as, f, drop-drop) in

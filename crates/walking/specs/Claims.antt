@@ -8,7 +8,7 @@ use Rattle.numbers.specs.Numbers.{Answer, gives, refuses}
 use Rattle.numbers.specs.Firmness.{Firm}
 use Rattle.framing.specs.Tlv.{TlvRead, readTlv, tlvBytes}
 use Rattle.framing.specs.Claims.{numberIn}
-use Rattle.numbers.specs.Bytes.{Bytes}
+use Rattle.numbers.specs.Bytes.{AllBytes}
 use Rattle.walking.specs.declared.Tlv.{Tlv}
 use Rattle.walking.specs.declared.Walked.{Walked}
 use Rattle.walking.specs.Pieces.{pieces}
@@ -27,7 +27,7 @@ tlvOf p t = tlvBytes (t .«tlv_type») (take (t .length) (drop (t .offset + 3) p
 
 -- The TLVs of a walk that succeeds, written one after the other, and then the padding, the payload's last bytes, are the payload, byte for byte.
 abbrev pub WalkWritten : Type 0
-WalkWritten = (p : List ℕ) → Bytes p → (padding : ℕ) → walkOf p .end ≡ gives padding
+WalkWritten = (p : List ℕ) → AllBytes p → (padding : ℕ) → walkOf p .end ≡ gives padding
     → (flatten (map (tlvOf p) (walkOf p .items)) ++ drop (length p - padding) p ≡ p) × (padding ≤ length p)
 
 -- 2026-03: "The message ends with the first TLV of type 0 and length 0; what follows is padding, is not looked at, and its length is given." A marker among the TLVs of a walk is their

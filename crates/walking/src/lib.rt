@@ -60,7 +60,7 @@ pub fn step(payload: &[u8], at: usize) -> Stepped
                 length: length as u16,
                 offset: at,
             };
-            // The marker has no value: the message ends behind its three bytes.
+            // The marker has no value: the message ends after its three bytes.
             if is_marker(tlv) {
                 return Stepped::Last { tlv, end: at + 3 };
             }

@@ -1,4 +1,4 @@
--- `put_bytes` meets its contract: after i turns the first i bytes stand at the start, and what was lent behind them.
+-- `put_bytes` meets its contract: after i turns the first i bytes stand at the start, and what was lent after them.
 use Prim.Native.Nat.{ℕ, _+_, _≤_, _-_}
 use mathlib.Core.Path.{_≡_, refl, _∙_, ap}
 use mathlib.Core.List.{List, _++_}

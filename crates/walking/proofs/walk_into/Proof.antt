@@ -138,24 +138,15 @@ module _ {M : Type 1} (𝓤 : URA M) (H : Heap 𝓤) (A : Atoms 𝓤) (W : Given
   abbrev Pay : Fml
   Pay = ShrSlice (named 1) κ′ u8 .own pay (sp ∷ [])
 
-  -- the calls of `plan` and `pass`, at the payload and a number
+  -- the calls of `plan` and `pass`, which take the payload and a number alike
   module _ (n : ℕ) where
-    abbrev passing : Vals pass.signature (κ′, tt)
-    passing = (sp ∷ [], (vint w64 n ∷ [], tt))
+    abbrev to-callee : PlanC 𝓤 H A mem run .Ghost
+    to-callee = (((κ′, tt), (q′, tt), tt, (pay, (n, tt)), (sp ∷ [], (vint w64 n ∷ [], tt))), tt)
 
-    abbrev to-plan : PlanC 𝓤 H A mem run .Ghost
-    to-plan = (((κ′, tt), (q′, tt), tt, (pay, (n, tt)), passing), tt)
-
-    abbrev to-pass : PassC 𝓤 H A mem run .Ghost
-    to-pass = (((κ′, tt), (q′, tt), tt, (pay, (n, tt)), passing), tt)
-
-    asks-plan : n < 2 ^ 64 → ent 𝓤 (⋆ 𝓤 H A (‵ (flft κ′ q′) ∷ ‵ Pay ∷ [])) (PlanC 𝓤 H A mem run .pre to-plan)
-    asks-plan gn =
+    asks : n < 2 ^ 64 → ent 𝓤 (⋆ 𝓤 H A (‵ (flft κ′ q′) ∷ ‵ Pay ∷ [])) (PlanC 𝓤 H A mem run .pre to-callee)
+    asks gn =
         qed W (‵ (flft κ′ q′) ∷ ‵ Pay ∷ []) ∵ nothing ! $ move ! (1 ∷ 0 ∷ []) $ join ! $ move ! (1 ∷ []) $
         nothing ! $ owned ! usize (Is usize) (uint-makes 𝓤 H A W w64) n _ (refl, gn) $ fjoin ! $ move ! (1 ∷ 0 ∷ []) $ fjoin ! $ move ! (1 ∷ 0 ∷ []) $ join ! $ frame ! $ done !
-
-    asks-pass : n < 2 ^ 64 → ent 𝓤 (⋆ 𝓤 H A (‵ (flft κ′ q′) ∷ ‵ Pay ∷ [])) (PassC 𝓤 H A mem run .pre to-pass)
-    asks-pass = asks-plan
 
     -- what they say of their answers
     abbrev Made : Planned → Type 0
@@ -241,9 +232,9 @@ module _ {M : Type 1} (𝓤 : URA M) (H : Heap 𝓤) (A : Atoms 𝓤) (W : Given
         let l : i < n = ltb→lt i n lt in
         let l′ : i < length zs = omega (arith, f .0 .long, room) in
         let sc : i * 16 < 2 ^ 64 = scaled i m gn (omega (arith, room)) in
-        move ! (16 ∷ []) $ use1 W (‵ Pay ⊛ ‵ Pay) (shr-slice-copy 𝓤 H A W (named 1) κ′ u8 .twice pay (sp ∷ [])) $ split ! $ move ! (17 ∷ 0 ∷ []) $ use2 W (raw (PassC 𝓤 H A mem run .pre (to-pass to))) (asks-pass to (f .1)) $
+        move ! (16 ∷ []) $ use1 W (‵ Pay ⊛ ‵ Pay) (shr-slice-copy 𝓤 H A W (named 1) κ′ u8 .twice pay (sp ∷ [])) $ split ! $ move ! (17 ∷ 0 ∷ []) $ use2 W (raw (PassC 𝓤 H A mem run .pre (to-callee to))) (asks to (f .1)) $
         -- [pre; payload; _6; _5; _7; _9; _10; _11; _4; _3; _2; _1; _8; _0; obs; the borrow; token; …]
-        calls-at ! (fmOf 𝓤 H (W .laws) 𝓣) (PassC 𝓤 H A mem run) known (to-pass to) (and-then ! (load ! (from ! (stop !)) (look ! 10 refl)) (and-then ! (load ! (from ! (stop !)) (look ! 3 refl)) (no-more !))) (λ u.
+        calls-at ! (fmOf 𝓤 H (W .laws) 𝓣) (PassC 𝓤 H A mem run) known (to-callee to) (and-then ! (load ! (from ! (stop !)) (look ! 10 refl)) (and-then ! (load ! (from ! (stop !)) (look ! 3 refl)) (no-more !))) (λ u.
         use1 W (later (some (λ (d : Passed). ((‵ (flft κ′ q′) ⊛ ‵ ftrue) ⊛ ‵ (Q.the-row .own d (u ∷ []))) ⊛ raw (ensured 𝓤 H A pass.ended (pass.clauses 𝓤 H A mem run) (κ′, tt) (pay, (to, tt)) tt d)))) (id⊢ 𝓤 _) $ await ! tt $ pick ! (λ d.
         split ! $ move ! (1 ∷ []) $ use1 W (raw (fact 𝓤 (Over to d))) (said-pass to d) $ heard ! (Over to d) (λ e. split ! $ move ! (1 ∷ []) $
         peeks ! Q.the-row (Is Q.the-row) (shows 𝓤 H A Q.the-row) d (u ∷ []) (λ is.
@@ -288,9 +279,9 @@ module _ {M : Type 1} (𝓤 : URA M) (H : Heap 𝓤) (A : Atoms 𝓤) (W : Given
       move ! (25 ∷ []) $ fsplit ! $ fsplit ! $ drop ! $ fsplit ! $ move ! (2 ∷ []) $ fsplit ! $ move ! (28 ∷ []) $ split ! $ move ! (1 ∷ []) $ split ! $
       -- [token′; true; token; payload; true; obs; the borrow; _11; …]
       keep ! (3 ∷ 0 ∷ 2 ∷ 5 ∷ 6 ∷ 7 ∷ 8 ∷ 9 ∷ 10 ∷ 11 ∷ 12 ∷ 13 ∷ 14 ∷ 15 ∷ 16 ∷ 17 ∷ 18 ∷ 19 ∷ 20 ∷ 21 ∷ 22 ∷ 23 ∷ 24 ∷ 25 ∷ 26 ∷ 27 ∷ 28 ∷ 29 ∷ 30 ∷ []) $
-      use1 W (‵ Pay ⊛ ‵ Pay) (shr-slice-copy 𝓤 H A W (named 1) κ′ u8 .twice pay (sp ∷ [])) $ split ! $ move ! (2 ∷ 0 ∷ []) $ use2 W (raw (PlanC 𝓤 H A mem run .pre (to-plan m))) (asks-plan m (gn .0)) $
+      use1 W (‵ Pay ⊛ ‵ Pay) (shr-slice-copy 𝓤 H A W (named 1) κ′ u8 .twice pay (sp ∷ [])) $ split ! $ move ! (2 ∷ 0 ∷ []) $ use2 W (raw (PlanC 𝓤 H A mem run .pre (to-callee m))) (asks m (gn .0)) $
       -- [pre; payload; token; obs; the borrow; _11; …]
-      calls-at ! (fmOf 𝓤 H (W .laws) 𝓣) (PlanC 𝓤 H A mem run) known (to-plan m) (and-then ! (load ! (from ! (stop !)) (look ! 23 refl)) (and-then ! (load ! (from ! (stop !)) (look ! 11 refl)) (no-more !))) (λ u.
+      calls-at ! (fmOf 𝓤 H (W .laws) 𝓣) (PlanC 𝓤 H A mem run) known (to-callee m) (and-then ! (load ! (from ! (stop !)) (look ! 23 refl)) (and-then ! (load ! (from ! (stop !)) (look ! 11 refl)) (no-more !))) (λ u.
       use1 W (later (some (λ (r : Planned). ((‵ (flft κ′ q′) ⊛ ‵ ftrue) ⊛ ‵ (P.the-row .own r (u ∷ []))) ⊛ raw (ensured 𝓤 H A plan.ended (plan.clauses 𝓤 H A mem run) (κ′, tt) (pay, (m, tt)) tt r)))) (id⊢ 𝓤 _) $ await ! tt $ pick ! (λ r.
       split ! $ move ! (1 ∷ []) $ use1 W (raw (fact 𝓤 (Made m r))) (said-plan m r) $ heard ! (Made m r) (λ made. split ! $ move ! (1 ∷ []) $
       peeks ! P.the-row (Is P.the-row) (shows 𝓤 H A P.the-row) r (u ∷ []) (λ is.
