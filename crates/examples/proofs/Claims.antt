@@ -10,10 +10,10 @@ use Rattle.records.specs.Reading.{empty, fixed, readRecord}
 use Rattle.record_writing.specs.Writing.{recordSize}
 use Rattle.layouts.specs.Layouts.{layoutOf, isList}
 use Rattle.layouts.specs.Reading.{countAt, listOf, entriesEnd, endOf, consumedTo, readAs, readValue}
-use Rattle.layouts.specs.Access.{childAt, findEntry, spanOf, lengthAt, ofValue, locateEntry, countEntries}
-use Rattle.utf8.specs.Utf8.{passes}
+use Rattle.layouts.specs.Access.{childAt, findEntry, spanOf, lengthAt, spansFrom, ofValue, locateEntry, countEntries}
+use Rattle.utf8.specs.Utf8.{accepts}
 use Rattle.texts.specs.Texts.{textKind, isText}
-use Rattle.texts.specs.Reading.{untilZero, pieceAt, piecesAt, radioList, laidOf, validOf, wholeOf, readText}
+use Rattle.texts.specs.Reading.{untilZero, textSpan, radioList, laidOf, validOf, wholeOf, readText}
 use Rattle.texts.specs.Access.{ofText, locateRadio, countRadios, locateText, locateRadioText}
 use Rattle.kinds.specs.Kinds.{readKind, locateKind, countKind, locateTextIn}
 use Rattle.kinds.specs.Writing.{writeKind, kindBytes}
@@ -69,7 +69,7 @@ of-walks = record {
 }
 
 of-kinds : OfKinds
-unfolding empty fixed readRecord layoutOf isList countAt listOf entriesEnd endOf consumedTo readAs readValue childAt findEntry spanOf lengthAt ofValue locateEntry countEntries textKind isText untilZero pieceAt piecesAt radioList laidOf validOf wholeOf readText passes readKind locateKind countKind writeSize writeKind kindBytes recordSize
+unfolding empty fixed readRecord layoutOf isList countAt listOf entriesEnd endOf consumedTo readAs readValue childAt findEntry spanOf lengthAt spansFrom ofValue locateEntry countEntries textKind isText untilZero textSpan radioList laidOf validOf wholeOf readText accepts readKind locateKind countKind writeSize writeKind kindBytes recordSize
 of-kinds = record {
   the-24 = refl;
   joined = refl;
@@ -142,7 +142,7 @@ of-kinds = record {
 }
 
 of-texts : OfTexts
-unfolding empty fixed readRecord layoutOf isList countAt listOf entriesEnd endOf consumedTo readAs readValue childAt findEntry spanOf lengthAt ofValue locateEntry countEntries textKind isText untilZero pieceAt piecesAt radioList laidOf validOf wholeOf readText ofText locateRadio countRadios locateText locateRadioText passes readKind locateKind countKind locateTextIn those
+unfolding empty fixed readRecord layoutOf isList countAt listOf entriesEnd endOf consumedTo readAs readValue childAt findEntry spanOf lengthAt spansFrom ofValue locateEntry countEntries textKind isText untilZero textSpan radioList laidOf validOf wholeOf readText ofText locateRadio countRadios locateText locateRadioText accepts readKind locateKind countKind locateTextIn those
 of-texts = record {
   device-identification = refl;
   model-name = refl;

@@ -1,4 +1,5 @@
--- What a counted layout reads depends on the consumed bytes alone: in other bytes that agree up to its end, it and every entry in it read the same.
+-- What a counted layout reads depends on the consumed bytes alone: in other bytes that agree up to its end, it and
+-- every entry in it read the same.
 use mathlib.Core.Path.{_≡_, refl, sym, ap, _∙_}
 use mathlib.Core.Bool.{Bool, true, false, cond}
 use mathlib.Core.List.{List, [], _∷_}

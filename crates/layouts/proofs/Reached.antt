@@ -1,5 +1,5 @@
--- Of a value that reads, every entry reads, can be asked for, and lies in the consumed bytes; and no other can be asked for: the numbers that lead to an
--- entry are those below the counts.
+-- Of a value that reads, every entry reads, can be asked for, and lies in the consumed bytes; and no other can be asked
+-- for: the numbers that lead to an entry are those below the counts.
 use mathlib.Core.Path.{_≡_, refl, sym, ap, _∙_}
 use mathlib.Core.List.{List, [], _∷_, _++_}
 use Prim.Native.Nat.{ℕ, _<_, _≤_}

@@ -1,4 +1,5 @@
--- Entries as a list of their places: what a list of one more came of, which one has a number, and what all of them are together.
+-- Entries as a list of their places: what a list of one more came of, which one has a number, and what all of them are
+-- together.
 use mathlib.Core.Path.{_≡_, refl, sym, ap, _∙_}
 use mathlib.Core.List.{List, [], _∷_, _++_, map, flatten}
 use Prim.Native.Nat.{ℕ, zero, suc, _+_, _-_, _*_, _<_, _≤_}

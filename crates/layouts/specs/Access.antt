@@ -1,5 +1,5 @@
--- Access by numbers: "An entry is asked for by its numbers at each level, from 0, and comes back as its own part of the lent value, the lists under
--- it included" (document 01, "The 21 kinds").
+-- Access by numbers: "An entry is asked for by its numbers at each level, from 0, and comes back as its own part of the
+-- lent value, the lists under it included" (document 01, "The 21 kinds").
 use mathlib.Core.Bool.{cond}
 use mathlib.Core.List.{List, [], _∷_, map}
 use Prim.Native.Nat.{ℕ, zero, suc, _-_}

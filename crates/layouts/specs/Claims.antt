@@ -48,22 +48,29 @@ pub record Below (x : Answer ℕ) (i : ℕ) : Type 0 where
 pub record ListValues : Type 0 where
   pub levels-3 : (code : ℕ) (k : ListKind) → layoutOf code ≡ gives k → levelsOf (k .layout) ≤ 3
   -- consumed never exceeds the length, and with the rest it is the length
-  pub consumed-within : (code : ℕ) (s : List ℕ) (r : Consumed) → readValue code s ≡ gives r → (r .consumed ≤ length s) × (r .consumed + r .rest ≡ length s)
+  pub consumed-within : (code : ℕ) (s : List ℕ) (r : Consumed) → readValue code s ≡ gives r →
+      (r .consumed ≤ length s) × (r .consumed + r .rest ≡ length s)
   -- the value's own list has as many entries as reading says
-  pub own-count : (code : ℕ) (s : List ℕ) (r : Consumed) → readValue code s ≡ gives r → countEntries code [] s ≡ gives (r .entries)
-  -- every entry can be asked for: a number below the count of the list with these numbers leads to an entry, whose part lies in the consumed bytes
-  pub every-entry : (code : ℕ) (is s : List ℕ) (r : Consumed) (n i : ℕ) → readValue code s ≡ gives r → countEntries code is s ≡ gives n → i < n →
+  pub own-count : (code : ℕ) (s : List ℕ) (r : Consumed) → readValue code s ≡ gives r →
+      countEntries code [] s ≡ gives (r .entries)
+  -- every entry can be asked for: a number below the count of the list with these numbers leads to an entry, whose part
+  -- lies in the consumed bytes
+  pub every-entry : (code : ℕ) (is s : List ℕ) (r : Consumed) (n i : ℕ) → readValue code s ≡ gives r →
+      countEntries code is s ≡ gives n → i < n →
       Shown (locateEntry code (is ++ i ∷ []) s) (r .consumed)
   -- and no other: where an entry comes back, its last number is below the count of the list with the numbers before it
-  pub no-other : (code : ℕ) (is s : List ℕ) (i : ℕ) (r : Span) → locateEntry code (is ++ i ∷ []) s ≡ gives r → Below (countEntries code is s) i
+  pub no-other : (code : ℕ) (is s : List ℕ) (i : ℕ) (r : Span) → locateEntry code (is ++ i ∷ []) s ≡ gives r →
+      Below (countEntries code is s) i
   pub no-numbers : (code : ℕ) (s : List ℕ) (r : Span) → locateEntry code [] s ≡ gives r → ⊥
 
--- what is read depends on the consumed bytes alone: they read the same, with no rest, and so does every list and every entry in them
+-- what is read depends on the consumed bytes alone: they read the same, with no rest, and so does every list and every
+-- entry in them
 pub record ListAlone (code : ℕ) (s : List ℕ) (r : Consumed) : Type 0 where
   pub reads : readValue code (take (r .consumed) s) ≡ gives (record { consumed = r .consumed; rest = 0; entries = r .entries })
   pub counts : (is : List ℕ) → countEntries code is (take (r .consumed) s) ≡ countEntries code is s
   pub located : (is : List ℕ) → locateEntry code is (take (r .consumed) s) ≡ locateEntry code is s
-  pub parts : (is : List ℕ) → partOf (locateEntry code is (take (r .consumed) s)) (take (r .consumed) s) ≡ partOf (locateEntry code is s) s
+  pub parts : (is : List ℕ) →
+      partOf (locateEntry code is (take (r .consumed) s)) (take (r .consumed) s) ≡ partOf (locateEntry code is s) s
 
 abbrev pub ListsAlone : Type 0
 ListsAlone = (code : ℕ) (s : List ℕ) (r : Consumed) → readValue code s ≡ gives r → ListAlone code s r
@@ -79,13 +86,16 @@ pub record Parts (l : Layout) (s : List ℕ) (m : ListAt) (q : ℕ) : Type 0 whe
   pub all : take (m .first) s ++ flatten parts ≡ take q s
 
 abbrev pub PartsOfEntries : Type 0
-PartsOfEntries = (l : Layout) (s : List ℕ) (m : ListAt) (q : ℕ) → listOf l s 0 ≡ gives m → endOf l s 0 ≡ gives q → Parts l s m q
+PartsOfEntries = (l : Layout) (s : List ℕ) (m : ListAt) (q : ℕ) → listOf l s 0 ≡ gives m → endOf l s 0 ≡ gives q →
+    Parts l s m q
 
 -- entries of h bytes and no list are runs of h bytes, one after the other; a list to the end begins after the head
 pub record Plain : Type 0 where
-  pub runs : (n : ℕ) (w : Counting) (h : ℕ) (s : List ℕ) (m : ListAt) (q i : ℕ) → listOf (entry n w (bytes h)) s 0 ≡ gives m → endOf (entry n w (bytes h)) s 0 ≡ gives q
-      → i < m .many → spanOf (entry n w (bytes h)) (i ∷ []) s ≡ gives (record { start = m .first + i * h; end = m .first + i * h + h })
-  pub after-head : (n : ℕ) (e : Layout) (s : List ℕ) (m : ListAt) → listOf (entry n to-end e) s 0 ≡ gives m → m .first ≡ n
+  pub runs : (n : ℕ) (w : Counting) (h : ℕ) (s : List ℕ) (m : ListAt) (q i : ℕ) →
+      listOf (entry n w (bytes h)) s 0 ≡ gives m → endOf (entry n w (bytes h)) s 0 ≡ gives q → i < m .many →
+      spanOf (entry n w (bytes h)) (i ∷ []) s ≡ gives (record { start = m .first + i * h; end = m .first + i * h + h })
+  pub after-head : (n : ℕ) (e : Layout) (s : List ℕ) (m : ListAt) → listOf (entry n to-end e) s 0 ≡ gives m →
+      m .first ≡ n
 
 -- everything that is claimed of this crate
 pub record Claims : Type 0 where

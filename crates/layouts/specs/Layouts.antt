@@ -11,7 +11,8 @@ pub data Counting : Type 0 where
   c2 : Counting
   to-end : Counting
 
--- An entry is a head of so many bytes and, unless it is these bytes alone, a list of entries of the level below. A whole value is an entry too.
+-- An entry is a head of so many bytes and, unless it is these bytes alone, a list of entries of the level below. A
+-- whole value is an entry too.
 pub data Layout : Type 0 where
   bytes : ℕ → Layout
   entry : ℕ → Counting → Layout → Layout

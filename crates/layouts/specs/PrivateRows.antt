@@ -1,4 +1,5 @@
--- For private functions alone; no contract of a public call cites this file. What a row of the code's table says, and what the step of finding answers.
+-- For private functions alone; no contract of a public call cites this file. What a row of the code's table says, and
+-- what the step of finding answers.
 use mathlib.Core.Bool.{Bool, true, false}
 use Rattle.numbers.specs.Numbers.{Answer, gives, told}
 use Rattle.layouts.specs.declared.rows.ListKindRow.{ListKindRow}

@@ -1,4 +1,5 @@
--- Reading a value of a counted layout: "A list is read entry by entry, and an entry ends in the list of the level below" (document 01, "The 21 kinds").
+-- Reading a value of a counted layout: "A list is read entry by entry, and an entry ends in the list of the level
+-- below" (document 01, "The 21 kinds").
 use mathlib.Core.Bool.{cond}
 use mathlib.Core.List.{List, []}
 use Prim.Native.Nat.{ℕ, zero, suc, _+_, _-_, _/_}

@@ -1,5 +1,5 @@
-// Counted layouts: values that are lists of entries, which may themselves end in lists of entries of the level below. One table of rows, a list
-// reader and an entry reader that call each other, and access to an entry by its numbers.
+// Counted layouts: values that are lists of entries, which may themselves end in lists of entries of the level below.
+// One table of rows, a list reader and an entry reader that call each other, and access to an entry by its numbers.
 mod access;
 mod lists;
 mod rows;
@@ -14,8 +14,9 @@ ghost use Rattle.layouts.specs.Rows.{rowLayout};
 ghost use Rattle.layouts.specs.Reading.{listOf, entriesEnd, endOf, listingOf, endingOf, readingOf, readValue};
 ghost use Rattle.layouts.specs.Access.{numbersOf, locatedOf, locateEntry, partOf, startIn, countedOf, countEntries};
 
-// A layout as a row of numbers: an entry of h0 bytes and then, where it has levels of lists, a list whose count has w0 bytes: 1 or 2, or 0 for a list that goes
-// to the end. An entry of that list is h1 bytes and then, where levels are left, a list whose count has w1 bytes, and so on. A value is an entry too.
+// A layout as a row of numbers: an entry of h0 bytes and then, where it has levels of lists, a list whose count has w0
+// bytes: 1 or 2, or 0 for a list that goes to the end. An entry of that list is h1 bytes and then, where levels are
+// left, a list whose count has w1 bytes, and so on. A value is an entry too.
 pub struct LayoutRow {
     pub levels: u8,
     pub h0: u8,
@@ -39,7 +40,8 @@ pub enum Ending {
     Refused(Refusal),
 }
 
-// What reading a value finds: the bytes consumed, how many are left after them, and how many entries the value's own list has.
+// What reading a value finds: the bytes consumed, how many are left after them, and how many entries the value's own
+// list has.
 pub enum Reading {
     Value {
         consumed: usize,
@@ -69,7 +71,8 @@ pub enum Counted {
     Refused(Refusal),
 }
 
-// The list of the entry of this row that starts at `at`: it stands after the entry's head. An entry of the lowest level has none.
+// The list of the entry of this row that starts at `at`: it stands after the entry's head. An entry of the lowest level
+// has none.
 pub fn list_at(row: LayoutRow, s: &[u8], at: usize) -> Listing
     ensures { λ r. ⌜ listingOf r ≡ listOf (rowLayout row) (now (s .entry)) at ⌝ }
 {
@@ -82,7 +85,8 @@ pub fn list_at(row: LayoutRow, s: &[u8], at: usize) -> Listing
     }
 }
 
-// Where n entries of this row end, the first of which starts at `at`. It goes over the entries in a loop, so that the stack grows with the levels alone.
+// Where n entries of this row end, the first of which starts at `at`. It goes over the entries in a loop, so that the
+// stack grows with the levels alone.
 pub fn read_list(row: LayoutRow, n: usize, s: &[u8], at: usize) -> Ending
     ensures { λ r. ⌜ endingOf r ≡ entriesEnd (endOf (rowLayout row) (now (s .entry))) n at ⌝ }
 {
@@ -145,7 +149,8 @@ pub fn locate(code: u8, path: Path, s: &[u8]) -> Located
     }
 }
 
-// The entry with these numbers as its own part of s, the lists under it included; the empty start of s where `locate` refuses.
+// The entry with these numbers as its own part of s, the lists under it included; the empty start of s where `locate`
+// refuses.
 pub fn entry(code: u8, path: Path, s: &[u8]) -> &[u8]
     ensures { λ r. ⌜ now r ≡ partOf (locateEntry code (numbersOf path) (now (s .entry))) (now (s .entry)) ⌝ }
     ensures place { λ r. ⌜ r .ptr ≡ behind (startIn (locateEntry code (numbersOf path) (now (s .entry)))) (s .entry) ⌝ }
@@ -156,7 +161,8 @@ pub fn entry(code: u8, path: Path, s: &[u8]) -> &[u8]
     }
 }
 
-// How many entries the list of the entry with these numbers has; without numbers, the value's own list. An entry of the lowest level has no list.
+// How many entries the list of the entry with these numbers has; without numbers, the value's own list. An entry of the
+// lowest level has no list.
 pub fn count(code: u8, path: Path, s: &[u8]) -> Counted
     ensures { λ r. ⌜ countedOf r ≡ countEntries code (numbersOf path) (now (s .entry)) ⌝ }
 {

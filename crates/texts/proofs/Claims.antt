@@ -23,7 +23,7 @@ use Rattle.utf8.specs.Utf8.{isUtf8}
 use Rattle.texts.specs.Texts.{TextKind, string, textKind, radio, isText}
 use Rattle.texts.specs.Reading.{textSpan, radioList, Laid, textIn, allValid, wholeOf, consumedIn, readText}
 use Rattle.texts.specs.Access.{ofText, radioIn, radioCount, locateRadio, countRadios, locateText, locateRadioText}
-use Rattle.texts.specs.Claims.{Firmness, Text, TextValues, TextAlone, TextsAlone, Claims}
+use Rattle.texts.specs.Claims.{Firmness, ValidText, TextValues, TextAlone, TextsAlone, Claims}
 use Rattle.texts.proofs.Laws.{Among}
 use Rattle.texts.proofs.Whole.{Parts, parts, valid, list-within, each-within}
 use Rattle.texts.proofs.Asked.{answers, text-among, radio-among, one-radio, Inside, text-inside}
@@ -193,7 +193,7 @@ module _ (code : ℕ) (s : List ℕ) (r : Consumed) (a : Read code s r) where
 
   -- the text of one that has this number
   shown-text : (x : Answer Span) (l : Layout) (rs : List Span) (i : ℕ) → x ≡ mapped (textSpan l s) (nthOf rs i) → allValid l s rs ≡ true → i < length rs →
-      ((p : Span) → mapped (textSpan l s) (nthOf rs i) ≡ gives p → Inside p (r .consumed)) → Text x s (r .consumed)
+      ((p : Span) → mapped (textSpan l s) (nthOf rs i) ≡ gives p → Inside p (r .consumed)) → ValidText x s (r .consumed)
   shown-text x l rs i is good less inside =
       let n = some-number rs i less in
       let e = mapped-given (textSpan l s) _ _ (n .is) in
@@ -257,7 +257,7 @@ every-radio code s r i x l =
     let b = radio-lies code s r a (i ∷ []) (n .one) (n .is) in
     record { span = n .one; is = says code s r a (λ k v. radioIn (i ∷ []) v) ∙ n .is; ordered = b .0; inside = b .1 }
 
-every-radio-text : (s : List ℕ) (r : Consumed) (i : ℕ) → readText 0xD4 s ≡ gives r → i < r .entries → Text (locateRadioText i s) s (r .consumed)
+every-radio-text : (s : List ℕ) (r : Consumed) (i : ℕ) → readText 0xD4 s ≡ gives r → i < r .entries → ValidText (locateRadioText i s) s (r .consumed)
 every-radio-text s r i x l =
     let a = read 0xD4 s r x in
     let z = radios 0xD4 s r a in
@@ -280,7 +280,7 @@ module _ (code : ℕ) (s : List ℕ) (k : TextKind) (r : Consumed) (i : ℕ) (y 
   so-many : length (read code s r x .value .texts .each) ≡ k .many
   so-many = let a = read code s r x in texts code s r a ∙ ap (λ k. k .many) (given _ k (sym (a .is) ∙ y))
 
-  every-text : i < k .many → Text (locateText code i s) s (r .consumed)
+  every-text : i < k .many → ValidText (locateText code i s) s (r .consumed)
   every-text l =
       let a = read code s r x in
       let z = so-many in

@@ -71,7 +71,8 @@ text-lies (entry n w e) s p q x =
     let u = entries-within (endOf e s) s (end-within e s) (g .list .many) (g .list .first) q (v .1) (g .ends) in
     record { low = omega arith; ordered = omega arith; high = omega arith }
 
--- A loop over n entries that start at `at`, which finds out whether their texts are valid: those from i on, the next of which starts at p, say what all do.
+-- A loop over n entries that start at `at`, which finds out whether their texts are valid: those from i on, the next of
+-- which starts at p, say what all do.
 module _ (l : Layout) (s : List ℕ) where
   abbrev pub Left : ℕ → ℕ → ℕ → ℕ → Type 0
   Left n at i p = (i ≤ n) × (validIn l s (spansFrom (endOf l s) n at) ≡ validIn l s (spansFrom (endOf l s) (n - i) p))

@@ -1,4 +1,5 @@
--- What is read depends on the consumed bytes alone: in the first m bytes, the entries that end there read the same, and their texts are the same.
+-- What is read depends on the consumed bytes alone: in the first m bytes, the entries that end there read the same, and
+-- their texts are the same.
 use mathlib.Core.Path.{_≡_, refl, sym, ap, _∙_}
 use mathlib.Core.Bool.{Bool, true, false}
 use mathlib.Core.List.{List}

@@ -1,4 +1,5 @@
--- Access by numbers: a radio of a value as an entry, and each text as its own part. "16, 3, 18" and then 6: the whole value has to read.
+-- Access by numbers: a radio of a value as an entry, and each text as its own part. "16, 3, 18" and then 6: the whole
+-- value has to read.
 use mathlib.Core.List.{List, [], _∷_}
 use Prim.Native.Nat.{ℕ}
 use Rattle.numbers.specs.Numbers.{Answer, gives, refuses, andThen, mapped}
@@ -10,7 +11,8 @@ use Rattle.texts.specs.Reading.{textSpan, Laid, wholeOf}
 unfoldable pub ofText : {A : Type 0} → ℕ → (TextKind → Laid → Answer A) → List ℕ → Answer A
 ofText code f s = andThen (textKind code) (λ k. andThen (wholeOf k s) (λ v. f k v))
 
--- "the radios are entries": the radio with this number, its id and its string; without a number, and with a second one, no entry is asked for
+-- "the radios are entries": the radio with this number, its id and its string; without a number, and with a second one,
+-- no entry is asked for
 abbrev pub radioIn : List ℕ → Laid → Answer Span
 radioIn [] v = refuses 6 []
 radioIn (i ∷ []) v = nthOf (v .radios .each) i

@@ -33,7 +33,7 @@ pub record Firmness : Type 0 where
       (r .0 ≡ partOf (locateRadioText number (now s)) (now s)) × (r .1 ≡ behind (startIn (locateRadioText number (now s))) s))
 
 -- a text that is found lies in the q bytes consumed, and is valid
-pub record Text (x : Answer Span) (s : List ℕ) (q : ℕ) : Type 0 where
+pub record ValidText (x : Answer Span) (s : List ℕ) (q : ℕ) : Type 0 where
   pub lies : Shown x q
   pub valid : isUtf8 (partOf x s) ≡ true
 
@@ -41,37 +41,50 @@ pub record Text (x : Answer Span) (s : List ℕ) (q : ℕ) : Type 0 where
 pub record TextValues : Type 0 where
   -- 16 for every other code
   pub other-codes : (code : ℕ) (s : List ℕ) → isText code ≡ false →
-      (readText code s ≡ refuses 16 []) × ((is : List ℕ) → locateRadio code is s ≡ refuses 16 []) × ((is : List ℕ) → countRadios code is s ≡ refuses 16 [])
-      × ((i : ℕ) → locateText code i s ≡ refuses 16 [])
+      (readText code s ≡ refuses 16 []) × ((is : List ℕ) → locateRadio code is s ≡ refuses 16 [])
+      × ((is : List ℕ) → countRadios code is s ≡ refuses 16 []) × ((i : ℕ) → locateText code i s ≡ refuses 16 [])
   -- consumed never exceeds the length, and with the rest it is the length
-  pub consumed-within : (code : ℕ) (s : List ℕ) (r : Consumed) → readText code s ≡ gives r → (r .consumed ≤ length s) × (r .consumed + r .rest ≡ length s)
+  pub consumed-within : (code : ℕ) (s : List ℕ) (r : Consumed) → readText code s ≡ gives r →
+      (r .consumed ≤ length s) × (r .consumed + r .rest ≡ length s)
   -- "`ControlUrl` (22, the whole value)": never a rest
   pub no-rest : (s : List ℕ) (r : Consumed) → readText 22 s ≡ gives r → r .rest ≡ 0
   -- the value's own list has as many entries as reading says, none in 21 and 22; a radio has no list
-  pub own-count : (code : ℕ) (s : List ℕ) (r : Consumed) → readText code s ≡ gives r → countRadios code [] s ≡ gives (r .entries)
-  pub no-lower-count : (code i : ℕ) (is s : List ℕ) (r : Consumed) → readText code s ≡ gives r → countRadios code (i ∷ is) s ≡ refuses 6 []
-  pub no-radios : (code : ℕ) (s : List ℕ) (k : TextKind) (r : Consumed) → textKind code ≡ gives k → k .radios ≡ false → readText code s ≡ gives r → r .entries ≡ 0
+  pub own-count : (code : ℕ) (s : List ℕ) (r : Consumed) → readText code s ≡ gives r →
+      countRadios code [] s ≡ gives (r .entries)
+  pub no-lower-count : (code i : ℕ) (is s : List ℕ) (r : Consumed) → readText code s ≡ gives r →
+      countRadios code (i ∷ is) s ≡ refuses 6 []
+  pub no-radios : (code : ℕ) (s : List ℕ) (k : TextKind) (r : Consumed) → textKind code ≡ gives k →
+      k .radios ≡ false → readText code s ≡ gives r → r .entries ≡ 0
   -- every radio can be asked for, and has a text; and no other entry can
-  pub every-radio : (code : ℕ) (s : List ℕ) (r : Consumed) (i : ℕ) → readText code s ≡ gives r → i < r .entries → Shown (locateRadio code (i ∷ []) s) (r .consumed)
-  pub every-radio-text : (s : List ℕ) (r : Consumed) (i : ℕ) → readText 0xD4 s ≡ gives r → i < r .entries → Text (locateRadioText i s) s (r .consumed)
+  pub every-radio : (code : ℕ) (s : List ℕ) (r : Consumed) (i : ℕ) → readText code s ≡ gives r → i < r .entries →
+      Shown (locateRadio code (i ∷ []) s) (r .consumed)
+  pub every-radio-text : (s : List ℕ) (r : Consumed) (i : ℕ) → readText 0xD4 s ≡ gives r → i < r .entries →
+      ValidText (locateRadioText i s) s (r .consumed)
   pub no-other : (code i : ℕ) (s : List ℕ) (r : Consumed) → readText code s ≡ gives r → r .entries ≤ i →
       (locateRadio code (i ∷ []) s ≡ refuses 6 []) × (code ≡ 0xD4 → locateRadioText i s ≡ refuses 6 [])
-  pub one-number : (code i j : ℕ) (is s : List ℕ) (r : Consumed) → readText code s ≡ gives r → (locateRadio code [] s ≡ refuses 6 []) × (locateRadio code (i ∷ j ∷ is) s ≡ refuses 6 [])
+  pub one-number : (code i j : ℕ) (is s : List ℕ) (r : Consumed) → readText code s ≡ gives r →
+      (locateRadio code [] s ≡ refuses 6 []) × (locateRadio code (i ∷ j ∷ is) s ≡ refuses 6 [])
   -- the value's own texts: so many as the kind has, three, one and three; beyond the last, 6
-  pub every-text : (code : ℕ) (s : List ℕ) (k : TextKind) (r : Consumed) (i : ℕ) → textKind code ≡ gives k → readText code s ≡ gives r → i < k .many →
-      Text (locateText code i s) s (r .consumed)
-  pub beyond : (code : ℕ) (s : List ℕ) (k : TextKind) (r : Consumed) (i : ℕ) → textKind code ≡ gives k → readText code s ≡ gives r → k .many ≤ i → locateText code i s ≡ refuses 6 []
+  pub every-text : (code : ℕ) (s : List ℕ) (k : TextKind) (r : Consumed) (i : ℕ) → textKind code ≡ gives k →
+      readText code s ≡ gives r → i < k .many →
+      ValidText (locateText code i s) s (r .consumed)
+  pub beyond : (code : ℕ) (s : List ℕ) (k : TextKind) (r : Consumed) (i : ℕ) → textKind code ≡ gives k →
+      readText code s ≡ gives r → k .many ≤ i → locateText code i s ≡ refuses 6 []
 
--- what is read depends on the consumed bytes alone: they read the same, with no rest, and so does every radio and every text in them
+-- what is read depends on the consumed bytes alone: they read the same, with no rest, and so does every radio and every
+-- text in them
 pub record TextAlone (code : ℕ) (s : List ℕ) (r : Consumed) : Type 0 where
   pub reads : readText code (take (r .consumed) s) ≡ gives (record { consumed = r .consumed; rest = 0; entries = r .entries })
   pub counts : (is : List ℕ) → countRadios code is (take (r .consumed) s) ≡ countRadios code is s
   pub located : (is : List ℕ) → locateRadio code is (take (r .consumed) s) ≡ locateRadio code is s
-  pub parts : (is : List ℕ) → partOf (locateRadio code is (take (r .consumed) s)) (take (r .consumed) s) ≡ partOf (locateRadio code is s) s
+  pub parts : (is : List ℕ) →
+      partOf (locateRadio code is (take (r .consumed) s)) (take (r .consumed) s) ≡ partOf (locateRadio code is s) s
   pub texts : (i : ℕ) → locateText code i (take (r .consumed) s) ≡ locateText code i s
-  pub text-parts : (i : ℕ) → partOf (locateText code i (take (r .consumed) s)) (take (r .consumed) s) ≡ partOf (locateText code i s) s
+  pub text-parts : (i : ℕ) →
+      partOf (locateText code i (take (r .consumed) s)) (take (r .consumed) s) ≡ partOf (locateText code i s) s
   pub radio-texts : code ≡ 0xD4 → (i : ℕ) → locateRadioText i (take (r .consumed) s) ≡ locateRadioText i s
-  pub radio-text-parts : code ≡ 0xD4 → (i : ℕ) → partOf (locateRadioText i (take (r .consumed) s)) (take (r .consumed) s) ≡ partOf (locateRadioText i s) s
+  pub radio-text-parts : code ≡ 0xD4 → (i : ℕ) →
+      partOf (locateRadioText i (take (r .consumed) s)) (take (r .consumed) s) ≡ partOf (locateRadioText i s) s
 
 abbrev pub TextsAlone : Type 0
 TextsAlone = (code : ℕ) (s : List ℕ) (r : Consumed) → readText code s ≡ gives r → TextAlone code s r

@@ -1,4 +1,5 @@
--- Reading a value that holds text: its pieces, then its radios, all by the readers of counted layouts, then each text by RFC 3629.
+-- Reading a value that holds text: its pieces, then its radios, all by the readers of counted layouts, then each text
+-- by RFC 3629.
 use mathlib.Core.Bool.{Bool, true, false, cond}
 use mathlib.Core.List.{List, [], _∷_}
 use Prim.Native.Nat.{ℕ, suc, _+_, _-_}
@@ -11,7 +12,8 @@ use Rattle.layouts.specs.Access.{Span, partOf, Spans, spansFrom}
 use Rattle.utf8.specs.Utf8.{isUtf8}
 use Rattle.texts.specs.Texts.{TextKind, textKind, radio}
 
--- "In a 64-byte field the text ends before the first zero byte": so many bytes stand before it; all of them, without one
+-- "In a 64-byte field the text ends before the first zero byte": so many bytes stand before it; all of them, without
+-- one
 unfoldable pub untilZero : List ℕ → ℕ
 untilZero [] = 0
 untilZero (b ∷ s) = cond (eqb b 0) 0 (suc (untilZero s))
@@ -22,7 +24,8 @@ countSize c1 = 1
 countSize c2 = 2
 countSize to-end = 0
 
--- where the text of a piece or of a radio lies: in a field up to the first zero byte, else all bytes of the list, which stands after the head and the count
+-- where the text of a piece or of a radio lies: in a field up to the first zero byte, else all bytes of the list, which
+-- stands after the head and the count
 unfoldable pub textSpan : Layout → List ℕ → Span → Span
 textSpan (bytes n) s r = record { start = r .start; end = r .start + untilZero (partOf (gives r) s) }
 textSpan (entry n w e) s r = record { start = r .start + n + countSize w; end = r .end }
@@ -52,7 +55,8 @@ abbrev pub allValid : Layout → List ℕ → List Span → Bool
 allValid l s [] = true
 allValid l s (r ∷ rs) = cond (isUtf8 (textIn l s r)) (allValid l s rs) false
 
--- "18, a text that isn't UTF-8, after 3": the layout is looked at first, and then the value's own texts and those of the radios
+-- "18, a text that isn't UTF-8, after 3": the layout is looked at first, and then the value's own texts and those of
+-- the radios
 unfoldable pub validOf : TextKind → Laid → List ℕ → Answer Laid
 validOf k v s = cond (allValid (k .piece) s (v .texts .each)) (cond (allValid radio s (v .radios .each)) (gives v) (refuses 18 [])) (refuses 18 [])
 

@@ -19,8 +19,9 @@ withPieces n l r = record { many = n; piece = l; radios = r }
 abbrev pub string : Layout
 string = c1-of (bytes 1)
 
--- "`DeviceIdentificationType` (21, three fields of 64 bytes), `ControlUrl` (22, the whole value) and `DeviceInventory` (0xD4): three strings each with a one-byte
--- length, then c1 of a 6-byte radio id and one such string"; 16 for any other code
+-- "`DeviceIdentificationType` (21, three fields of 64 bytes), `ControlUrl` (22, the whole value) and `DeviceInventory`
+-- (0xD4): three strings each with a one-byte length, then c1 of a 6-byte radio id and one such string"; 16 for any
+-- other code
 unfoldable pub textKind : ℕ → Answer TextKind
 textKind code =
     cond (eqb code 21) (gives (withPieces 3 (bytes 64) false))

@@ -1,4 +1,5 @@
-// TextValues that hold text, names and addresses of devices: the pieces that a text stands in, each text UTF-8, and a text and a radio asked for by its number.
+// TextValues that hold text, names and addresses of devices: the pieces that a text stands in, each text UTF-8, and a
+// text and a radio asked for by its number.
 mod access;
 mod pieces;
 mod reading;
@@ -55,7 +56,8 @@ pub fn locate(code: u8, path: Path, s: &[u8]) -> Located
     }
 }
 
-// The radio with these numbers as its own part of s, its id and its string with the length; the empty start of s where `locate` refuses.
+// The radio with these numbers as its own part of s, its id and its string with the length; the empty start of s where
+// `locate` refuses.
 pub fn entry(code: u8, path: Path, s: &[u8]) -> &[u8]
     ensures { λ r. ⌜ now r ≡ partOf (locateRadio code (numbersOf path) (now (s .entry))) (now (s .entry)) ⌝ }
     ensures place { λ r. ⌜ r .ptr ≡ behind (startIn (locateRadio code (numbersOf path) (now (s .entry)))) (s .entry) ⌝ }
@@ -63,7 +65,8 @@ pub fn entry(code: u8, path: Path, s: &[u8]) -> &[u8]
     access::part(locate(code, path, s), s)
 }
 
-// How many radios the value s has, asked for without numbers; none, of a kind without them. A radio has no entries to count.
+// How many radios the value s has, asked for without numbers; none, of a kind without them. A radio has no entries to
+// count.
 pub fn count(code: u8, path: Path, s: &[u8]) -> Counted
     ensures { λ r. ⌜ countedOf r ≡ countRadios code (numbersOf path) (now (s .entry)) ⌝ }
 {
@@ -73,7 +76,8 @@ pub fn count(code: u8, path: Path, s: &[u8]) -> Counted
     }
 }
 
-// Where the text with this number lies in the value s, which has three, one and three of them besides those of its radios. The whole value has to read.
+// Where the text with this number lies in the value s, which has three, one and three of them besides those of its
+// radios. The whole value has to read.
 pub fn locate_text(code: u8, number: usize, s: &[u8]) -> Located
     ensures { λ r. ⌜ locatedOf r ≡ locateText code number (now (s .entry)) ⌝ }
 {

@@ -19,7 +19,8 @@ pub(crate) enum TextKindRow {
     Refused(Refusal),
 }
 
-// A piece of so many bytes; and then, at level 1, a list of bytes whose count has w bytes, or that goes to the end where w is 0.
+// A piece of so many bytes; and then, at level 1, a list of bytes whose count has w bytes, or that goes to the end
+// where w is 0.
 fn piece(levels: u8, h: u8, w: u8) -> LayoutRow
     ensures { λ r. ⌜ r ≡ record { levels = levels; h0 = h; w0 = w; h1 = 1; w1 = 0; h2 = 0; w2 = 0; h3 = 0 } ⌝ }
 {

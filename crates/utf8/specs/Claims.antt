@@ -21,7 +21,8 @@ beginOf o n = length (flatten (take n (o .list)))
 
 -- a text that is cut there is two texts
 abbrev pub Cut : Type 0
-Cut = (s : List ℕ) (o : Octets s) (n : ℕ) → (isUtf8 (take (beginOf o n) s) ≡ true) × (isUtf8 (drop (beginOf o n) s) ≡ true)
+Cut = (s : List ℕ) (o : Octets s) (n : ℕ) → (isUtf8 (take (beginOf o n) s) ≡ true) ×
+    (isUtf8 (drop (beginOf o n) s) ≡ true)
 
 -- everything that is claimed of this crate
 pub record Claims : Type 0 where

@@ -1,4 +1,5 @@
--- For private functions alone; no contract of a public call cites this file. What is awaited of a text, in the code's numbers.
+-- For private functions alone; no contract of a public call cites this file. What is awaited of a text, in the code's
+-- numbers.
 use mathlib.Core.List.{List, [], _∷_}
 use mathlib.Core.Option.{Option, none, some}
 use Prim.Native.Nat.{ℕ, zero, suc}

@@ -73,8 +73,8 @@ pub record Octets (s : List ℕ) : Type 0 where
   pub each : Characters list
   pub all : flatten list ≡ s
 
--- The same as a test, which goes from byte to byte; that it accepts exactly the octets is claimed in Claims and proved. Where a character has begun, the ranges of
--- its bytes that are still to come are awaited.
+-- The same as a test, which goes from byte to byte; that it accepts exactly the octets is claimed in Claims and proved.
+-- Where a character has begun, the ranges of its bytes that are still to come are awaited.
 abbrev pub inRange : Range → ℕ → Bool
 inRange r b = cond (leb (r .low) b) (leb b (r .high)) false
 

@@ -5,7 +5,8 @@ ghost use lib.ListN.{length, drop};
 ghost use Rattle.utf8.specs.Utf8.{forms, begun, onward, isUtf8};
 ghost use Rattle.utf8.specs.PrivateUtf8.{awaits, stepTold};
 
-// Of a character that has begun, so many bytes are still to come: the next one from `low` to `high`, and then tails. None: a character may begin, or the text end.
+// Of a character that has begun, so many bytes are still to come: the next one from `low` to `high`, and then tails.
+// None: a character may begin, or the text end.
 struct Awaited {
     left: usize,
     low: u8,
