@@ -10,7 +10,9 @@ use borrow.Author.Tests.{eq-eqb, le-leb, lt-leb, leb-true, leb-false}
 use Rattle.numbers.specs.Numbers.{Answer, gives, refuses, mapped, isGiven}
 use Rattle.numbers.proofs.Firm.{never}
 use Rattle.records.specs.declared.Record.{Record}
-use Rattle.kinds.specs.Kinds.{isKind, Typed, readKind, withoutRecord}
+use Rattle.kinds.specs.declared.KindRead.{KindRead}
+use Rattle.kinds.specs.declared.KindSize.{KindSize}
+use Rattle.kinds.specs.Kinds.{isKind, Typed, kindReadOf, readKind, kindSizeOf, withoutRecord}
 use Rattle.kinds.proofs.Laws.{of-a-kind as reads-a-kind}
 use Rattle.walking.specs.declared.Tlv.{Tlv}
 use Rattle.finding.specs.Finding.{Hit, isCandidate, valueOf, readsAs, thereOr}
@@ -49,7 +51,7 @@ module _ (code : ℕ) (payload : List ℕ) (t : Tlv) where
       by-tests true e = leb-true (t .offset + 3 + t .length) (length payload) e
       by-tests false e = let z : _≡_ {A = ℕ} 0 1 = cc in absurd (omega arith)
 
-  pub reads : isCandidate code (length payload) t ≡ true → readKind code (valueOf payload t) ≡ readsAs code payload t
+  reads : isCandidate code (length payload) t ≡ true → readKind code (valueOf payload t) ≡ readsAs code payload t
   unfolding readsAs
   reads e = ap (λ (b : Bool). cond b (readKind code (valueOf payload t)) (refuses 15 [])) (sym e)
 
@@ -58,8 +60,13 @@ module _ (code : ℕ) (payload : List ℕ) (t : Tlv) where
   still (gives r) = refl
   still (refuses n vs) = refl
 
-  pub measured : isCandidate code (length payload) t ≡ true → isGiven (mapped withoutRecord (readKind code (valueOf payload t))) ≡ isGiven (readsAs code payload t)
-  measured e = still (readKind code (valueOf payload t)) ∙ ap isGiven (reads e)
+  pub measured : (value : List ℕ) (size m : KindSize) → size ≡ m → kindSizeOf size ≡ mapped withoutRecord (readKind code value) → value ≡ valueOf payload t
+      → isCandidate code (length payload) t ≡ true → isGiven (kindSizeOf m) ≡ isGiven (readsAs code payload t)
+  measured value size m is e v h = rw (← is, e, v) (still (readKind code (valueOf payload t)) ∙ ap isGiven (reads h))
+
+  pub looked : (place : ℕ) (value : List ℕ) (read m : KindRead) → read ≡ m → kindReadOf read ≡ readKind code value → value ≡ valueOf payload t
+      → isCandidate code (length payload) t ≡ true → thereOr (kindReadOf m) place t (noneOf code) ≡ thereOr (readsAs code payload t) place t (noneOf code)
+  looked place value read m is e v h = ap (λ (y : Answer (Typed Record)). thereOr y place t (noneOf code)) (ap kindReadOf (sym is) ∙ e ∙ ap (readKind code) v ∙ reads h)
 
   pub no-candidate : isCandidate code (length payload) t ≡ false → refuses 15 [] ≡ readsAs code payload t
   unfolding readsAs

@@ -13,8 +13,4 @@ returns-2 c = c .reads .ensures ∙ rw (le-ltb (c .before .before .before .args 
 
 pub is-sought-spec : {M : Type 1} → statement M
 is-sought-spec =
-    tie.close
-    (tie.spec
-    returns
-    (λ c κs. search needs)
-    returns-2)
+    tie.close (tie.spec returns (λ c κs. search needs) returns-2)

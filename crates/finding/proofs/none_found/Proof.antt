@@ -9,7 +9,4 @@ returns c = refused-so _ _ _ (c .nothing .ensures)
 
 pub none-found-spec : {M : Type 1} → statement M
 none-found-spec =
-    tie.close
-    (tie.spec
-    (λ c κs. search needs)
-    returns)
+    tie.close (tie.spec (λ c κs. search needs) returns)

@@ -12,8 +12,4 @@ returns-2 c = rw (sym (c .before .is-kind .ensures) ∙ c .if1 .left)
 
 pub nothing-spec : {M : Type 1} → statement M
 nothing-spec =
-    tie.close
-    (tie.spec
-    (λ c κs. search needs)
-    returns
-    returns-2)
+    tie.close (tie.spec (λ c κs. search needs) returns returns-2)

@@ -13,8 +13,4 @@ returns-2 c = c .nothing .ensures ∙ rw (le-ltb (c .before .before .args .place
 
 pub outcome-spec : {M : Type 1} → statement M
 outcome-spec =
-    tie.close
-    (tie.spec
-    returns
-    (λ c κs. search needs)
-    returns-2)
+    tie.close (tie.spec returns (λ c κs. search needs) returns-2)

@@ -49,23 +49,4 @@ returns-5 c = stops _ _ _ _ _ (c .before .before .before .loop .inv) _ _ (ap ste
 
 pub search-spec : {M : Type 1} → statement M
 search-spec =
-    tie.close
-    (tie.spec
-    Inv-loop
-    μ-loop
-    loop-holds
-    (λ c κs. search needs)
-    (λ c. search needs)
-    returns
-    (λ c. search needs)
-    (λ c κs. search needs)
-    returns-2
-    add-place
-    loop-less
-    loop-again
-    (λ c. search needs)
-    (λ c κs. search needs)
-    returns-3
-    returns-4
-    (λ c. search needs)
-    returns-5)
+    tie.close (tie.spec Inv-loop μ-loop loop-holds (λ c κs. search needs) (λ c. search needs) returns (λ c. search needs) (λ c κs. search needs) returns-2 add-place loop-less loop-again (λ c. search needs) (λ c κs. search needs) returns-3 returns-4 (λ c. search needs) returns-5)

@@ -15,10 +15,4 @@ returns-3 c = rw (sym (c .before .before .before .is-list .ensures) ∙ c .befor
 
 pub family-of-spec : {M : Type 1} → statement M
 family-of-spec =
-    tie.close
-    (tie.spec
-    (λ c κs. search needs)
-    returns
-    (λ c κs. search needs)
-    returns-2
-    returns-3)
+    tie.close (tie.spec (λ c κs. search needs) returns (λ c κs. search needs) returns-2 returns-3)

@@ -16,13 +16,4 @@ returns-3 c = c .is-record .ensures ∙ kind-by _ (sym (c .before .enum-told3 .g
 
 pub is-kind-spec : {M : Type 1} → statement M
 is-kind-spec =
-    tie.close
-    (tie.spec
-    (λ c κs. search needs)
-    (λ c. search needs)
-    (λ c. search needs)
-    (λ c. search needs)
-    (λ c κs. search needs)
-    returns
-    returns-2
-    returns-3)
+    tie.close (tie.spec (λ c κs. search needs) (λ c. search needs) (λ c. search needs) (λ c. search needs) (λ c κs. search needs) returns returns-2 returns-3)

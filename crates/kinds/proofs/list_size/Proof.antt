@@ -11,9 +11,4 @@ returns-2 c = rw (c .before .list2 .given .1)
 
 pub list-size-spec : {M : Type 1} → statement M
 list-size-spec =
-    tie.close
-    (tie.spec
-    (λ c. search needs)
-    (λ c. search needs)
-    returns
-    returns-2)
+    tie.close (tie.spec (λ c. search needs) (λ c. search needs) returns returns-2)

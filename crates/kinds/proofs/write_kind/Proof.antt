@@ -30,18 +30,4 @@ returns-3 c =
 
 pub write-kind-spec : {M : Type 1} → statement M
 write-kind-spec =
-    tie.close
-    (tie.spec
-    (λ c κs. search needs)
-    (λ c. search needs)
-    slice-aggregate-write-tlv
-    (λ c κs. search needs)
-    (λ c. search needs)
-    slice-aggregate-write-tlv-2
-    (λ c κs. search needs)
-    (λ c. search needs)
-    (λ c. search needs)
-    returns
-    (λ c. search needs)
-    returns-2
-    returns-3)
+    tie.close (tie.spec (λ c κs. search needs) (λ c. search needs) slice-aggregate-write-tlv (λ c κs. search needs) (λ c. search needs) slice-aggregate-write-tlv-2 (λ c κs. search needs) (λ c. search needs) (λ c. search needs) returns (λ c. search needs) returns-2 returns-3)
