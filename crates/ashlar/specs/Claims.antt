@@ -21,7 +21,7 @@ use Rattle.c_answers.specs.declared.AshlarWalk.{AshlarWalk}
 use Rattle.c_answers.specs.declared.AshlarPushed.{AshlarPushed}
 use Rattle.c_answers.specs.Numbers.{headerNumbers, walkNumbers, kindNumbers, foundNumbers, partNumbers, Numbered, shownIn}
 use Rattle.records.specs.declared.MacAddr.{MacAddr}
-use Rattle.stations.specs.Addresses.{numberOf}
+use Rattle.stations.specs.Addresses.{addressNumber}
 use Rattle.stations.specs.Whereabouts.{eventOf}
 use Rattle.stations.specs.Rows.{Stations, freshStations, whereOf, answerTo, tableAfter, rowAt, countOf, whereShown, rowShown}
 use Rattle.stations.specs.Events.{answerFrom, tableFrom}
@@ -60,7 +60,7 @@ pub record Firmness : Type 0 where
       → Firm {A = AshlarApplied × Stations} (λ o.
       (o .0 ≡ appliedNumbers (length value) (answerFrom t value)) × (o .1 ≡ tableFrom t value))
   pub ashlar-station-at : (t : Stations) (station : MacAddr)
-      → Firm (λ r. r ≡ whereNumbers (whereShown (whereOf t (numberOf station))))
+      → Firm (λ r. r ≡ whereNumbers (whereShown (whereOf t (addressNumber station))))
   pub ashlar-station-count : (t : Stations) → Firm (λ r. r ≡ countOf t)
   pub ashlar-station-row : (t : Stations) (n : ℕ) → Firm (λ r. r ≡ rowNumbers (rowShown (rowAt t n)))
 

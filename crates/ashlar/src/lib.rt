@@ -30,7 +30,7 @@ ghost use Rattle.table.specs.Rows.{freshTable};
 ghost use Rattle.pushing.specs.Push.{way};
 ghost use Rattle.pushing.specs.Made.{Made};
 ghost use Rattle.sweeping.specs.Sweep.{swept, sweptAs};
-ghost use Rattle.stations.specs.Addresses.{numberOf};
+ghost use Rattle.stations.specs.Addresses.{addressNumber};
 ghost use Rattle.stations.specs.Whereabouts.{eventOf};
 ghost use Rattle.stations.specs.Rows.{freshStations, whereOf, answerTo, tableAfter, rowAt, countOf, whereShown, rowShown};
 ghost use Rattle.stations.specs.Events.{answerFrom, tableFrom};
@@ -191,7 +191,7 @@ pub extern "C" fn ashlar_station_event_from(t: &mut Stations, value: &[u8]) -> A
 // Where a station is.
 #[no_mangle]
 pub extern "C" fn ashlar_station_at(t: &Stations, station: MacAddr) -> AshlarAt
-    ensures { λ r. ⌜ r ≡ whereNumbers (whereShown (whereOf (now (t .entry)) (numberOf station))) ⌝ }
+    ensures { λ r. ⌜ r ≡ whereNumbers (whereShown (whereOf (now (t .entry)) (addressNumber station))) ⌝ }
 {
     c_stations::where_numbers(stations::where_is(t, station))
 }

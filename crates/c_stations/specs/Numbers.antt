@@ -29,9 +29,9 @@ abbrev pub heardAs : ℕ → AshlarHeard
 heardAs answer = record { from = noAddress; answer = answer; refusal = 0 }
 
 abbrev pub heardNumbers : Heard → AshlarHeard
-heardNumbers Heard.Placed = heardAs 1
+heardNumbers Heard.New = heardAs 1
 heardNumbers (Heard.Moved from) = record { from = from; answer = 2; refusal = 0 }
-heardNumbers Heard.Same = heardAs 3
+heardNumbers Heard.There = heardAs 3
 heardNumbers Heard.Removed = heardAs 4
 heardNumbers Heard.Stale = heardAs 5
 
@@ -54,4 +54,4 @@ whereNumbers (Where.At point) = record { point = point; held = true }
 
 abbrev pub rowNumbers : Listed → AshlarRow
 rowNumbers Listed.Free = record { station = noAddress; point = noAddress; held = false }
-rowNumbers (Listed.Held station point) = record { station = station; point = point; held = true }
+rowNumbers (Listed.Occupied station point) = record { station = station; point = point; held = true }

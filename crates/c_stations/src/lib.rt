@@ -3,8 +3,8 @@
 use records::AssociationState;
 use records::ClientAssociation;
 use records::MacAddr;
-use stations::Answered;
 use stations::Applied;
+use stations::EventAnswer;
 use stations::Heard;
 use stations::Listed;
 use stations::Where;
@@ -88,13 +88,13 @@ fn heard_numbers(heard: Heard) -> AshlarHeard
     ensures { λ r. ⌜ r ≡ heardNumbers heard ⌝ }
 {
     match heard {
-        Heard::Placed => heard_as(1),
+        Heard::New => heard_as(1),
         Heard::Moved { from } => AshlarHeard {
             from,
             answer: 2,
             refusal: 0,
         },
-        Heard::Same => heard_as(3),
+        Heard::There => heard_as(3),
         Heard::Removed => heard_as(4),
         Heard::Stale => heard_as(5),
     }
@@ -111,12 +111,12 @@ fn refused_as(refusal: u8) -> AshlarHeard
 }
 
 // What an event is answered.
-pub fn event_numbers(answered: Answered) -> AshlarHeard
+pub fn event_numbers(answered: EventAnswer) -> AshlarHeard
     ensures { λ r. ⌜ r ≡ eventNumbers (answeredOf answered) ⌝ }
 {
     match answered {
-        Answered::Heard(heard) => heard_numbers(heard),
-        Answered::Refused(refusal) => refused_as(numbers::number_of(refusal)),
+        EventAnswer::Heard(heard) => heard_numbers(heard),
+        EventAnswer::Refused(refusal) => refused_as(numbers::number_of(refusal)),
     }
 }
 
@@ -160,7 +160,7 @@ pub fn row_numbers(listed: Listed) -> AshlarRow
     ensures { λ r. ⌜ r ≡ rowNumbers listed ⌝ }
 {
     match listed {
-        Listed::Held { station, point } => AshlarRow {
+        Listed::Occupied { station, point } => AshlarRow {
             station,
             point,
             held: true,

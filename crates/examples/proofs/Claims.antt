@@ -19,8 +19,9 @@ use Rattle.kinds.specs.Kinds.{readKind, locateKind, countKind, locateTextIn}
 use Rattle.kinds.specs.Writing.{writeKind, kindBytes}
 use Rattle.finding.specs.Finding.{readsAs, firstOf, findFrom, findInPayload}
 use Rattle.pushing.specs.Push.{wayBy, keepWay, messageWay}
+use Rattle.searching.specs.Count.{howMany}
 use Rattle.stations.specs.Addresses.{addressOf}
-use Rattle.stations.specs.Rows.{whereOf, allHeld, afterJoin, afterLeave, countBelow}
+use Rattle.stations.specs.Rows.{whereOf, allHeld, afterJoin, afterLeave}
 use Rattle.c_answers.specs.Numbers.{shownIn}
 use Rattle.orders.proofs.Examples.{stays-at-2999, goes-at-3000, zero-then-last-one, last-one-alone}
 use Rattle.examples.specs.Claims.{Claims, OfFraming, OfWalks, OfKinds, OfTexts, OfFinding, OfTheTable, OfStations, OfC}
@@ -203,7 +204,7 @@ of-the-table = record {
 }
 
 of-stations : OfStations
-unfolding lowest whereOf allHeld afterJoin afterLeave addressOf countBelow empty fixed readRecord
+unfolding lowest whereOf allHeld afterJoin afterLeave addressOf howMany empty fixed readRecord
 of-stations = record {
   placed = (refl, refl);
   moved = (refl, refl);

@@ -26,11 +26,11 @@ use Rattle.kinds.specs.Kinds.{one, readKind, locateKind, countKind, locateTextI
 use Rattle.kinds.specs.Writing.{writeKind, kindBytes}
 use Rattle.finding.specs.Finding.{findFrom, findInPayload}
 use Rattle.pushing.specs.Push.{Way, refuse, duplicate, keepAt, openAt, end, waiting, duplicated, inconsistent, missing, missingLast, single, joined as joinedAs, wayBy, keepWay, messageWay}
-use Rattle.orders.specs.Runs.{Push, push, sweep, pushed, dropped, after, tells, start, holding, holdsNothing, repliesTo}
+use Rattle.orders.specs.Runs.{Push, push, sweep, pushed, dropped, after, replyTo, start, holding, holdsNothing, repliesTo}
 use Rattle.stations.specs.declared.Heard.{Heard}
 use Rattle.stations.specs.declared.Where.{Where}
 use Rattle.stations.specs.declared.Listed.{Listed}
-use Rattle.stations.specs.Rows.{freshStations, answerTo, tableAfter, holds, countOf}
+use Rattle.stations.specs.Rows.{freshStations, answerTo, tableAfter, heldRow, countOf}
 use Rattle.stations.specs.Events.{answerFrom, tableFrom}
 use Rattle.c_answers.specs.Numbers.{headerNumbers, walkNumbers, kindNumbers, foundNumbers, partNumbers, pushNumbers, shownIn}
 use Rattle.c_stations.specs.Numbers.{noAddress, eventNumbers, appliedNumbers, whereNumbers, rowNumbers}
@@ -227,10 +227,10 @@ pub record OfTheTable : Type 0 where
   pub single-needs-none : messageWay 1 (1 ∷ 2 ∷ 3 ∷ []) 0 ≡ end (single 3) []
   -- "elapsed 2,999 stays, 3,000 goes": one fragment, not marked last, and a sweep so many milliseconds later
   pub stays : (store : List ℕ) (p : Push) → LetIn store p → p .arrival .fragment .last ≡ false
-      → (tells (after (start store) (push p)) (sweep (p .arrival .time + 2999)) ≡ dropped 0)
+      → (replyTo (after (start store) (push p)) (sweep (p .arrival .time + 2999)) ≡ dropped 0)
       × (holding (p .arrival .key) (after (after (start store) (push p)) (sweep (p .arrival .time + 2999))) ≡ holding (p .arrival .key) (after (start store) (push p)))
   pub goes : (store : List ℕ) (p : Push) → LetIn store p → p .arrival .fragment .last ≡ false
-      → (tells (after (start store) (push p)) (sweep (p .arrival .time + 3000)) ≡ dropped 1)
+      → (replyTo (after (start store) (push p)) (sweep (p .arrival .time + 3000)) ≡ dropped 1)
       × (holding (p .arrival .key) (after (after (start store) (push p)) (sweep (p .arrival .time + 3000))) ≡ holdsNothing)
   -- "number 0 then last 1 completes"
   pub completes : (store : List ℕ) (p q : Push) → LetIn store p → LetIn store q → ZeroThenLastOne p q
@@ -238,29 +238,29 @@ pub record OfTheTable : Type 0 where
       ≡ pushed (gives waiting) [] ∷ pushed (gives (joinedAs (length (p .payload ++ q .payload)))) (p .payload ++ q .payload) ∷ []
   -- "last 1 alone gives `MissingFragments`"
   pub alone : (store : List ℕ) (p : Push) → LetIn store p → p .arrival .fragment .number ≡ 1 → p .arrival .fragment .last ≡ true
-      → tells (start store) (push p) ≡ pushed (gives missing) []
+      → replyTo (start store) (push p) ≡ pushed (gives missing) []
 
 -- Request 2026-02: each answer of an event, with the stations that the table holds after it
 pub record OfStations : Type 0 where
-  pub placed : (answerTo freshStations (join-of 7 1) ≡ gives Heard.Placed) × (rows-below 128 with-7 ≡ holds 7 1 ∷ [])
+  pub placed : (answerTo freshStations (join-of 7 1) ≡ gives Heard.New) × (rows-below 128 with-7 ≡ heldRow 7 1 ∷ [])
   -- a move says where the station was
   pub moved : (answerTo with-7 (join-of 7 2) ≡ gives (Heard.Moved (record { b0 = 0; b1 = 0; b2 = 0; b3 = 0; b4 = 0; b5 = 1 })))
-      × (rows-below 128 (tableAfter with-7 (join-of 7 2)) ≡ holds 7 2 ∷ [])
-  pub same : (answerTo with-7 (join-of 7 1) ≡ gives Heard.Same) × (rows-below 128 (tableAfter with-7 (join-of 7 1)) ≡ holds 7 1 ∷ [])
-  pub second : (answerTo with-7 (join-of 0 1) ≡ gives Heard.Placed) × (rows-below 128 (tableAfter with-7 (join-of 0 1)) ≡ holds 0 1 ∷ holds 7 1 ∷ [])
+      × (rows-below 128 (tableAfter with-7 (join-of 7 2)) ≡ heldRow 7 2 ∷ [])
+  pub same : (answerTo with-7 (join-of 7 1) ≡ gives Heard.There) × (rows-below 128 (tableAfter with-7 (join-of 7 1)) ≡ heldRow 7 1 ∷ [])
+  pub second : (answerTo with-7 (join-of 0 1) ≡ gives Heard.New) × (rows-below 128 (tableAfter with-7 (join-of 0 1)) ≡ heldRow 0 1 ∷ heldRow 7 1 ∷ [])
   pub removed : (answerTo with-7 (leave-of 7 1) ≡ gives Heard.Removed) × (rows-below 128 (tableAfter with-7 (leave-of 7 1)) ≡ [])
   -- a late leave, and a leave of a station that is not held
-  pub late : (answerTo with-7 (leave-of 7 2) ≡ gives Heard.Stale) × (rows-below 128 (tableAfter with-7 (leave-of 7 2)) ≡ holds 7 1 ∷ [])
-  pub not-held : (answerTo with-7 (leave-of 8 1) ≡ gives Heard.Stale) × (rows-below 128 (tableAfter with-7 (leave-of 8 1)) ≡ holds 7 1 ∷ [])
+  pub late : (answerTo with-7 (leave-of 7 2) ≡ gives Heard.Stale) × (rows-below 128 (tableAfter with-7 (leave-of 7 2)) ≡ heldRow 7 1 ∷ [])
+  pub not-held : (answerTo with-7 (leave-of 8 1) ≡ gives Heard.Stale) × (rows-below 128 (tableAfter with-7 (leave-of 8 1)) ≡ heldRow 7 1 ∷ [])
   -- 17, "a join of an unknown station with 128 held"; a known one moves, and a leave makes room
   pub held-128 : countOf with-128 ≡ 128
   pub unknown-refused : (answerTo with-128 (join-of 128 1) ≡ refuses 17 []) × (rows-below 128 (tableAfter with-128 (join-of 128 1)) ≡ rows-below 128 with-128)
   pub known-moves : (answerTo with-128 (join-of 5 2) ≡ gives (Heard.Moved (record { b0 = 0; b1 = 0; b2 = 0; b3 = 0; b4 = 0; b5 = 1 }))) × (countOf (tableAfter with-128 (join-of 5 2)) ≡ 128)
-  pub leave-frees : (answerTo with-128 (leave-of 5 1) ≡ gives Heard.Removed) × (answerTo (tableAfter with-128 (leave-of 5 1)) (join-of 128 1) ≡ gives Heard.Placed)
+  pub leave-frees : (answerTo with-128 (leave-of 5 1) ≡ gives Heard.Removed) × (answerTo (tableAfter with-128 (leave-of 5 1)) (join-of 128 1) ≡ gives Heard.New)
   -- an event in a value of kind 0x92: its bytes that were taken, or the reader's refusal, which alters nothing
-  pub event-read : answerFrom freshStations (and-more (association 0x80)) ≡ gives (record { heard = Heard.Placed; consumed = 13 })
-  pub event-cut : (answerFrom with-7 (0x02 ∷ []) ≡ refuses 3 []) × (rows-below 128 (tableFrom with-7 (0x02 ∷ [])) ≡ holds 7 1 ∷ [])
-  pub event-unreadable : (answerFrom with-7 (association 0x81) ≡ refuses 5 []) × (rows-below 128 (tableFrom with-7 (association 0x81)) ≡ holds 7 1 ∷ [])
+  pub event-read : answerFrom freshStations (and-more (association 0x80)) ≡ gives (record { heard = Heard.New; consumed = 13 })
+  pub event-cut : (answerFrom with-7 (0x02 ∷ []) ≡ refuses 3 []) × (rows-below 128 (tableFrom with-7 (0x02 ∷ [])) ≡ heldRow 7 1 ∷ [])
+  pub event-unreadable : (answerFrom with-7 (association 0x81) ≡ refuses 5 []) × (rows-below 128 (tableFrom with-7 (association 0x81)) ≡ heldRow 7 1 ∷ [])
 
 -- Each answer as C gets it: the fields of the structs of include/ashlar.h
 pub record OfC : Type 0 where
@@ -291,9 +291,9 @@ pub record OfC : Type 0 where
   pub c-shown-in-output : shownIn (record { length = 10; answer = 7; refusal = 0 }) 0 10 ≡ record { length = 10; «in_output» = true }
   pub c-shown-beyond : shownIn (record { length = 10; answer = 7; refusal = 0 }) 99 9 ≡ record { length = 0; «in_output» = true }
   pub c-shown-nothing : shownIn (record { length = 9; answer = 1; refusal = 0 }) 9 9 ≡ record { length = 0; «in_output» = false }
-  pub c-placed : eventNumbers (gives Heard.Placed) ≡ record { from = noAddress; answer = 1; refusal = 0 }
+  pub c-placed : eventNumbers (gives Heard.New) ≡ record { from = noAddress; answer = 1; refusal = 0 }
   pub c-moved : eventNumbers (gives (Heard.Moved (kept-mac 1))) ≡ record { from = kept-mac 1; answer = 2; refusal = 0 }
-  pub c-same : eventNumbers (gives Heard.Same) ≡ record { from = noAddress; answer = 3; refusal = 0 }
+  pub c-same : eventNumbers (gives Heard.There) ≡ record { from = noAddress; answer = 3; refusal = 0 }
   pub c-removed : eventNumbers (gives Heard.Removed) ≡ record { from = noAddress; answer = 4; refusal = 0 }
   pub c-stale : eventNumbers (gives Heard.Stale) ≡ record { from = noAddress; answer = 5; refusal = 0 }
   pub c-no-station-room : eventNumbers (refuses 17 []) ≡ record { from = noAddress; answer = 0; refusal = 17 }
@@ -302,7 +302,7 @@ pub record OfC : Type 0 where
   pub c-not-applied : appliedNumbers 20 (refuses 5 []) ≡ record { consumed = 0; rest = 0; heard = record { from = noAddress; answer = 0; refusal = 5 } }
   pub c-at : whereNumbers (Where.At (kept-mac 1)) ≡ record { point = kept-mac 1; held = true }
   pub c-nowhere : whereNumbers Where.Nowhere ≡ record { point = noAddress; held = false }
-  pub c-row : rowNumbers (Listed.Held (kept-mac 1) (kept-mac 2)) ≡ record { station = kept-mac 1; point = kept-mac 2; held = true }
+  pub c-row : rowNumbers (Listed.Occupied (kept-mac 1) (kept-mac 2)) ≡ record { station = kept-mac 1; point = kept-mac 2; held = true }
   pub c-free-row : rowNumbers Listed.Free ≡ record { station = noAddress; point = noAddress; held = false }
 
 -- everything that is claimed of this crate

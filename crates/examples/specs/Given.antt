@@ -16,7 +16,7 @@ use Rattle.walking.specs.declared.Tlv.{Tlv}
 use Rattle.table.specs.Rows.{placeSize, storeSize}
 use Rattle.orders.specs.Runs.{Push}
 use Rattle.stations.specs.Whereabouts.{Event}
-use Rattle.stations.specs.Rows.{Stations, freshStations, tableAfter, Row, free, holds, rowAt}
+use Rattle.stations.specs.Rows.{Stations, freshStations, tableAfter, StationRow, freeRow, heldRow, rowAt}
 
 -- an address of six equal octets, and the bytes of an association of two such with a last byte
 abbrev pub address : ℕ → MacAddr
@@ -188,10 +188,10 @@ two-tlvs = (0x01 ∷ 0x00 ∷ 0x01 ∷ 0x7F ∷ []) ++ (0x02 ∷ 0x00 ∷ 0x00 �
 
 -- station s joins access point p, and leaves it
 abbrev pub join-of : ℕ → ℕ → Event
-join-of s p = record { station = s; point = p; joined = true }
+join-of s p = record { station = s; point = p; is-join = true }
 
 abbrev pub leave-of : ℕ → ℕ → Event
-leave-of s p = record { station = s; point = p; joined = false }
+leave-of s p = record { station = s; point = p; is-join = false }
 
 -- a table with station 7 at access point 1, and one with the 128 stations 0 to 127 there: row n has the mark of station n, which is n + 1
 abbrev pub with-7 : Stations
@@ -205,11 +205,11 @@ abbrev pub with-128 : Stations
 with-128 = marksTo 128 ++ replicate 128 1
 
 -- the rows below n that hold a station, the highest first
-abbrev pub heldOr : Row → List Row → List Row
-heldOr free rs = rs
-heldOr (holds s p) rs = holds s p ∷ rs
+abbrev pub heldOr : StationRow → List StationRow → List StationRow
+heldOr freeRow rs = rs
+heldOr (heldRow s p) rs = heldRow s p ∷ rs
 
-abbrev pub rows-below : ℕ → Stations → List Row
+abbrev pub rows-below : ℕ → Stations → List StationRow
 rows-below zero t = []
 rows-below (suc n) t = heldOr (rowAt t n) (rows-below n t)
 

@@ -20,7 +20,7 @@ module _ (e : Event) where
   join-when nowhere q = (q, refl)
   join-when (at p) q = by-point (eqb p (e .point)) refl
     where
-      by-point : (b : Bool) → eqb p (e .point) ≡ b → HeardWhen e (at p) (cond b Heard.Same (Heard.Moved (addressOf p)))
+      by-point : (b : Bool) → eqb p (e .point) ≡ b → HeardWhen e (at p) (cond b Heard.There (Heard.Moved (addressOf p)))
       by-point true f = (q, ap at (eqb-true p (e .point) f))
       by-point false f = (q, record { came-from = p; there = refl; elsewhere = eqb-false p (e .point) f; shown-as = refl })
 
@@ -48,9 +48,9 @@ module _ (e : Event) where
 
   -- the way back
   when-heard : (was : Whereabouts) (h : Heard) → HeardWhen e was h → heardOf e was ≡ h
-  when-heard was Heard.Placed w = rw (w .0, w .1)
+  when-heard was Heard.New w = rw (w .0, w .1)
   when-heard was (Heard.Moved from) w = rw (w .0, w .1 .there, ne-eqb (w .1 .came-from) (e .point) (w .1 .elsewhere), w .1 .shown-as)
-  when-heard was Heard.Same w = rw (w .0, w .1, eq-eqb (e .point) (e .point) refl)
+  when-heard was Heard.There w = rw (w .0, w .1, eq-eqb (e .point) (e .point) refl)
   when-heard was Heard.Removed w = rw (w .0, w .1, eq-eqb (e .point) (e .point) refl)
   when-heard was Heard.Stale w = rw (w .0, not-there was (w .1))
 

@@ -13,9 +13,9 @@ use Rattle.machines.specs.Happened.{andSteps}
 use Rattle.records.specs.declared.MacAddr.{MacAddr}
 use Rattle.records.specs.Values.{octets}
 use Rattle.stations.specs.declared.Heard.{Heard}
-use Rattle.stations.specs.declared.Answered.{Answered}
+use Rattle.stations.specs.declared.EventAnswer.{EventAnswer}
 use Rattle.stations.specs.declared.Applied.{Applied}
-use Rattle.stations.specs.Addresses.{numberOf, addressOf}
+use Rattle.stations.specs.Addresses.{addressNumber, addressOf}
 use Rattle.stations.specs.Whereabouts.{Event, eventOf}
 use Rattle.stations.specs.Rows.{Stations, freshStations, answerTo, tableAfter}
 use Rattle.stations.specs.Events.{answeredOf, Taken, appliedOf, AssociationRead, associationRead, answerToRead, tableAfterRead, answerFrom, tableFrom}
@@ -26,11 +26,11 @@ use Rattle.stations.proofs.Associations.{reads-association}
 use Rattle.stations.proofs.Answers.{answered-when, stale-unaltered}
 use Rattle.stations.proofs.Orders.{exactly-when, order-across-stations, swapped}
 
-answered-one : (a b : Answered) → answeredOf a ≡ answeredOf b → a ≡ b
-answered-one (Answered.Heard h) (Answered.Heard k) e = ap Answered.Heard (given h k e)
-answered-one (Answered.Heard h) (Answered.Refused g) e = never _ _ _ e
-answered-one (Answered.Refused f) (Answered.Heard k) e = never _ _ _ (sym e)
-answered-one (Answered.Refused f) (Answered.Refused g) e = ap Answered.Refused (firm Heard f g e)
+answered-one : (a b : EventAnswer) → answeredOf a ≡ answeredOf b → a ≡ b
+answered-one (EventAnswer.Heard h) (EventAnswer.Heard k) e = ap EventAnswer.Heard (given h k e)
+answered-one (EventAnswer.Heard h) (EventAnswer.Refused g) e = never _ _ _ e
+answered-one (EventAnswer.Refused f) (EventAnswer.Heard k) e = never _ _ _ (sym e)
+answered-one (EventAnswer.Refused f) (EventAnswer.Refused g) e = ap EventAnswer.Refused (firm Heard f g e)
 
 applied-one : (a b : Applied) → appliedOf a ≡ appliedOf b → a ≡ b
 applied-one (Applied.Heard h n) (Applied.Heard k m) e = ap (λ (x : Taken). Applied.Heard (x .heard) (x .consumed)) (given _ _ e)
@@ -41,7 +41,7 @@ applied-one (Applied.Refused f) (Applied.Refused g) e = ap Applied.Refused (firm
 firmness : Firmness
 firmness = record {
   fresh = by-equation freshStations;
-  event = λ t e. both (λ (a : Answered). answeredOf a ≡ answerTo t (eventOf e)) (λ (x : Stations). x ≡ tableAfter t (eventOf e)) (by-telling answeredOf answered-one _) (by-equation _);
+  event = λ t e. both (λ (a : EventAnswer). answeredOf a ≡ answerTo t (eventOf e)) (λ (x : Stations). x ≡ tableAfter t (eventOf e)) (by-telling answeredOf answered-one _) (by-equation _);
   event-from = λ t value. both (λ (a : Applied). appliedOf a ≡ answerFrom t value) (λ (x : Stations). x ≡ tableFrom t value) (by-telling appliedOf applied-one _) (by-equation _);
   where-is = λ t station. by-equation _;
   count = λ t. by-equation _;
@@ -67,7 +67,7 @@ event-in-value t value = by-read (associationRead value)
     by-read (gives x) = refl
     by-read (refuses n vs) = refl
 
-address-kept : (m : MacAddr) → ((i : ℕ) → getD (octets m) i 0 < 256) → addressOf (numberOf m) ≡ m
+address-kept : (m : MacAddr) → ((i : ℕ) → getD (octets m) i 0 < 256) → addressOf (addressNumber m) ≡ m
 unfolding addressOf
 address-kept m h = λ i. record {
   b0 = e0 i;
@@ -78,22 +78,22 @@ address-kept m h = λ i. record {
   b5 = e5 i;
 }
   where
-    e0 : numberOf m / 1099511627776 % 256 ≡ m .b0
+    e0 : addressNumber m / 1099511627776 % 256 ≡ m .b0
     e0 = omega (arith, h 0, h 1, h 2, h 3, h 4, h 5)
 
-    e1 : numberOf m / 4294967296 % 256 ≡ m .b1
+    e1 : addressNumber m / 4294967296 % 256 ≡ m .b1
     e1 = omega (arith, h 0, h 1, h 2, h 3, h 4, h 5)
 
-    e2 : numberOf m / 16777216 % 256 ≡ m .b2
+    e2 : addressNumber m / 16777216 % 256 ≡ m .b2
     e2 = omega (arith, h 0, h 1, h 2, h 3, h 4, h 5)
 
-    e3 : numberOf m / 65536 % 256 ≡ m .b3
+    e3 : addressNumber m / 65536 % 256 ≡ m .b3
     e3 = omega (arith, h 0, h 1, h 2, h 3, h 4, h 5)
 
-    e4 : numberOf m / 256 % 256 ≡ m .b4
+    e4 : addressNumber m / 256 % 256 ≡ m .b4
     e4 = omega (arith, h 0, h 1, h 2, h 3, h 4, h 5)
 
-    e5 : numberOf m % 256 ≡ m .b5
+    e5 : addressNumber m % 256 ≡ m .b5
     e5 = omega (arith, h 0, h 1, h 2, h 3, h 4, h 5)
 
 pub claims : Claims

@@ -54,7 +54,7 @@ module _ (t : Stations) (station point : ℕ) where
   unfolding afterJoin
   known n e h = (rw (known-place t station n e h), rw (sym e, lt-ltb n 128 h))
 
-  pub new : (none n : ℕ) → none ≡ rowWith t (station + 1) → 128 ≤ none → n ≡ rowWith t 0 → n < 128 → Joined (gives Heard.Placed) (withRow t n (station + 1) point)
+  pub new : (none n : ℕ) → none ≡ rowWith t (station + 1) → 128 ≤ none → n ≡ rowWith t 0 → n < 128 → Joined (gives Heard.New) (withRow t n (station + 1) point)
   unfolding afterJoin
   new none n d g e h = (rw (unknown-place t station none d g, room-is t n e h), rw (sym d, le-ltb none 128 g, room-is t n e h, sym e))
 

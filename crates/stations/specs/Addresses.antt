@@ -2,8 +2,8 @@
 use Prim.Native.Nat.{ℕ, _+_, _*_, _/_, _%_}
 use Rattle.records.specs.declared.MacAddr.{MacAddr}
 
-abbrev pub numberOf : MacAddr → ℕ
-numberOf m = ((((m .b0 * 256 + m .b1) * 256 + m .b2) * 256 + m .b3) * 256 + m .b4) * 256 + m .b5
+abbrev pub addressNumber : MacAddr → ℕ
+addressNumber m = ((((m .b0 * 256 + m .b1) * 256 + m .b2) * 256 + m .b3) * 256 + m .b4) * 256 + m .b5
 
 -- of a number of 48 bits; of a greater one, its lower 48
 unfoldable pub addressOf : ℕ → MacAddr

@@ -15,11 +15,11 @@ use Rattle.records.specs.declared.Record.{Record}
 use Rattle.records.specs.Reading.{RecordRead, readRecord}
 use Rattle.records.specs.Values.{octets, associationIn}
 use Rattle.stations.specs.declared.Heard.{Heard}
-use Rattle.stations.specs.declared.Answered.{Answered}
+use Rattle.stations.specs.declared.EventAnswer.{EventAnswer}
 use Rattle.stations.specs.declared.Applied.{Applied}
 use Rattle.stations.specs.declared.Where.{Where}
 use Rattle.stations.specs.declared.Listed.{Listed}
-use Rattle.stations.specs.Addresses.{numberOf, addressOf}
+use Rattle.stations.specs.Addresses.{addressNumber, addressOf}
 use Rattle.stations.specs.Whereabouts.{Whereabouts, nowhere, at, Event, eventOf, whereAfter}
 use Rattle.stations.specs.Rows.{Stations, freshStations, rows, pointAt, whereOf, allHeld, answerTo, tableAfter, freeRow, heldRow, rowAt, countOf, whereShown, rowShown}
 use Rattle.stations.specs.Events.{answeredOf, appliedOf, associationCode, answerFrom, tableFrom}
@@ -28,9 +28,9 @@ use Rattle.stations.specs.Runs.{StationCall, stationContract, of-value, 
 -- each public call by its name: any two answers, with the table that was lent, that its contract allows are one
 pub record Firmness : Type 0 where
   pub fresh : Firm {A = Stations} (λ r. r ≡ freshStations)
-  pub event : (t : Stations) (e : ClientAssociation) → Firm {A = Answered × Stations} (λ o. (answeredOf (o .0) ≡ answerTo t (eventOf e)) × (o .1 ≡ tableAfter t (eventOf e)))
+  pub event : (t : Stations) (e : ClientAssociation) → Firm {A = EventAnswer × Stations} (λ o. (answeredOf (o .0) ≡ answerTo t (eventOf e)) × (o .1 ≡ tableAfter t (eventOf e)))
   pub event-from : (t : Stations) (value : List ℕ) → Firm {A = Applied × Stations} (λ o. (appliedOf (o .0) ≡ answerFrom t value) × (o .1 ≡ tableFrom t value))
-  pub where-is : (t : Stations) (station : MacAddr) → Firm {A = Where} (λ r. r ≡ whereShown (whereOf t (numberOf station)))
+  pub where-is : (t : Stations) (station : MacAddr) → Firm {A = Where} (λ r. r ≡ whereShown (whereOf t (addressNumber station)))
   pub count : (t : Stations) → Firm (λ r. r ≡ countOf t)
   pub row : (t : Stations) (n : ℕ) → Firm {A = Listed} (λ r. r ≡ rowShown (rowAt t n))
 
@@ -63,9 +63,9 @@ pub record MovedFrom (from : MacAddr) (point : ℕ) (was : Whereabouts) : Type 0
   pub shown-as : from ≡ addressOf came-from
 
 abbrev pub HeardWhen : Event → Whereabouts → Heard → Type 0
-HeardWhen e was Heard.Placed = (e .is-join ≡ true) × (was ≡ nowhere)
+HeardWhen e was Heard.New = (e .is-join ≡ true) × (was ≡ nowhere)
 HeardWhen e was (Heard.Moved from) = (e .is-join ≡ true) × MovedFrom from (e .point) was
-HeardWhen e was Heard.Same = (e .is-join ≡ true) × (was ≡ at (e .point))
+HeardWhen e was Heard.There = (e .is-join ≡ true) × (was ≡ at (e .point))
 HeardWhen e was Heard.Removed = (e .is-join ≡ false) × (was ≡ at (e .point))
 HeardWhen e was Heard.Stale = (e .is-join ≡ false) × (was ≡ at (e .point) → ⊥)
 
@@ -126,4 +126,4 @@ pub record Claims : Type 0 where
   pub value-refused : (t : Stations) (value : List ℕ) → isGiven (answerFrom t value) ≡ false → tableFrom t value ≡ t
   pub event-in-value : (t : Stations) (value : List ℕ) → tableFrom t value ≡ run tableAfter t (andSteps (eventBy (of-value value)) [])
   -- an address of six octets is what its number is shown as
-  pub address-kept : (m : MacAddr) → ((i : ℕ) → getD (octets m) i 0 < 256) → addressOf (numberOf m) ≡ m
+  pub address-kept : (m : MacAddr) → ((i : ℕ) → getD (octets m) i 0 < 256) → addressOf (addressNumber m) ≡ m

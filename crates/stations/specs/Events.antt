@@ -8,14 +8,14 @@ use Rattle.records.specs.declared.Record.{Record}
 use Rattle.records.specs.Kinds.{codeOf}
 use Rattle.records.specs.Reading.{readRecord}
 use Rattle.stations.specs.declared.Heard.{Heard}
-use Rattle.stations.specs.declared.Answered.{Answered}
+use Rattle.stations.specs.declared.EventAnswer.{EventAnswer}
 use Rattle.stations.specs.declared.Applied.{Applied}
 use Rattle.stations.specs.Whereabouts.{eventOf}
 use Rattle.stations.specs.Rows.{Stations, answerTo, tableAfter}
 
-abbrev pub answeredOf : Answered → Answer Heard
-answeredOf (Answered.Heard h) = gives h
-answeredOf (Answered.Refused r) = told r
+abbrev pub answeredOf : EventAnswer → Answer Heard
+answeredOf (EventAnswer.Heard h) = gives h
+answeredOf (EventAnswer.Refused r) = told r
 
 -- an event that was read: what it did, and how many bytes of the value it took
 pub record Taken : Type 0 where

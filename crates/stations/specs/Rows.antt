@@ -93,4 +93,4 @@ whereShown (at point) = Where.At (addressOf point)
 
 abbrev pub rowShown : StationRow → Listed
 rowShown freeRow = Listed.Free
-rowShown (heldRow station point) = Listed.Held (addressOf station) (addressOf point)
+rowShown (heldRow station point) = Listed.Occupied (addressOf station) (addressOf point)

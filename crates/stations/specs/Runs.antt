@@ -9,7 +9,7 @@ use Rattle.machines.specs.Happened.{Outcome, Asks, asks-for, asks-nothing, step
 use Rattle.numbers.specs.Numbers.{Answer, gives, refuses, mapped, isGiven}
 use Rattle.records.specs.declared.ClientAssociation.{ClientAssociation}
 use Rattle.stations.specs.declared.Heard.{Heard}
-use Rattle.stations.specs.declared.Answered.{Answered}
+use Rattle.stations.specs.declared.EventAnswer.{EventAnswer}
 use Rattle.stations.specs.declared.Applied.{Applied}
 use Rattle.stations.specs.Whereabouts.{Event, eventOf}
 use Rattle.stations.specs.Rows.{Stations, answerTo, tableAfter}
@@ -21,7 +21,7 @@ pub data EventAsked : Type 0 where
   of-value : List ℕ → EventAsked
 
 pub data EventGot : Type 0 where
-  from-event : Answered → EventGot
+  from-event : EventAnswer → EventGot
   from-value : Applied → EventGot
 
 abbrev pub StationCall : Type 0

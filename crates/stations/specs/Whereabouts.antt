@@ -7,7 +7,7 @@ use Rattle.numbers.specs.Numbers.{Answer, gives, refuses}
 use Rattle.records.specs.declared.AssociationState.{AssociationState}
 use Rattle.records.specs.declared.ClientAssociation.{ClientAssociation}
 use Rattle.stations.specs.declared.Heard.{Heard}
-use Rattle.stations.specs.Addresses.{numberOf, addressOf}
+use Rattle.stations.specs.Addresses.{addressNumber, addressOf}
 
 pub data Whereabouts : Type 0 where
   nowhere : Whereabouts
@@ -24,7 +24,7 @@ isJoined AssociationState.JoinedBss = true
 isJoined AssociationState.LeftBss = false
 
 abbrev pub eventOf : ClientAssociation → Event
-eventOf a = record { station = numberOf (a .«sta_mac»); point = numberOf (a .«ap_mac»); is-join = isJoined (a .«association_state») }
+eventOf a = record { station = addressNumber (a .«sta_mac»); point = addressNumber (a .«ap_mac»); is-join = isJoined (a .«association_state») }
 
 abbrev pub isAt : ℕ → Whereabouts → Bool
 isAt point nowhere = false
@@ -42,8 +42,8 @@ whereAfter e was = cond (e .is-join) (at (e .point)) (cond (isAt (e .point) was)
 -- what is answered: a join says if the station is new, has moved, or was there already; "such a late leave, or a leave
 -- of a station not held, changes nothing and answers "stale""
 abbrev pub heardOfJoin : ℕ → Whereabouts → Heard
-heardOfJoin point nowhere = Heard.Placed
-heardOfJoin point (at p) = cond (eqb p point) Heard.Same (Heard.Moved (addressOf p))
+heardOfJoin point nowhere = Heard.New
+heardOfJoin point (at p) = cond (eqb p point) Heard.There (Heard.Moved (addressOf p))
 
 abbrev pub heardOf : Event → Whereabouts → Heard
 heardOf e was = cond (e .is-join) (heardOfJoin (e .point) was) (cond (isAt (e .point) was) Heard.Removed Heard.Stale)

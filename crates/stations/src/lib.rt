@@ -18,7 +18,7 @@ use rows::number_of;
 use rows::one_if;
 use rows::row_with;
 ghost use mathlib.Core.Path.{_≡_};
-ghost use Rattle.stations.specs.Addresses.{numberOf};
+ghost use Rattle.stations.specs.Addresses.{addressNumber};
 ghost use Rattle.stations.specs.Whereabouts.{eventOf};
 ghost use Rattle.stations.specs.Rows.{freshStations, whereOf, answerTo, tableAfter, rowAt, countOf, whereShown, rowShown};
 ghost use Rattle.stations.specs.Events.{answeredOf, appliedOf, answerFrom, tableFrom};
@@ -35,11 +35,11 @@ pub type Stations = [u64; 2 * STATIONS];
 // What an event did that was not refused.
 pub enum Heard {
     // a join: the station was nowhere
-    Placed,
+    New,
     // a join: the station was at another access point
     Moved { from: MacAddr },
     // a join: the station was there already
-    Same,
+    There,
     // a leave: it named the access point at which the station was
     Removed,
     // a leave: it named another one, or the station was nowhere; nothing is altered
@@ -47,7 +47,7 @@ pub enum Heard {
 }
 
 // What an event is answered.
-pub enum Answered {
+pub enum EventAnswer {
     Heard(Heard),
     Refused(Refusal),
 }
@@ -67,7 +67,7 @@ pub enum Where {
 
 // What a row of the table holds.
 pub enum Listed {
-    Held { station: MacAddr, point: MacAddr },
+    Occupied { station: MacAddr, point: MacAddr },
     Free,
 }
 
@@ -79,7 +79,7 @@ pub fn fresh() -> Stations
 }
 
 // A station joined an access point, or left it.
-pub fn event(t: &mut Stations, e: ClientAssociation) -> Answered
+pub fn event(t: &mut Stations, e: ClientAssociation) -> EventAnswer
     ensures { λ r. ⌜ (answeredOf r ≡ answerTo (now (t .entry)) (eventOf e)) × (now (t .exit) ≡ tableAfter (now (t .entry)) (eventOf e)) ⌝ }
 {
     let station = number_of(e.sta_mac);
@@ -87,7 +87,7 @@ pub fn event(t: &mut Stations, e: ClientAssociation) -> Answered
     let state = e.association_state;
     match state {
         AssociationState::JoinedBss => join(t, station, point),
-        AssociationState::LeftBss => Answered::Heard(leave(t, station, point)),
+        AssociationState::LeftBss => EventAnswer::Heard(leave(t, station, point)),
     }
 }
 
@@ -106,7 +106,7 @@ pub fn event_from(t: &mut Stations, value: &[u8]) -> Applied
 
 // Where a station is.
 pub fn where_is(t: &Stations, station: MacAddr) -> Where
-    ensures { λ r. ⌜ r ≡ whereShown (whereOf (now (t .entry)) (numberOf station)) ⌝ }
+    ensures { λ r. ⌜ r ≡ whereShown (whereOf (now (t .entry)) (addressNumber station)) ⌝ }
 {
     let row = row_with(t, number_of(station) + 1);
     if row < STATIONS {
@@ -135,7 +135,7 @@ pub fn row(t: &Stations, n: usize) -> Listed
     if n < STATIONS {
         let mark = t[n];
         if mark != 0 {
-            return Listed::Held {
+            return Listed::Occupied {
                 station: address_of(mark - 1),
                 point: address_of(t[STATIONS + n]),
             };

@@ -1,6 +1,6 @@
 // An event in the value of a TLV, and the answer to it.
-use crate::Answered;
 use crate::Applied;
+use crate::EventAnswer;
 use numbers::Refusal;
 use records::ClientAssociation;
 use records::Record;
@@ -35,11 +35,11 @@ pub(crate) fn association_in(value: &[u8]) -> Association
 }
 
 // An answer to such an event, with the bytes that it took.
-pub(crate) fn with_consumed(answered: Answered, consumed: usize) -> Applied
+pub(crate) fn with_consumed(answered: EventAnswer, consumed: usize) -> Applied
     ensures { λ r. ⌜ appliedOf r ≡ mapped (λ h. record { heard = h; consumed = consumed }) (answeredOf answered) ⌝ }
 {
     match answered {
-        Answered::Heard(heard) => Applied::Heard { heard, consumed },
-        Answered::Refused(refusal) => Applied::Refused(refusal),
+        EventAnswer::Heard(heard) => Applied::Heard { heard, consumed },
+        EventAnswer::Refused(refusal) => Applied::Refused(refusal),
     }
 }

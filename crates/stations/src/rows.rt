@@ -1,5 +1,5 @@
 // The rows of the table: addresses as numbers, the look-up, and what a join and a leave do.
-use crate::Answered;
+use crate::EventAnswer;
 use crate::Heard;
 use crate::STATIONS;
 use crate::Stations;
@@ -9,7 +9,7 @@ ghost use mathlib.Core.Path.{_≡_};
 ghost use mathlib.Core.Bool.{true, false};
 ghost use Prim.Native.Nat.{_<_, _≤_, _^_};
 ghost use Rattle.numbers.specs.Numbers.{gives};
-ghost use Rattle.stations.specs.Addresses.{numberOf, addressOf};
+ghost use Rattle.stations.specs.Addresses.{addressNumber, addressOf};
 ghost use Rattle.stations.specs.Whereabouts.{heardOfJoin, at};
 ghost use Rattle.stations.specs.Rows.{rowWith, answerTo, afterJoin, afterLeave};
 ghost use Rattle.stations.specs.Events.{answeredOf};
@@ -17,7 +17,7 @@ ghost use Rattle.stations.specs.PrivateEvents.{oneIf};
 
 // The number of an address, and the address with a number.
 pub(crate) fn number_of(m: MacAddr) -> u64
-    ensures { λ r. ⌜ (r ≡ numberOf m) × (r < 2 ^ 48) ⌝ }
+    ensures { λ r. ⌜ (r ≡ addressNumber m) × (r < 2 ^ 48) ⌝ }
 {
     let high = (m.b0 as u64 * 256 + m.b1 as u64) * 256 + m.b2 as u64;
     let low = (m.b3 as u64 * 256 + m.b4 as u64) * 256 + m.b5 as u64;
@@ -56,7 +56,7 @@ fn heard_of_held(from: u64, point: u64) -> Heard
     ensures { λ r. ⌜ r ≡ heardOfJoin «point» (at «from») ⌝ }
 {
     if from == point {
-        return Heard::Same;
+        return Heard::There;
     }
     Heard::Moved {
         from: address_of(from),
@@ -64,7 +64,7 @@ fn heard_of_held(from: u64, point: u64) -> Heard
 }
 
 // A join: a station that is held changes its access point, another one takes the lowest free row.
-pub(crate) fn join(t: &mut Stations, station: u64, point: u64) -> Answered
+pub(crate) fn join(t: &mut Stations, station: u64, point: u64) -> EventAnswer
     requires { ⌜ station < 2 ^ 48 ⌝ }
     ensures { λ r. ⌜ (answeredOf r ≡ answerTo (now (t .entry)) (record { station = station; point = point; is-join = true }))
         × (now (t .exit) ≡ afterJoin (now (t .entry)) station point) ⌝ }
@@ -73,15 +73,15 @@ pub(crate) fn join(t: &mut Stations, station: u64, point: u64) -> Answered
     if known < STATIONS {
         let from = t[STATIONS + known];
         t[STATIONS + known] = point;
-        return Answered::Heard(heard_of_held(from, point));
+        return EventAnswer::Heard(heard_of_held(from, point));
     }
     let free = row_with(t, 0);
     if free < STATIONS {
         t[free] = station + 1;
         t[STATIONS + free] = point;
-        return Answered::Heard(Heard::Placed);
+        return EventAnswer::Heard(Heard::New);
     }
-    Answered::Refused(Refusal::NoStationRoom)
+    EventAnswer::Refused(Refusal::NoStationRoom)
 }
 
 // A leave: a row whose access point it names is freed.
