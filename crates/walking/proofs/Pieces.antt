@@ -14,7 +14,7 @@ use Rattle.framing.proofs.Reading.{reads-same}
 use Rattle.walking.specs.declared.Tlv.{Tlv}
 use Rattle.walking.specs.Steps.{passed, last, Walk}
 use Rattle.walking.specs.Walk.{isMarker, stepAt, walkOf, noTlv, offsetAt}
-use Rattle.walking.specs.Pieces.{pieceOf, pieces}
+use Rattle.walking.specs.Pieces.{tlvIn, pieces}
 use Rattle.walking.specs.Claims.{Unmarked, IsTlv, InPieces}
 use Rattle.walking.proofs.Carried.{carried}
 use Rattle.walking.proofs.Chained.{Has, of-walk, the-walk, stands}
@@ -25,10 +25,10 @@ use Rattle.walking.proofs.Stepping as step
 use Rattle.walking.proofs.Written.{as-piece, all-told}
 
 one-by-one : (p : List ℕ) (padding : ℕ) → walkOf p .end ≡ gives padding → flatten (pieces p) ++ drop (length p - padding) p ≡ p
-one-by-one p padding e = all-told p (pieceOf p) (as-piece p) (of-walk p) padding e .0
+one-by-one p padding e = all-told p (tlvIn p) (as-piece p) (of-walk p) padding e .0
 
 -- the bytes of a TLV that a walk goes over are one TLV
-is-tlv : (p : List ℕ) (t : Tlv) → Passes p (t .offset) t (t .offset + 3 + t .length) → IsTlv (pieceOf p t)
+is-tlv : (p : List ℕ) (t : Tlv) → Passes p (t .offset) t (t .offset + 3 + t .length) → IsTlv (tlvIn p t)
 is-tlv p t o =
     let s : List ℕ = drop (t .offset) p in
     let l : length (take (3 + t .length) s) ≡ 3 + t .length = length-take-le (3 + t .length) s (omega (arith, o .inside, length-drop (t .offset) p)) in
@@ -40,21 +40,21 @@ is-tlv p t o =
 
 each : (p : List ℕ) (k : ℕ) → k < length (pieces p) → IsTlv (getD (pieces p) k [])
 each p k h =
-    let l : k < length (walkOf p .items) = omega (arith, length-map (walkOf p .items) (pieceOf p)) in
+    let l : k < length (walkOf p .items) = omega (arith, length-map (walkOf p .items) (tlvIn p)) in
     rw (of-map (walkOf p .items) k l) (is-tlv p _ (stands p (of-walk p) k l))
   where
-    of-map : (ts : List Tlv) (k : ℕ) → k < length ts → getD (map (pieceOf p) ts) k [] ≡ pieceOf p (getD ts k noTlv)
+    of-map : (ts : List Tlv) (k : ℕ) → k < length ts → getD (map (tlvIn p) ts) k [] ≡ tlvIn p (getD ts k noTlv)
     of-map [] k h = absurd (omega arith)
     of-map (t ∷ ts) zero h = refl
     of-map (t ∷ ts) (suc k) h = of-map ts k (omega arith)
 
 module _ (a b : List ℕ) where
   -- the pieces stay with more after the payload
-  piece-stays : (at : ℕ) (t : Tlv) (next : ℕ) → Passes a at t next → pieceOf (a ++ b) t ≡ pieceOf a t
+  piece-stays : (at : ℕ) (t : Tlv) (next : ℕ) → Passes a at t next → tlvIn (a ++ b) t ≡ tlvIn a t
   piece-stays at t next o =
       rw (drop-append-le (t .offset) a b (omega (arith, o .starts, o .behind, o .inside)), take-append-le (3 + t .length) (drop (t .offset) a) b (omega (arith, o .starts, o .behind, o .inside, length-drop (t .offset) a)))
 
-  pieces-stay : {at : ℕ} {ts : List Tlv} {end : Answer ℕ} → Has a at ts end → map (pieceOf (a ++ b)) ts ≡ map (pieceOf a) ts
+  pieces-stay : {at : ℕ} {ts : List Tlv} {end : Answer ℕ} → Has a at ts end → map (tlvIn (a ++ b)) ts ≡ map (tlvIn a) ts
   pieces-stay (at-end e) = refl
   pieces-stay (stopped e) = refl
   pieces-stay (final {at} {t} {to} e) = rw (piece-stays at t to (lasts a at t to e))
@@ -64,7 +64,7 @@ module _ (a b : List ℕ) where
   abbrev moved : Tlv → Tlv
   moved t = record { «tlv_type» = t .«tlv_type»; length = t .length; offset = length a + t .offset }
 
-  pieces-moved : (ts : List Tlv) → map (pieceOf (a ++ b)) (map moved ts) ≡ map (pieceOf b) ts
+  pieces-moved : (ts : List Tlv) → map (tlvIn (a ++ b)) (map moved ts) ≡ map (tlvIn b) ts
   pieces-moved [] = refl
   pieces-moved (t ∷ ts) = rw (drop-append-add a b (t .offset), pieces-moved ts)
 
@@ -95,7 +95,7 @@ module _ (a b : List ℕ) where
       let c = carried a b (of-walk a) (omega arith) unmarked in
       let to : length a + 0 ≡ c .to = omega (arith, c .within, at-its-end (c .stops) 0 whole) in
       let w = the-walk (a ++ b) _ _ (c .on _ _ (subst (λ (k : ℕ). Has (a ++ b) k (map moved (walkOf b .items)) (gives padding)) to (goes (of-walk b) padding is))) in
-      (ap (λ (v : Walk Tlv). map (pieceOf (a ++ b)) (v .items)) w ∙ map-append (pieceOf (a ++ b)) (walkOf a .items) (map moved (walkOf b .items)) ∙ rw (pieces-stay (of-walk a), pieces-moved (walkOf b .items)), ap (λ (v : Walk Tlv). v .end) w)
+      (ap (λ (v : Walk Tlv). map (tlvIn (a ++ b)) (v .items)) w ∙ map-append (tlvIn (a ++ b)) (walkOf a .items) (map moved (walkOf b .items)) ∙ rw (pieces-stay (of-walk a), pieces-moved (walkOf b .items)), ap (λ (v : Walk Tlv). v .end) w)
 
   padded : (k : ℕ) → walkOf a .end ≡ gives 0 → k < length (walkOf a .items) → isMarker (getD (walkOf a .items) k noTlv) ≡ true
       → (pieces (a ++ b) ≡ pieces a) × (walkOf (a ++ b) .end ≡ gives (length b))
@@ -104,7 +104,7 @@ module _ (a b : List ℕ) where
       let ends = marker-ends a k l m in
       let z : 0 ≡ length (drop cut a) = given _ _ (sym whole ∙ ap (λ (v : Walk Tlv). v .end) (rw (take-append-drop cut a) at (ends .not-looked-at (drop cut a)))) in
       let w : walkOf (a ++ b) ≡ record { items = walkOf a .items; end = gives (length b) } = ap (λ (s : List ℕ). walkOf (s ++ b)) (sym (take-all cut a (omega (arith, length-drop cut a)))) ∙ ends .not-looked-at b in
-      (ap (λ (v : Walk Tlv). map (pieceOf (a ++ b)) (v .items)) w ∙ pieces-stay (of-walk a), ap (λ (v : Walk Tlv). v .end) w)
+      (ap (λ (v : Walk Tlv). map (tlvIn (a ++ b)) (v .items)) w ∙ pieces-stay (of-walk a), ap (λ (v : Walk Tlv). v .end) w)
 
 pub in-pieces : InPieces
 in-pieces = record { one-by-one = one-by-one; each = each; followed = followed; padded = padded }

@@ -12,7 +12,7 @@ use Rattle.numbers.proofs.Answers.{given}
 use Rattle.framing.specs.Tlv.{readTlv, valueIn, tlvBytes}
 use Rattle.framing.proofs.RoundTrip.{written-read}
 use Rattle.walking.specs.declared.Tlv.{Tlv}
-use Rattle.walking.specs.Pieces.{pieceOf}
+use Rattle.walking.specs.Pieces.{tlvIn}
 use Rattle.walking.specs.Claims.{tlvOf}
 use Rattle.walking.proofs.Chained.{Has}
 use Rattle.walking.proofs.Going.{at-end, onward, final, stopped}
@@ -23,7 +23,7 @@ module _ (p : List ℕ) where
   abbrev Tells : (Tlv → List ℕ) → Type 0
   Tells f = (at : ℕ) (t : Tlv) (next : ℕ) → Passes p at t next → f t ≡ take (3 + t .length) (drop at p)
 
-  pub as-piece : Tells (pieceOf p)
+  pub as-piece : Tells (tlvIn p)
   as-piece at t next o = rw (o .starts)
 
   pub as-written : AllBytes p → Tells (tlvOf p)

@@ -6,9 +6,9 @@ use Rattle.walking.specs.declared.Tlv.{Tlv}
 use Rattle.walking.specs.Walk.{walkOf}
 
 -- the bytes of a TLV of the payload: its three header bytes and its value
-abbrev pub pieceOf : List ℕ → Tlv → List ℕ
-pieceOf p t = take (3 + t .length) (drop (t .offset) p)
+abbrev pub tlvIn : List ℕ → Tlv → List ℕ
+tlvIn p t = take (3 + t .length) (drop (t .offset) p)
 
 -- one for each TLV that a walk goes over
 abbrev pub pieces : List ℕ → List (List ℕ)
-pieces p = map (pieceOf p) (walkOf p .items)
+pieces p = map (tlvIn p) (walkOf p .items)
