@@ -8,7 +8,7 @@ use native.Mathlib.Omega.{arith}
 use lib.Dec.{eqb}
 use lib.ListN.{length, take, drop, getD, drop-of-length-le, length-take, length-drop}
 use lib.Seq.{drop-cons, take-nil, take-all}
-use Rattle.command_lines.specs.Fields.{upTo, beyond, pieceOf}
+use Rattle.command_lines.specs.Fields.{upTo, pastFirst, fieldIn}
 use Rattle.command_lines.specs.PrivatePlaces.{Place}
 
 module _ (separator : ℕ) (s : List ℕ) (i : ℕ) (inside : i < length s) where
@@ -17,27 +17,27 @@ module _ (separator : ℕ) (s : List ℕ) (i : ℕ) (inside : i < length s) wher
   unfolding upTo
   upTo-here e = rw (drop-cons s i 0, e)
 
-  pub beyond-here : eqb (getD s i 0) separator ≡ true → beyond separator (drop i s) ≡ drop (i + 1) s
-  unfolding beyond
-  beyond-here e = rw (add-one, drop-cons s i 0, e)
+  pub pastFirst-here : eqb (getD s i 0) separator ≡ true → pastFirst separator (drop i s) ≡ drop (i + 1) s
+  unfolding pastFirst
+  pastFirst-here e = rw (add-one, drop-cons s i 0, e)
 
   -- at any other byte
   pub upTo-next : eqb (getD s i 0) separator ≡ false → upTo separator (drop i s) ≡ getD s i 0 ∷ upTo separator (drop (i + 1) s)
   unfolding upTo
   upTo-next e = rw (add-one, drop-cons s i 0, e)
 
-  pub beyond-next : eqb (getD s i 0) separator ≡ false → beyond separator (drop i s) ≡ beyond separator (drop (i + 1) s)
-  unfolding beyond
-  beyond-next e = rw (add-one, drop-cons s i 0, e)
+  pub pastFirst-next : eqb (getD s i 0) separator ≡ false → pastFirst separator (drop i s) ≡ pastFirst separator (drop (i + 1) s)
+  unfolding pastFirst
+  pastFirst-next e = rw (add-one, drop-cons s i 0, e)
 
 -- at the end
 pub upTo-end : (separator : ℕ) (s : List ℕ) (i : ℕ) → length s ≤ i → upTo separator (drop i s) ≡ []
 unfolding upTo
 upTo-end separator s i h = rw (drop-of-length-le s {i = i} h)
 
-pub beyond-end : (separator : ℕ) (s : List ℕ) (i : ℕ) → length s ≤ i → beyond separator (drop i s) ≡ []
-unfolding beyond
-beyond-end separator s i h = rw (drop-of-length-le s {i = i} h)
+pub pastFirst-end : (separator : ℕ) (s : List ℕ) (i : ℕ) → length s ≤ i → pastFirst separator (drop i s) ≡ []
+unfolding pastFirst
+pastFirst-end separator s i h = rw (drop-of-length-le s {i = i} h)
 
 -- what stands before the first separator is a start of the list
 starts : (here : Bool) (b : ℕ) (s u : List ℕ) → take (length u) s ≡ u → take (length (cond here [] (b ∷ u))) (b ∷ s) ≡ cond here [] (b ∷ u)
@@ -50,14 +50,14 @@ upTo-is separator [] = refl
 upTo-is separator (b ∷ s) = starts (eqb b separator) b s (upTo separator s) (upTo-is separator s)
 
 -- a piece more is passed
-pub piece-next : (separator n i : ℕ) (s : List ℕ) → i < n → pieceOf separator (n - (i + 1)) (beyond separator s) ≡ pieceOf separator (n - i) s
-unfolding pieceOf
+pub piece-next : (separator n i : ℕ) (s : List ℕ) → i < n → fieldIn separator (n - (i + 1)) (pastFirst separator s) ≡ fieldIn separator (n - i) s
+unfolding fieldIn
 piece-next separator n i s h =
     let e : n - i ≡ suc (n - (i + 1)) = omega arith in
     rw e
 
-pub piece-last : (separator n i : ℕ) (s : List ℕ) → n ≤ i → upTo separator s ≡ pieceOf separator (n - i) s
-unfolding pieceOf
+pub piece-last : (separator n i : ℕ) (s : List ℕ) → n ≤ i → upTo separator s ≡ fieldIn separator (n - i) s
+unfolding fieldIn
 piece-last separator n i s h =
     let e : n - i ≡ 0 = omega arith in
     rw e
@@ -67,18 +67,18 @@ module _ (separator : ℕ) (s : List ℕ) (from i : ℕ) where
   Front = i + length (upTo separator (drop i s)) ≡ from + length (upTo separator (drop from s))
 
   abbrev Rest : Type 0
-  Rest = beyond separator (drop i s) ≡ beyond separator (drop from s)
+  Rest = pastFirst separator (drop i s) ≡ pastFirst separator (drop from s)
 
   pub place-here : i < length s → eqb (getD s i 0) separator ≡ true → Front → Rest → Place separator s from i
   place-here inside e front rest =
-      record { inside = omega arith; front = omega (arith, ap length (upTo-here separator s i inside e)); rest = sym (beyond-here separator s i inside e) ∙ rest }
+      record { inside = omega arith; front = omega (arith, ap length (upTo-here separator s i inside e)); rest = sym (pastFirst-here separator s i inside e) ∙ rest }
 
   pub place-end : i ≤ length s → length s ≤ i → Front → Rest → Place separator s from (length s)
   place-end within ended front rest =
       record {
         inside = omega arith;
         front = omega (arith, ap length (upTo-end separator s i ended));
-        rest = drop-of-length-le s {i = length s + 1} (omega arith) ∙ sym (beyond-end separator s i ended) ∙ rest;
+        rest = drop-of-length-le s {i = length s + 1} (omega arith) ∙ sym (pastFirst-end separator s i ended) ∙ rest;
       }
 
 -- the part up to the place is what stands before the separator
@@ -88,7 +88,7 @@ part-before separator s from r p place is =
     is ∙ rw long (upTo-is separator (drop from s))
 
 -- where no separator is left, nothing follows
-pub none-left : (separator : ℕ) (s : List ℕ) (from r : ℕ) → Place separator s from r → length s ≤ r → drop r s ≡ beyond separator (drop from s)
+pub none-left : (separator : ℕ) (s : List ℕ) (from r : ℕ) → Place separator s from r → length s ≤ r → drop r s ≡ pastFirst separator (drop from s)
 none-left separator s from r place ended = drop-of-length-le s {i = r} ended ∙ sym (drop-of-length-le s {i = r + 1} (omega arith)) ∙ place .rest
 
 -- the cases of a part

@@ -10,11 +10,11 @@ upTo separator [] = []
 upTo separator (b ∷ s) = cond (eqb b separator) [] (b ∷ upTo separator s)
 
 -- what stands after it; nothing where there is none
-unfoldable pub beyond : ℕ → List ℕ → List ℕ
-beyond separator [] = []
-beyond separator (b ∷ s) = cond (eqb b separator) s (beyond separator s)
+unfoldable pub pastFirst : ℕ → List ℕ → List ℕ
+pastFirst separator [] = []
+pastFirst separator (b ∷ s) = cond (eqb b separator) s (pastFirst separator s)
 
 -- piece number n, from 0
-unfoldable pub pieceOf : ℕ → ℕ → List ℕ → List ℕ
-pieceOf separator zero s = upTo separator s
-pieceOf separator (suc n) s = pieceOf separator n (beyond separator s)
+unfoldable pub fieldIn : ℕ → ℕ → List ℕ → List ℕ
+fieldIn separator zero s = upTo separator s
+fieldIn separator (suc n) s = fieldIn separator n (pastFirst separator s)

@@ -4,7 +4,7 @@ ghost use mathlib.Core.Path.{_≡_};
 ghost use Prim.Native.Nat.{_+_, _-_, _≤_, _<_, _%_, min};
 ghost use lib.ListN.{length, getD, take, drop};
 ghost use Rattle.command_lines.specs.Decimal.{withDigit, numberOf};
-ghost use Rattle.command_lines.specs.Fields.{pieceOf, beyond};
+ghost use Rattle.command_lines.specs.Fields.{fieldIn, pastFirst};
 ghost use Rattle.command_lines.specs.PrivatePlaces.{Place};
 
 // The longest line, without its end.
@@ -61,7 +61,7 @@ pub fn byte_at(s: &[u8], i: usize) -> u8
 // After the next separator.
 fn after(s: &[u8], separator: u8, at: usize) -> usize
     requires { ⌜ at ≤ length (now s) ⌝ }
-    ensures { λ r. ⌜ (r ≤ length (now (s .entry))) × (drop r (now (s .entry)) ≡ beyond separator (drop at (now (s .entry)))) ⌝ }
+    ensures { λ r. ⌜ (r ≤ length (now (s .entry))) × (drop r (now (s .entry)) ≡ pastFirst separator (drop at (now (s .entry)))) ⌝ }
 {
     let end = place_of(s, at, separator);
     if end < s.len() { end + 1 } else { end }
@@ -69,7 +69,7 @@ fn after(s: &[u8], separator: u8, at: usize) -> usize
 
 // Piece number n, from 0, of what is separated so.
 pub fn piece(s: &[u8], separator: u8, n: usize) -> &[u8]
-    ensures { λ r. ⌜ now r ≡ pieceOf separator n (now (s .entry)) ⌝ }
+    ensures { λ r. ⌜ now r ≡ fieldIn separator n (now (s .entry)) ⌝ }
 {
     let mut at = 0;
     let mut i = 0;
@@ -100,7 +100,7 @@ pub fn pieces(s: &[u8], separator: u8) -> usize
 
 // Field number n of a line, from 0.
 pub fn field(line: &[u8], n: usize) -> &[u8]
-    ensures { λ r. ⌜ now r ≡ pieceOf 32 n (now (line .entry)) ⌝ }
+    ensures { λ r. ⌜ now r ≡ fieldIn 32 n (now (line .entry)) ⌝ }
 {
     piece(line, b' ', n)
 }
@@ -132,13 +132,13 @@ pub fn number(s: &[u8]) -> u64
 
 // The number in field n.
 pub fn number_in(line: &[u8], n: usize) -> u64
-    ensures { λ r. ⌜ r ≡ numberOf (pieceOf 32 n (now (line .entry))) ⌝ }
+    ensures { λ r. ⌜ r ≡ numberOf (fieldIn 32 n (now (line .entry))) ⌝ }
 {
     number(field(line, n))
 }
 
 pub fn size_in(line: &[u8], n: usize) -> usize
-    ensures { λ r. ⌜ r ≡ numberOf (pieceOf 32 n (now (line .entry))) ⌝ }
+    ensures { λ r. ⌜ r ≡ numberOf (fieldIn 32 n (now (line .entry))) ⌝ }
 {
     number_in(line, n) as usize
 }
@@ -156,7 +156,7 @@ pub fn u16_of(n: u64) -> u16
 }
 
 pub fn byte_in(line: &[u8], n: usize) -> u8
-    ensures { λ r. ⌜ r ≡ numberOf (pieceOf 32 n (now (line .entry))) % 256 ⌝ }
+    ensures { λ r. ⌜ r ≡ numberOf (fieldIn 32 n (now (line .entry))) % 256 ⌝ }
 {
     byte_of(number_in(line, n))
 }

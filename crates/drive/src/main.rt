@@ -1,6 +1,6 @@
 // Answers the commands on standard input, a line each, through the library's public calls (oracle/COMMANDS.md). It is held against the original
 // by oracle/run, and against a kept list of the original's answers whenever it is checked.
-use answer_lines::Text;
+use answer_lines::Answers;
 use libc::STDIN_FILENO;
 use stations::Stations;
 use table::STORE_SIZE;
@@ -53,7 +53,7 @@ fn answer(
     bytes: &[u8],
     out: &mut Bytes,
     held: &mut Stations,
-    text: &mut Text,
+    text: &mut Answers,
     used: usize,
 ) -> usize {
     let letter = command_lines::byte_at(line, 0);
@@ -77,7 +77,7 @@ fn turn(
     out: &mut Bytes,
     store: &mut Store,
     held: &mut Stations,
-    text: &mut Text,
+    text: &mut Answers,
 ) -> Served
     requires { ⌜ Made (s .table) ⌝ }
     ensures { λ r. ⌜ Made (r .table) ⌝ }
@@ -101,7 +101,7 @@ fn answered(
     out: &mut Bytes,
     store: &mut Store,
     held: &mut Stations,
-    text: &mut Text,
+    text: &mut Answers,
 ) -> Served
     requires { ⌜ Made (s .table) ⌝ }
     ensures { λ r. ⌜ Made (r .table) ⌝ }
@@ -135,7 +135,7 @@ fn fill(input: &mut [u8], at: usize, have: usize) -> Filled {
 }
 
 // Reads more; at the input's end it writes out what is left.
-fn supplied(s: State, input: &mut Input, text: &Text) -> State
+fn supplied(s: State, input: &mut Input, text: &Answers) -> State
     requires { ⌜ Made (s .served .table) ⌝ }
     ensures { λ r. ⌜ Made (r .served .table) ⌝ }
 {
@@ -168,7 +168,7 @@ fn step(
     out: &mut Bytes,
     store: &mut Store,
     held: &mut Stations,
-    text: &mut Text,
+    text: &mut Answers,
 ) -> State
     requires { ⌜ Made (s .served .table) ⌝ }
     ensures { λ r. ⌜ Made (r .served .table) ⌝ }
@@ -196,7 +196,7 @@ fn serve(
     out: &mut Bytes,
     store: &mut Store,
     held: &mut Stations,
-    text: &mut Text,
+    text: &mut Answers,
 ) {
     let mut s = start();
     let mut turns = u64::MAX;

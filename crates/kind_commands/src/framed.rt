@@ -1,12 +1,12 @@
 // The commands of framing that read: t and h.
-use answer_lines::Text;
+use answer_lines::Answers;
 use framing::CmduHeader;
 use framing::HeaderRead;
 use framing::Read;
 ghost use Prim.Native.Nat.{_≤_};
 
 // t: a TLV read, and its value as a part of the bytes.
-pub(crate) fn read(data: &[u8], text: &mut Text, used: usize) -> usize
+pub(crate) fn read(data: &[u8], text: &mut Answers, used: usize) -> usize
     ensures { λ r. ⌜ r ≤ 65536 ⌝ }
 {
     match framing::read_tlv(data) {
@@ -29,7 +29,7 @@ pub(crate) fn read(data: &[u8], text: &mut Text, used: usize) -> usize
     }
 }
 
-fn put_header(h: CmduHeader, text: &mut Text, used: usize) -> usize
+fn put_header(h: CmduHeader, text: &mut Answers, used: usize) -> usize
     ensures { λ r. ⌜ r ≤ 65536 ⌝ }
 {
     let a = answer_lines::put_next_three(
@@ -50,7 +50,7 @@ fn put_header(h: CmduHeader, text: &mut Text, used: usize) -> usize
 }
 
 // h: the header of a CMDU.
-pub(crate) fn header(data: &[u8], text: &mut Text, used: usize) -> usize
+pub(crate) fn header(data: &[u8], text: &mut Answers, used: usize) -> usize
     ensures { λ r. ⌜ r ≤ 65536 ⌝ }
 {
     match framing::read_cmdu_header(data) {

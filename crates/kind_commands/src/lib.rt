@@ -3,7 +3,7 @@ mod framed;
 mod typed;
 mod written;
 
-use answer_lines::Text;
+use answer_lines::Answers;
 ghost use Prim.Native.Nat.{_≤_};
 
 // Which field of a line has the bytes of these commands, 8 where none has; 0 for a letter that is none of theirs.
@@ -20,7 +20,7 @@ pub fn field_of_bytes(letter: u8) -> usize
 }
 
 // The commands that read.
-fn answer_read(line: &[u8], bytes: &[u8], text: &mut Text, used: usize) -> usize
+fn answer_read(line: &[u8], bytes: &[u8], text: &mut Answers, used: usize) -> usize
     ensures { λ r. ⌜ r ≤ 65536 ⌝ }
 {
     let code = command_lines::byte_in(line, 1);
@@ -36,7 +36,7 @@ fn answer_read(line: &[u8], bytes: &[u8], text: &mut Text, used: usize) -> usize
 }
 
 // One line answered from the bytes that it gives; where the text then ends.
-pub fn answer(line: &[u8], bytes: &[u8], out: &mut [u8], text: &mut Text, used: usize) -> usize
+pub fn answer(line: &[u8], bytes: &[u8], out: &mut [u8], text: &mut Answers, used: usize) -> usize
     ensures { λ r. ⌜ r ≤ 65536 ⌝ }
 {
     match command_lines::byte_at(line, 0) {

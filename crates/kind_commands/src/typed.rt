@@ -1,6 +1,6 @@
 // The commands of the kinds that read: r, e, a, u and U.
 use answer_lines::Tally;
-use answer_lines::Text;
+use answer_lines::Answers;
 use kinds::KindRead;
 use layouts::Located;
 use layouts::Path;
@@ -18,7 +18,7 @@ fn front_of(code: u8, data: &[u8]) -> &[u8] {
 }
 
 // How many bytes of a value were read, and how many are left.
-fn put_sizes(consumed: usize, rest: usize, text: &mut Text, used: usize) -> usize
+fn put_sizes(consumed: usize, rest: usize, text: &mut Answers, used: usize) -> usize
     ensures { λ r. ⌜ r ≤ 65536 ⌝ }
 {
     let a = answer_lines::put_ok(text, used);
@@ -27,7 +27,7 @@ fn put_sizes(consumed: usize, rest: usize, text: &mut Text, used: usize) -> usiz
 }
 
 // The front of a list, and how many entries it has.
-fn put_list(code: u8, data: &[u8], entries: usize, text: &mut Text, used: usize) -> usize
+fn put_list(code: u8, data: &[u8], entries: usize, text: &mut Answers, used: usize) -> usize
     ensures { λ r. ⌜ r ≤ 65536 ⌝ }
 {
     let a = answer_lines::put_shown(text, used, b' ', front_of(code, data));
@@ -35,7 +35,7 @@ fn put_list(code: u8, data: &[u8], entries: usize, text: &mut Text, used: usize)
 }
 
 // The texts of a value, three or the one of kind 22, and how many radios kind 0xD4 has.
-fn put_texts(code: u8, data: &[u8], radios: usize, text: &mut Text, used: usize) -> usize
+fn put_texts(code: u8, data: &[u8], radios: usize, text: &mut Answers, used: usize) -> usize
     ensures { λ r. ⌜ r ≤ 65536 ⌝ }
 {
     let a = answer_lines::put_shown(text, used, b' ', texts::text(code, 0, data));
@@ -51,7 +51,7 @@ fn put_texts(code: u8, data: &[u8], radios: usize, text: &mut Text, used: usize)
 }
 
 // What a value without a record holds: its texts, or its list.
-fn put_held(code: u8, data: &[u8], entries: usize, text: &mut Text, used: usize) -> usize
+fn put_held(code: u8, data: &[u8], entries: usize, text: &mut Answers, used: usize) -> usize
     ensures { λ r. ⌜ r ≤ 65536 ⌝ }
 {
     if texts::is_text(code) {
@@ -61,7 +61,7 @@ fn put_held(code: u8, data: &[u8], entries: usize, text: &mut Text, used: usize)
 }
 
 // r: a value read.
-pub(crate) fn read(code: u8, data: &[u8], text: &mut Text, used: usize) -> usize
+pub(crate) fn read(code: u8, data: &[u8], text: &mut Answers, used: usize) -> usize
     ensures { λ r. ⌜ r ≤ 65536 ⌝ }
 {
     match kinds::read_kind(code, data) {
@@ -99,7 +99,7 @@ fn path_of(numbers: &[u8]) -> Path {
 }
 
 // A part of a value, where it is there.
-fn put_part(located: Located, part: &[u8], text: &mut Text, used: usize) -> usize
+fn put_part(located: Located, part: &[u8], text: &mut Answers, used: usize) -> usize
     ensures { λ r. ⌜ r ≤ 65536 ⌝ }
 {
     match located {
@@ -112,7 +112,7 @@ fn put_part(located: Located, part: &[u8], text: &mut Text, used: usize) -> usiz
 }
 
 // e: an entry by its numbers.
-pub(crate) fn entry(code: u8, numbers: &[u8], data: &[u8], text: &mut Text, used: usize) -> usize
+pub(crate) fn entry(code: u8, numbers: &[u8], data: &[u8], text: &mut Answers, used: usize) -> usize
     ensures { λ r. ⌜ r ≤ 65536 ⌝ }
 {
     let path = path_of(numbers);
@@ -121,7 +121,7 @@ pub(crate) fn entry(code: u8, numbers: &[u8], data: &[u8], text: &mut Text, used
 }
 
 // u: the text of a value with this number.
-pub(crate) fn text_of(code: u8, number: usize, data: &[u8], text: &mut Text, used: usize) -> usize
+pub(crate) fn text_of(code: u8, number: usize, data: &[u8], text: &mut Answers, used: usize) -> usize
     ensures { λ r. ⌜ r ≤ 65536 ⌝ }
 {
     let located = kinds::locate_text(code, number, data);
@@ -129,7 +129,7 @@ pub(crate) fn text_of(code: u8, number: usize, data: &[u8], text: &mut Text, use
 }
 
 // U: the text of the radio with this number.
-pub(crate) fn radio_text(number: usize, data: &[u8], text: &mut Text, used: usize) -> usize
+pub(crate) fn radio_text(number: usize, data: &[u8], text: &mut Answers, used: usize) -> usize
     ensures { λ r. ⌜ r ≤ 65536 ⌝ }
 {
     let located = texts::locate_radio_text(number, data);
@@ -237,7 +237,7 @@ fn all_entries(code: u8, data: &[u8]) -> Tally {
 }
 
 // a: every entry at every level.
-pub(crate) fn entries(code: u8, data: &[u8], text: &mut Text, used: usize) -> usize
+pub(crate) fn entries(code: u8, data: &[u8], text: &mut Answers, used: usize) -> usize
     ensures { λ r. ⌜ r ≤ 65536 ⌝ }
 {
     match kinds::read_kind(code, data) {

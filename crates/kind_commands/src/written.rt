@@ -1,5 +1,5 @@
 // The commands that write: w, s and f.
-use answer_lines::Text;
+use answer_lines::Answers;
 use framing::Written;
 use kinds::KindRead;
 ghost use Prim.Native.Nat.{_≤_};
@@ -36,7 +36,7 @@ fn write(line: &[u8], bytes: &[u8], out: &mut [u8]) -> Written {
 }
 
 // What was written: the bytes at the start of the lent buffer.
-fn put(written: Written, out: &[u8], text: &mut Text, used: usize) -> usize
+fn put(written: Written, out: &[u8], text: &mut Answers, used: usize) -> usize
     ensures { λ r. ⌜ r ≤ 65536 ⌝ }
 {
     match written {
@@ -53,7 +53,7 @@ pub(crate) fn answer(
     line: &[u8],
     bytes: &[u8],
     out: &mut [u8],
-    text: &mut Text,
+    text: &mut Answers,
     used: usize,
 ) -> usize
     ensures { λ r. ⌜ r ≤ 65536 ⌝ }

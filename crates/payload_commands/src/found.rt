@@ -1,6 +1,6 @@
 // The commands of finding: d and D.
 use answer_lines::Tally;
-use answer_lines::Text;
+use answer_lines::Answers;
 use finding::Found;
 use finding::Searched;
 use numbers::Refusal;
@@ -61,7 +61,7 @@ fn first_from(payload: &[u8], code: u8, from: usize) -> Hit {
     }
 }
 
-fn put_place(place: usize, value: &[u8], text: &mut Text, used: usize) -> usize
+fn put_place(place: usize, value: &[u8], text: &mut Answers, used: usize) -> usize
     ensures { λ r. ⌜ r ≤ 65536 ⌝ }
 {
     let a = answer_lines::put_ok(text, used);
@@ -69,7 +69,7 @@ fn put_place(place: usize, value: &[u8], text: &mut Text, used: usize) -> usize
     answer_lines::put_shown(text, b, b' ', value)
 }
 
-pub(crate) fn put_hit(hit: Hit, payload: &[u8], text: &mut Text, used: usize) -> usize
+pub(crate) fn put_hit(hit: Hit, payload: &[u8], text: &mut Answers, used: usize) -> usize
     ensures { λ r. ⌜ r ≤ 65536 ⌝ }
 {
     match hit {
@@ -82,7 +82,7 @@ pub(crate) fn put_hit(hit: Hit, payload: &[u8], text: &mut Text, used: usize) ->
 }
 
 // d: the payload walked, then found in it: so a walk's refusal comes before that of an unknown kind.
-pub(crate) fn first(payload: &[u8], code: u8, text: &mut Text, used: usize) -> usize
+pub(crate) fn first(payload: &[u8], code: u8, text: &mut Answers, used: usize) -> usize
     ensures { λ r. ⌜ r ≤ 65536 ⌝ }
 {
     match walking::walk(payload) {
@@ -125,7 +125,7 @@ fn is_refused(hit: Hit) -> bool {
 }
 
 // D: every readable one. An unknown kind is told before a walk's refusal, as `finding` does.
-pub(crate) fn every(payload: &[u8], code: u8, text: &mut Text, used: usize) -> usize
+pub(crate) fn every(payload: &[u8], code: u8, text: &mut Answers, used: usize) -> usize
     ensures { λ r. ⌜ r ≤ 65536 ⌝ }
 {
     let hit = first_from(payload, code, 0);

@@ -1,7 +1,7 @@
 // The command l: find over a list that the command gives.
 use crate::found;
 use crate::listing;
-use answer_lines::Text;
+use answer_lines::Answers;
 use walking::Tlv;
 ghost use Prim.Native.Nat.{_≤_};
 
@@ -31,7 +31,7 @@ fn list_of(records: &[u8]) -> [Tlv; 40] {
 }
 
 // l: the first readable record of the kind.
-pub(crate) fn first(records: &[u8], payload: &[u8], code: u8, text: &mut Text, used: usize) -> usize
+pub(crate) fn first(records: &[u8], payload: &[u8], code: u8, text: &mut Answers, used: usize) -> usize
     ensures { λ r. ⌜ r ≤ 65536 ⌝ }
 {
     let list = list_of(records);

@@ -4,7 +4,7 @@ mod given;
 mod listing;
 mod walked;
 
-use answer_lines::Text;
+use answer_lines::Answers;
 ghost use Prim.Native.Nat.{_≤_};
 
 // Which field of a line has the payload of these commands; 0 for a letter that is none of theirs.
@@ -20,7 +20,7 @@ pub fn field_of_bytes(letter: u8) -> usize
 }
 
 // One line answered from the payload that it gives; where the text then ends.
-pub fn answer(line: &[u8], payload: &[u8], text: &mut Text, used: usize) -> usize
+pub fn answer(line: &[u8], payload: &[u8], text: &mut Answers, used: usize) -> usize
     ensures { λ r. ⌜ r ≤ 65536 ⌝ }
 {
     let code = command_lines::byte_in(line, 1);

@@ -1,6 +1,6 @@
 // The commands of the walk: k and g.
 use crate::listing;
-use answer_lines::Text;
+use answer_lines::Answers;
 use walking::Tlv;
 use walking::Walked;
 ghost use Prim.Native.Nat.{_≤_};
@@ -40,7 +40,7 @@ fn first_part(bytes: &[u8]) -> Part {
     all
 }
 
-fn put_tlv(t: Tlv, text: &mut Text, used: usize) -> usize
+fn put_tlv(t: Tlv, text: &mut Answers, used: usize) -> usize
     ensures { λ r. ⌜ r ≤ 65536 ⌝ }
 {
     let a = answer_lines::put_next(text, used, t.tlv_type as u64);
@@ -49,7 +49,7 @@ fn put_tlv(t: Tlv, text: &mut Text, used: usize) -> usize
 }
 
 // Each TLV with type, offset and length.
-fn put_part(p: Part, text: &mut Text, used: usize) -> usize
+fn put_part(p: Part, text: &mut Answers, used: usize) -> usize
     requires { ⌜ used ≤ 65536 ⌝ }
     ensures { λ r. ⌜ r ≤ 65536 ⌝ }
 {
@@ -103,7 +103,7 @@ fn sum_all(data: &[u8], count: usize) -> u64 {
 }
 
 // How many TLVs there are, how long the padding is, and each TLV of a few, or the checksum over many.
-fn put_all(data: &[u8], count: usize, padding: usize, text: &mut Text, used: usize) -> usize
+fn put_all(data: &[u8], count: usize, padding: usize, text: &mut Answers, used: usize) -> usize
     ensures { λ r. ⌜ r ≤ 65536 ⌝ }
 {
     let a = answer_lines::put_ok(text, used);
@@ -116,7 +116,7 @@ fn put_all(data: &[u8], count: usize, padding: usize, text: &mut Text, used: usi
 }
 
 // k, g: a payload walked to its message's end, counted and listed.
-pub(crate) fn walk(data: &[u8], text: &mut Text, used: usize) -> usize
+pub(crate) fn walk(data: &[u8], text: &mut Answers, used: usize) -> usize
     ensures { λ r. ⌜ r ≤ 65536 ⌝ }
 {
     match walking::walk(data) {

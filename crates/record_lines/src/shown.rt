@@ -2,7 +2,7 @@
 use crate::Code;
 use crate::named;
 use crate::reserved;
-use answer_lines::Text;
+use answer_lines::Answers;
 use records::AssociationState;
 use records::ByteCounterUnits;
 use records::ClientAssociation;
@@ -18,13 +18,13 @@ use records::SupportedFreqBand;
 ghost use Prim.Native.Nat.{_≤_};
 
 // An address after the byte that sets it off.
-pub fn put_address(m: MacAddr, before: u8, text: &mut Text, used: usize) -> usize
+pub fn put_address(m: MacAddr, before: u8, text: &mut Answers, used: usize) -> usize
     ensures { λ r. ⌜ r ≤ 65536 ⌝ }
 {
     answer_lines::put_shown(text, used, before, &[m.b0, m.b1, m.b2, m.b3, m.b4, m.b5])
 }
 
-fn put_code(code: Code, text: &mut Text, used: usize) -> usize
+fn put_code(code: Code, text: &mut Answers, used: usize) -> usize
     ensures { λ r. ⌜ r ≤ 65536 ⌝ }
 {
     if code.reserved {
@@ -67,7 +67,7 @@ fn code_of_profile(profile: MultiApProfile) -> Code {
     }
 }
 
-fn put_neighbor(neighbor: NeighborMac, text: &mut Text, used: usize) -> usize
+fn put_neighbor(neighbor: NeighborMac, text: &mut Answers, used: usize) -> usize
     ensures { λ r. ⌜ r ≤ 65536 ⌝ }
 {
     match neighbor {
@@ -76,7 +76,7 @@ fn put_neighbor(neighbor: NeighborMac, text: &mut Text, used: usize) -> usize
     }
 }
 
-fn put_query(query: LinkMetricQuery, text: &mut Text, used: usize) -> usize
+fn put_query(query: LinkMetricQuery, text: &mut Answers, used: usize) -> usize
     ensures { λ r. ⌜ r ≤ 65536 ⌝ }
 {
     let a = answer_lines::put_next(text, used, query.neighbor_type as u64);
@@ -92,7 +92,7 @@ fn number_of_state(state: AssociationState) -> u64 {
     }
 }
 
-fn put_association(client: ClientAssociation, text: &mut Text, used: usize) -> usize
+fn put_association(client: ClientAssociation, text: &mut Answers, used: usize) -> usize
     ensures { λ r. ⌜ r ≤ 65536 ⌝ }
 {
     let station = client.sta_mac;
@@ -112,7 +112,7 @@ fn number_of_units(units: ByteCounterUnits) -> u64 {
     }
 }
 
-fn put_capability(p: Profile2ApCapability, text: &mut Text, used: usize) -> usize
+fn put_capability(p: Profile2ApCapability, text: &mut Answers, used: usize) -> usize
     ensures { λ r. ⌜ r ≤ 65536 ⌝ }
 {
     let units = p.byte_counter_units;
@@ -148,7 +148,7 @@ fn code_of(record: Record) -> Code {
 }
 
 // A record of several fields, or of one number.
-fn put_numbers(record: Record, text: &mut Text, used: usize) -> usize
+fn put_numbers(record: Record, text: &mut Answers, used: usize) -> usize
     ensures { λ r. ⌜ r ≤ 65536 ⌝ }
 {
     match record {
@@ -160,7 +160,7 @@ fn put_numbers(record: Record, text: &mut Text, used: usize) -> usize
 }
 
 // A record's fields, each after a blank.
-pub fn put_record(record: Record, text: &mut Text, used: usize) -> usize
+pub fn put_record(record: Record, text: &mut Answers, used: usize) -> usize
     ensures { λ r. ⌜ r ≤ 65536 ⌝ }
 {
     match record {

@@ -1,7 +1,7 @@
 // The commands of the fragment table: z, p, v and c.
 mod contents;
 
-use answer_lines::Text;
+use answer_lines::Answers;
 use pushing::AfterPush;
 use pushing::Arrival;
 use pushing::Fragment;
@@ -71,7 +71,7 @@ fn word_of(answer: Pushed) -> usize {
     }
 }
 
-fn put_word(n: usize, text: &mut Text, used: usize) -> usize
+fn put_word(n: usize, text: &mut Answers, used: usize) -> usize
     ensures { λ r. ⌜ r ≤ 65536 ⌝ }
 {
     let words =
@@ -84,7 +84,7 @@ fn put_answer<'a>(
     answer: Pushed,
     payload: &'a [u8],
     out: &'a [u8],
-    text: &mut Text,
+    text: &mut Answers,
     used: usize,
 ) -> usize
     ensures { λ r. ⌜ r ≤ 65536 ⌝ }
@@ -144,7 +144,7 @@ fn push(
     payload: &[u8],
     out: &mut [u8],
     store: &mut [u8],
-    text: &mut Text,
+    text: &mut Answers,
     used: usize,
 ) -> Served
     requires { ⌜ Made t ⌝ }
@@ -163,7 +163,7 @@ fn push(
 }
 
 // v: a sweep, and how many keys it dropped.
-fn sweep(t: Table, time: u64, text: &mut Text, used: usize) -> Served
+fn sweep(t: Table, time: u64, text: &mut Answers, used: usize) -> Served
     requires { ⌜ Made t ⌝ }
     ensures { λ r. ⌜ Made (r .table) × (r .used ≤ 65536) ⌝ }
 {
@@ -177,7 +177,7 @@ fn sweep(t: Table, time: u64, text: &mut Text, used: usize) -> Served
     }
 }
 
-fn fresh(text: &mut Text, used: usize) -> Served
+fn fresh(text: &mut Answers, used: usize) -> Served
     ensures { λ r. ⌜ Made (r .table) × (r .used ≤ 65536) ⌝ }
 {
     let t = made_fresh();
@@ -188,7 +188,7 @@ fn fresh(text: &mut Text, used: usize) -> Served
 }
 
 // z, v and c, which bring no fragment.
-fn answer_shown(t: Table, line: &[u8], store: &[u8], text: &mut Text, used: usize) -> Served
+fn answer_shown(t: Table, line: &[u8], store: &[u8], text: &mut Answers, used: usize) -> Served
     requires { ⌜ Made t ⌝ }
     ensures { λ r. ⌜ Made (r .table) × (r .used ≤ 65536) ⌝ }
 {
@@ -227,7 +227,7 @@ pub fn answer(
     payload: &[u8],
     out: &mut [u8],
     store: &mut [u8],
-    text: &mut Text,
+    text: &mut Answers,
 ) -> Served
     requires { ⌜ Made (s .table) ⌝ }
     ensures { λ r. ⌜ Made (r .table) × (r .used ≤ 65536) ⌝ }

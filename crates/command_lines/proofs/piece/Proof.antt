@@ -3,20 +3,20 @@ use mathlib.Core.Path.{_≡_, _∙_, ap}
 use Prim.Native.Nat.{ℕ, _≤_, _-_}
 use native.Mathlib.Omega.{arith}
 use lib.ListN.{length, drop}
-use Rattle.command_lines.specs.Fields.{pieceOf}
+use Rattle.command_lines.specs.Fields.{fieldIn}
 use Rattle.command_lines.proofs.Separators.{piece-next, piece-last, part-before}
 use borrow.Author.Needs.{needs}
 use Rattle.command_lines.proofs.piece.Statement.{statement}
 use Rattle.command_lines.proofs.piece.Tie as tie
 
 abbrev Inv-loop : tie.InvT-loop
-Inv-loop s separator n at₀ i₀ at i = (at ≤ length s) × ((i ≤ n) × (pieceOf separator (n - i) (drop at s) ≡ pieceOf separator n s))
+Inv-loop s separator n at₀ i₀ at i = (at ≤ length s) × ((i ≤ n) × (fieldIn separator (n - i) (drop at s) ≡ fieldIn separator n s))
 
 abbrev μ-loop : tie.MeasureT-loop
 μ-loop s separator n at₀ i₀ at i = n - i
 
 loop-holds : tie.Need-loop-holds Inv-loop μ-loop
-loop-holds c = let x = c .before .args in let all : x .n - 0 ≡ x .n = omega arith in (search needs, (search needs, ap (λ (k : ℕ). pieceOf (x .separator) k (x .s .now)) all))
+loop-holds c = let x = c .before .args in let all : x .n - 0 ≡ x .n = omega arith in (search needs, (search needs, ap (λ (k : ℕ). fieldIn (x .separator) k (x .s .now)) all))
 
 loop-again : tie.Need-loop-again Inv-loop μ-loop
 loop-again c =

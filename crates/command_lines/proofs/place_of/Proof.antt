@@ -3,15 +3,15 @@ use mathlib.Core.Path.{_≡_, sym, _∙_, ap}
 use Prim.Native.Nat.{_+_, _≤_, _<_, _-_}
 use native.Mathlib.Omega.{arith}
 use lib.ListN.{length, drop}
-use Rattle.command_lines.specs.Fields.{upTo, beyond}
+use Rattle.command_lines.specs.Fields.{upTo, pastFirst}
 use borrow.Author.Tests.{eq-eqb, ne-eqb}
-use Rattle.command_lines.proofs.Separators.{upTo-next, beyond-next, place-here, place-end}
+use Rattle.command_lines.proofs.Separators.{upTo-next, pastFirst-next, place-here, place-end}
 use borrow.Author.Needs.{needs}
 use Rattle.command_lines.proofs.place_of.Statement.{statement}
 use Rattle.command_lines.proofs.place_of.Tie as tie
 
 abbrev Inv-loop : tie.InvT-loop
-Inv-loop s from separator i₀ i = (i ≤ length s) × ((i + length (upTo separator (drop i s)) ≡ from + length (upTo separator (drop from s))) × (beyond separator (drop i s) ≡ beyond separator (drop from s)))
+Inv-loop s from separator i₀ i = (i ≤ length s) × ((i + length (upTo separator (drop i s)) ≡ from + length (upTo separator (drop from s))) × (pastFirst separator (drop i s) ≡ pastFirst separator (drop from s)))
 
 abbrev μ-loop : tie.MeasureT-loop
 μ-loop s from separator i₀ i = length s - i
@@ -28,7 +28,7 @@ loop-again c =
     let at = c .before .before .before .loop in
     let other = ne-eqb _ _ (c .if1 .left) in
     let inside : at .i < length (x .s .now) = omega arith in
-    (omega arith, (omega (arith, at .inv .1 .0, ap length (upTo-next (x .separator) (x .s .now) (at .i) inside other)), sym (beyond-next (x .separator) (x .s .now) (at .i) inside other) ∙ at .inv .1 .1))
+    (omega arith, (omega (arith, at .inv .1 .0, ap length (upTo-next (x .separator) (x .s .now) (at .i) inside other)), sym (pastFirst-next (x .separator) (x .s .now) (at .i) inside other) ∙ at .inv .1 .1))
 
 returns-2 : tie.Need-returns-2 Inv-loop μ-loop
 returns-2 c =
