@@ -31,17 +31,17 @@ pub record Local (z : State) : Type 0 where
   pub refused : (e : Call) → isAccepted z e ≡ false → after z e ≡ z
 
 -- What a push does to its own key, and tells, is a function of what the key holds and of the call, unless it is refused
--- for room; what a sweep does to a key, of what the key holds and of the time:
--- two tables that hold the same under the key, whatever else they hold, do and tell the same.
+-- for room; what a sweep does to a key, of what the key holds and of the time: two tables that hold the same under the
+-- key, whatever else they hold, do and tell the same.
 pub record Alike (z z′ : State) (key : ℕ) : Type 0 where
   pub tells-same : (p : Push) → p .arrival .key ≡ key → hasRoom z (push p) ≡ true → hasRoom z′ (push p) ≡ true → replyTo z (push p) ≡ replyTo z′ (push p)
   pub push-same : (p : Push) → p .arrival .key ≡ key → hasRoom z (push p) ≡ true → hasRoom z′ (push p) ≡ true → holding key (after z (push p)) ≡ holding key (after z′ (push p))
   pub sweep-same : (time : ℕ) → holding key (after z (sweep time)) ≡ holding key (after z′ (sweep time))
 
 -- Request 2026-09: "Take any calls from a fresh table and cross out those refused. For each key, the answers to its
--- remaining pushes, its finished bytes, kept fragments and first time
--- shall be those of a fresh table given only that key's remaining pushes and all the sweeps, in the same order." What a
--- store held before does not matter, so that the two may differ.
+-- remaining pushes, its finished bytes, kept fragments and first time shall be those of a fresh table given only that
+-- key's remaining pushes and all the sweeps, in the same order." What a store held before does not matter, so that the
+-- two may differ.
 pub record ToldAlone (key : ℕ) (store store′ : List ℕ) (calls : List Call) : Type 0 where
   pub answers : repliesToAccepted key (start store) calls ≡ repliesTo key (start store′) (mine key (crossed (start store) calls))
   pub holds : holding key (ends (start store) calls) ≡ holding key (ends (start store′) (mine key (crossed (start store) calls)))
@@ -77,8 +77,8 @@ pub record HeldFrom (z : State) (calls : List Call) (key number : ℕ) (fragment
   pub ever-since : (soon rest : List Call) → later ≡ soon ++ rest → holding key (ends z (before ++ (push by ∷ soon))) .fragments number ≡ kept fragment
 
 -- Demand 3: "the same pushes and sweeps, times and lent lengths, where calls under different keys may be reordered,
--- those under one key and the sweeps keep their order, and every push stays on its side of every sweep":
--- for each key, its pushes with all the sweeps between them are the same list in both
+-- those under one key and the sweeps keep their order, and every push stays on its side of every sweep": for each key,
+-- its pushes with all the sweeps between them are the same list in both
 abbrev pub Reordered : List Call → List Call → Type 0
 Reordered calls calls′ = (key : ℕ) → mine key calls ≡ mine key calls′
 
@@ -132,8 +132,8 @@ pub record GotAlone (o : Origin) (calls calls′ : List TableCall) (z z′ : Sta
   pub none-refused : those (λ c. not (wasAccepted c)) calls′ ≡ []
 
 -- Request 2026-02: "From here demand 3 also covers events of different stations, if no event is refused: those of one
--- station keep their order". A fragment table and a station table stand
--- side by side; events come between pushes and sweeps wherever they like.
+-- station keep their order". A fragment table and a station table stand side by side; events come between pushes and
+-- sweeps wherever they like.
 pub record ReorderedTogether (calls calls′ : List MixedCall) : Type 0 where
   pub messages : AskedReordered (lefts calls) (lefts calls′)
   pub events : EventsReordered (eventsOf (rights calls)) (eventsOf (rights calls′))

@@ -2,10 +2,9 @@
 // is proved of them.
 //
 // specs/Runs: runs of the table; specs/Happened: calls that happened, by their contracts; specs/Shares: one key's part
-// in a sweep's number; specs/Messages: a message cut into fragments;
-// specs/Claims: what is claimed, and proofs/Claims its proof: proofs/Orders has one key's story told alone, order
-// across keys and the sums of a sweep; proofs/Happened, that calls that happened are such runs, also with a station
-// table beside them;
+// in a sweep's number; specs/Messages: a message cut into fragments; specs/Claims: what is claimed, and proofs/Claims
+// its proof: proofs/Orders has one key's story told alone, order across keys and the sums of a sweep; proofs/Happened,
+// that calls that happened are such runs, also with a station table beside them;
 // proofs/Completes, that a message completes; proofs/Examples has document 01's rows on the table.
 //
 // The way there: the crate machines (any machine whose calls act key by key); Telling to Sweeps (what a push and a
