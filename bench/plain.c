@@ -246,7 +246,7 @@ static int place_of(const AshlarTable *t, int owner, int number) {
 
 static void drop(AshlarTable *t, int row) {
     t->used[row] = false;
-    t->codes[row] = t->firsts[row] = 0;
+    t->row_keys[row] = t->firsts[row] = 0;
     for (int i = 0; i < 32; i++) {
         if (t->owners[i] != row + 1) continue;
         t->message_types[i] = t->sizes[i] = 0;
@@ -305,7 +305,7 @@ AshlarPushed plain_push(AshlarTable *t, uint8_t *store, size_t store_length, uin
     int row = -1, spare = -1;
     for (int i = 15; i >= 0; i--) {
         if (!t->used[i]) spare = i;
-        else if (t->codes[i] == a.key) row = i;
+        else if (t->row_keys[i] == a.key) row = i;
     }
     if (row >= 0 && place_of(t, row + 1, a.fragment.number) >= 0) return (AshlarPushed){0, ASHLAR_DUPLICATED, 0};
     if (a.fragment.last) return finish(t, store, out, room, row, &a.fragment, payload, n);
@@ -315,7 +315,7 @@ AshlarPushed plain_push(AshlarTable *t, uint8_t *store, size_t store_length, uin
     if (row < 0) {
         row = spare;
         t->used[row] = true;
-        t->codes[row] = a.key;
+        t->row_keys[row] = a.key;
         t->firsts[row] = a.time;
     }
     put(t, store, free, row, &a.fragment, payload, n);

@@ -163,10 +163,10 @@ typedef struct {
 } AshlarPart;
 
 /* The fragments that are held, but for their payloads. To be looked at only: what an element holds where it is not used means nothing.
-   A row of `codes`, `firsts` and `used` is a message that waits; a row of the others is a place, with a fragment of it, which
+   A row of `row_keys`, `firsts` and `used` is a message that waits; a row of the others is a place, with a fragment of it, which
    is not marked last: those that are end their message at once, or are duplicates. */
 typedef struct {
-    uint64_t codes[ASHLAR_KEYS];            /* the key of the message */
+    uint64_t row_keys[ASHLAR_KEYS];         /* the key of the message */
     uint64_t firsts[ASHLAR_KEYS];           /* the time at which its first fragment came */
     uint16_t message_types[ASHLAR_PLACES];  /* the message type that the fragment said */
     uint16_t sizes[ASHLAR_PLACES];          /* bytes of its payload, which begins in the store at the place's number times ASHLAR_PAYLOAD */

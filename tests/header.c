@@ -281,7 +281,7 @@ static void fields(void) {
     check("AshlarAnswer: waiting", answered(pushed(piece(0x1122334455667788, 7, false), 10), ASHLAR_WAITING, 0));
     AshlarArrival other = {.key = 99, .time = 6000, .fragment = {.message_type = 0x4321, .version = 0x65, .number = 8}};
     check("AshlarAnswer: waiting, another key", answered(pushed(other, 20), ASHLAR_WAITING, 0));
-    check("AshlarTable: codes, AshlarArrival: key", table.codes[0] == 0x1122334455667788 && table.codes[1] == 99);
+    check("AshlarTable: row_keys, AshlarArrival: key", table.row_keys[0] == 0x1122334455667788 && table.row_keys[1] == 99);
     check("AshlarTable: firsts, AshlarArrival: time", table.firsts[0] == 5000 && table.firsts[1] == 6000);
     check("AshlarTable: message_types, AshlarFragment: message_type", table.message_types[0] == 0x1234 && table.message_types[1] == 0x4321);
     check("AshlarTable: sizes", table.sizes[0] == 10 && table.sizes[1] == 20);

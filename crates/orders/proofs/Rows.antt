@@ -8,7 +8,7 @@ abbrev pub isUsed : Table → ℕ → Bool
 isUsed t row = getD (t .used) row false
 
 abbrev pub codeAt : Table → ℕ → ℕ
-codeAt t row = getD (t .codes) row 0
+codeAt t row = getD (t .«row_keys») row 0
 
 abbrev pub firstAt : Table → ℕ → ℕ
 firstAt t row = getD (t .firsts) row 0

@@ -43,7 +43,7 @@ module _ (t : Table) (s : Sound t) (store : List ℕ) (time key : ℕ) where
     both false b e = absurd (false≢true e)
 
     -- no row but the key's own holds the key
-    not-key : expired t time n ≡ true → (rowOf (after n) key ≡ n → ⊥) → getD (after n .codes) n 0 ≡ key → ⊥
+    not-key : expired t time n ≡ true → (rowOf (after n) key ≡ n → ⊥) → getD (after n .«row_keys») n 0 ≡ key → ⊥
     not-key e ne c = by-end (ltb (rowOf (after n) key) 16) refl
       where
         used : getD (after n .used) n false ≡ true

@@ -47,12 +47,12 @@ untouched-by key t t′ store store′ row time same =
 
 -- the drop of a key's row leaves every other key alone
 module _ (t : Table) (s : Sound t) (dropped : ℕ) (in-16 : dropped < 16) where
-  pub drop-untouched : (store : List ℕ) (key : ℕ) → (getD (t .codes) dropped 0 ≡ key → ⊥) → Untouched key t (without t dropped) store store
+  pub drop-untouched : (store : List ℕ) (key : ℕ) → (getD (t .«row_keys») dropped 0 ≡ key → ⊥) → Untouched key t (without t dropped) store store
   drop-untouched store key ne =
       untouched-by key t (without t dropped) store store (row-after-drop t s dropped in-16 key ne) (λ h. dropped-time t dropped (rowOf t key) other) (drop-same t s store (rowOf t key) dropped other)
     where
       other : rowOf t key ≡ dropped → ⊥
-      other e = ne (ap (λ (r : ℕ). getD (t .codes) r 0) (sym e) ∙ row-holds t key (omega arith) .1)
+      other e = ne (ap (λ (r : ℕ). getD (t .«row_keys») r 0) (sym e) ∙ row-holds t key (omega arith) .1)
 
 -- a push under another key
 module _ (t : Table) (s : Sound t) (store : List ℕ) (a : Arrival) (payload : List ℕ) (room : ℕ) (key : ℕ) (other : a .key ≡ key → ⊥) where
@@ -61,7 +61,7 @@ module _ (t : Table) (s : Sound t) (store : List ℕ) (a : Arrival) (payload : L
 
   -- the two keys' rows differ, where the pushed key has one
   apart : own < 16 → rowOf t key ≡ own → ⊥
-  apart h e = other (sym (row-holds t (a .key) h .1) ∙ ap (λ (r : ℕ). getD (t .codes) r 0) (sym e) ∙ row-holds t key (omega arith) .1)
+  apart h e = other (sym (row-holds t (a .key) h .1) ∙ ap (λ (r : ℕ). getD (t .«row_keys») r 0) (sym e) ∙ row-holds t key (omega arith) .1)
 
   free-owner : (i : ℕ) → i ≡ lowestFree t → i < 32 → placeAt t i .owner ≡ 0
   free-owner i e h = eqb-true _ _ (ap (λ (k : ℕ). isFree (placeAt t k)) e ∙ lowest-holds (λ k. isFree (placeAt t k)) 32 (omega arith))

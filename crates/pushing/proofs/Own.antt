@@ -114,8 +114,8 @@ module _ (t : Table) (s : Sound t) (store payload : List ℕ) (row i : ℕ) (f :
 module _ (t : Table) (s : Sound t) (row key time : ℕ) (in-16 : row < 16) (new : 16 ≤ rowOf t key) where
   pub opened-row : row ≡ rowOf (withKey t row key time) key
   opened-row = lowest-is (isRowOf (withKey t row key time) key) 16 row in-16
-      (rw (getD-set-same (t .used) row true false (omega (arith, s .used-long)), getD-set-same (t .codes) row key 0 (omega (arith, s .codes-long)), eq-eqb key key refl))
-      (λ r l. rw (getD-set-other (t .used) row r true false (λ e. omega arith), getD-set-other (t .codes) row r key 0 (λ e. omega arith)) (lowest-before (isRowOf t key) 16 r (omega arith)))
+      (rw (getD-set-same (t .used) row true false (omega (arith, s .used-long)), getD-set-same (t .«row_keys») row key 0 (omega (arith, s .row-keys-long)), eq-eqb key key refl))
+      (λ r l. rw (getD-set-other (t .used) row r true false (λ e. omega arith), getD-set-other (t .«row_keys») row r key 0 (λ e. omega arith)) (lowest-before (isRowOf t key) 16 r (omega arith)))
 
   pub opened-since : firstTime (withKey t row key time) key ≡ since time
   unfolding firstTime

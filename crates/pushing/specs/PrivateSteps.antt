@@ -21,7 +21,7 @@ use Rattle.pushing.specs.Push.{Way, refuse, duplicate, keepAt, openAt, e
 
 -- the look-ups, in the lists that they are lent
 abbrev pub rowIn : List Bool → List ℕ → ℕ → ℕ
-rowIn used codes key = lowest (λ row. getD used row false && eqb (getD codes row 0) key) keys
+rowIn used row-keys key = lowest (λ row. getD used row false && eqb (getD row-keys row 0) key) keys
 
 abbrev pub spareRowIn : List Bool → ℕ
 spareRowIn used = lowest (λ row. not (getD used row false)) keys
@@ -40,7 +40,7 @@ beyondIn owners numbers owner number = lowest (λ i. eqb (getD owners i 0) owner
 
 -- a table of which only the five lists of its places are known
 abbrev pub placesIn : (types sizes owners numbers versions : List ℕ) → Table
-placesIn types sizes owners numbers versions = record { codes = []; firsts = []; «message_types» = types; sizes = sizes; owners = owners; numbers = numbers; versions = versions; used = [] }
+placesIn types sizes owners numbers versions = record { «row_keys» = []; firsts = []; «message_types» = types; sizes = sizes; owners = owners; numbers = numbers; versions = versions; used = [] }
 
 -- where the piece with number k lies: in a place, at the number of places where there is none, and one behind that where it is the new fragment
 abbrev pub newPiece : ℕ

@@ -65,7 +65,7 @@ pub fn push_step(
     requires { ⌜ Made t ⌝ }
     ensures { λ r. ⌜ Goes (way t (now (store .entry)) a (now (payload .entry)) (length (now (out .entry)))) t (now (store .entry)) (now (out .entry)) a (now (payload .entry)) (r .answer) (r .table) (now (store .exit)) (now (out .exit)) ⌝ }
 {
-    let row = find_key(&t.used, &t.codes, a.key);
+    let row = find_key(&t.used, &t.row_keys, a.key);
     let chosen = choose(
         &t.used,
         &t.message_types,

@@ -8,19 +8,19 @@ ghost use lib.Dec.{eqb, ltb};
 ghost use Rattle.table.specs.Rows.{keys, places};
 ghost use Rattle.pushing.specs.PrivateSteps.{rowIn, spareRowIn, lowestFreeIn, numberedIn, unlikeIn, beyondIn};
 
-pub(crate) fn is_key(used: bool, code: u64, key: u64) -> bool
-    ensures { λ r. ⌜ r ≡ (used && eqb code key) ⌝ }
+pub(crate) fn is_key(used: bool, own: u64, key: u64) -> bool
+    ensures { λ r. ⌜ r ≡ (used && eqb own key) ⌝ }
 {
-    if used { code == key } else { false }
+    if used { own == key } else { false }
 }
 
 // The row of a key, `KEYS` where there is none.
-pub(crate) fn find_key<'a>(used: &'a [bool; KEYS], codes: &'a [u64; KEYS], key: u64) -> usize
-    ensures { λ r. ⌜ (r ≡ rowIn (now (used .entry)) (now (codes .entry)) key) × (r ≤ keys) ⌝ }
+pub(crate) fn find_key<'a>(used: &'a [bool; KEYS], row_keys: &'a [u64; KEYS], key: u64) -> usize
+    ensures { λ r. ⌜ (r ≡ rowIn (now (used .entry)) (now (row_keys .entry)) key) × (r ≤ keys) ⌝ }
 {
     let mut i: usize = 0;
     while i < KEYS {
-        if is_key(used[i], codes[i], key) {
+        if is_key(used[i], row_keys[i], key) {
             return i;
         }
         i += 1;

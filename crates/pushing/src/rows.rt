@@ -35,7 +35,7 @@ pub(crate) fn with_fragment(
 {
     let mut n = t;
     if opens {
-        n.codes[row] = a.key;
+        n.row_keys[row] = a.key;
         n.firsts[row] = a.time;
         n.used[row] = true;
     }

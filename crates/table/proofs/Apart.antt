@@ -12,7 +12,7 @@ use Rattle.table.specs.declared.Table.{Table}
 use Rattle.table.specs.Rows.{Place, ownerOf, freePlace, placeAt, isRowOf, rowOf, isNumbered, placeOf, withKey, withPlace, without, bytesAt}
 use Rattle.searching.proofs.Search.{lowest-same}
 use Rattle.table.proofs.Places.{put-here, put-elsewhere, freed-at}
-use Rattle.table.proofs.Sound.{Sound, row-holds, dropped-unused, dropped-other, dropped-code}
+use Rattle.table.proofs.Sound.{Sound, row-holds, dropped-unused, dropped-other, dropped-key}
 
 -- bytes of one place while another is written
 pub headed : (xs zs : List ℕ) (m k : ℕ) → m + k ≤ length xs → take k (drop m (xs ++ zs)) ≡ take k (drop m xs)
@@ -104,14 +104,14 @@ module _ (t : Table) (s : Sound t) (store : List ℕ) (row dropped : ℕ) (other
 
 -- the rows of keys after a drop
 module _ (t : Table) (s : Sound t) (dropped : ℕ) (in-16 : dropped < 16) where
-  pub row-after-drop : (key : ℕ) → (getD (t .codes) dropped 0 ≡ key → ⊥) → rowOf (without t dropped) key ≡ rowOf t key
+  pub row-after-drop : (key : ℕ) → (getD (t .«row_keys») dropped 0 ≡ key → ⊥) → rowOf (without t dropped) key ≡ rowOf t key
   row-after-drop key ne = lowest-same (isRowOf (without t dropped) key) (isRowOf t key) 16 (λ r h. by-row r (eqb r dropped) refl)
     where
       by-row : (r : ℕ) (b : Bool) → eqb r dropped ≡ b → isRowOf (without t dropped) key r ≡ isRowOf t key r
-      by-row r false e = rw (dropped-other t dropped r (eqb-false _ _ e), dropped-code t dropped r (eqb-false _ _ e))
+      by-row r false e = rw (dropped-other t dropped r (eqb-false _ _ e), dropped-key t dropped r (eqb-false _ _ e))
       by-row r true e =
           let same : r ≡ dropped = eqb-true _ _ e in
-          let no-code : eqb (getD (t .codes) dropped 0) key ≡ false = ne-eqb _ _ ne in
+          let no-code : eqb (getD (t .«row_keys») dropped 0) key ≡ false = ne-eqb _ _ ne in
           ap (isRowOf (without t dropped) key) same ∙ rw (dropped-unused t s dropped in-16) (sym (ap (isRowOf t key) same ∙ rw no-code (never-both (getD (t .used) dropped false))))
         where
           never-both : (u : Bool) → (u && false) ≡ false
@@ -129,7 +129,7 @@ module _ (t : Table) (s : Sound t) (dropped : ℕ) (in-16 : dropped < 16) where
           let holds = row-holds (without t dropped) key (ltb-true _ _ q) in
           let ne : r ≡ dropped → ⊥ = λ same. false≢true (sym (dropped-unused t s dropped in-16) ∙ ap (λ (k : ℕ). getD (without t dropped .used) k false) (sym same) ∙ holds .0) in
           let was-used = sym (dropped-other t dropped r ne) ∙ holds .0 in
-          let was-key = sym (dropped-code t dropped r ne) ∙ holds .1 in
+          let was-key = sym (dropped-key t dropped r ne) ∙ holds .1 in
           let own = row-holds t key (omega arith) in
           absurd (ne (s .keyed r (rowOf t key) was-used (own .0) (was-key ∙ sym (own .1)) ∙ e))
 
@@ -139,9 +139,9 @@ module _ (t : Table) (s : Sound t) (row opened time key : ℕ) (other : opened �
   row-after-open h spare = lowest-same (isRowOf (withKey t row opened time) key) (isRowOf t key) 16 (λ r q. by-row r (eqb r row) refl)
     where
       by-row : (r : ℕ) (b : Bool) → eqb r row ≡ b → isRowOf (withKey t row opened time) key r ≡ isRowOf t key r
-      by-row r false e = rw (getD-set-other (t .used) row r true false (eqb-false _ _ e), getD-set-other (t .codes) row r opened 0 (eqb-false _ _ e))
+      by-row r false e = rw (getD-set-other (t .used) row r true false (eqb-false _ _ e), getD-set-other (t .«row_keys») row r opened 0 (eqb-false _ _ e))
       by-row r true e =
           let same : r ≡ row = eqb-true _ _ e in
           let not-key : eqb opened key ≡ false = ne-eqb _ _ other in
           ap (isRowOf (withKey t row opened time) key) same
-          ∙ rw (getD-set-same (t .used) row true false (omega (arith, s .used-long)), getD-set-same (t .codes) row opened 0 (omega (arith, s .codes-long)), not-key) (sym (ap (isRowOf t key) same ∙ rw spare))
+          ∙ rw (getD-set-same (t .used) row true false (omega (arith, s .used-long)), getD-set-same (t .«row_keys») row opened 0 (omega (arith, s .row-keys-long)), not-key) (sym (ap (isRowOf t key) same ∙ rw spare))

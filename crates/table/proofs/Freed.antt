@@ -14,7 +14,7 @@ use Rattle.table.proofs.Wiped.{wipedTo, wiped-none, wiped-ahead, wiped-
 abbrev pub cleared : Table → ℕ → Table
 cleared t row =
     record {
-      codes = set (t .codes) row 0;
+      «row_keys» = set (t .«row_keys») row 0;
       firsts = set (t .firsts) row 0;
       «message_types» = t .«message_types»;
       sizes = t .sizes;
@@ -28,7 +28,7 @@ cleared t row =
 abbrev eachList : (List ℕ → List ℕ) → Table → Table
 eachList rule t =
     record {
-      codes = t .codes;
+      «row_keys» = t .«row_keys»;
       firsts = t .firsts;
       «message_types» = rule (t .«message_types»);
       sizes = rule (t .sizes);
@@ -45,7 +45,7 @@ freedTo owner t i = eachList (λ xs. wipedTo owner 0 (t .owners) xs i) t
 by-rule : (f g : List ℕ → List ℕ) → ((xs : List ℕ) → f xs ≡ g xs) → (t : Table) → eachList f t ≡ eachList g t
 by-rule f g same t =
     λ j. record {
-      codes = t .codes;
+      «row_keys» = t .«row_keys»;
       firsts = t .firsts;
       «message_types» = same (t .«message_types») j;
       sizes = same (t .sizes) j;

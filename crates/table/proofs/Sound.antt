@@ -75,18 +75,18 @@ no-place t s row number out = by-found (ltb (placeOf t row number) 32) refl
         let own = place-holds t row number (ltb-true _ _ e) .0 in
         absurd (omega (arith, used-row t s row (s .owned (placeOf t row number) row own)))
 
-pub row-both : (t : Table) (key row : ℕ) → isRowOf t key row ≡ true → (getD (t .used) row false ≡ true) × (getD (t .codes) row 0 ≡ key)
-row-both t key row e = by-tests (getD (t .used) row false) refl (eqb (getD (t .codes) row 0) key) refl e
+pub row-both : (t : Table) (key row : ℕ) → isRowOf t key row ≡ true → (getD (t .used) row false ≡ true) × (getD (t .«row_keys») row 0 ≡ key)
+row-both t key row e = by-tests (getD (t .used) row false) refl (eqb (getD (t .«row_keys») row 0) key) refl e
   where
-    by-tests : (b : Bool) → getD (t .used) row false ≡ b → (c : Bool) → eqb (getD (t .codes) row 0) key ≡ c → (b && c) ≡ true → (getD (t .used) row false ≡ true) × (getD (t .codes) row 0 ≡ key)
+    by-tests : (b : Bool) → getD (t .used) row false ≡ b → (c : Bool) → eqb (getD (t .«row_keys») row 0) key ≡ c → (b && c) ≡ true → (getD (t .used) row false ≡ true) × (getD (t .«row_keys») row 0 ≡ key)
     by-tests true f true g q = (f, eqb-true _ _ g)
     by-tests true f false g q = absurd (false≢true q)
     by-tests false f c g q = absurd (false≢true q)
 
-pub row-holds : (t : Table) (key : ℕ) → rowOf t key < 16 → (getD (t .used) (rowOf t key) false ≡ true) × (getD (t .codes) (rowOf t key) 0 ≡ key)
+pub row-holds : (t : Table) (key : ℕ) → rowOf t key < 16 → (getD (t .used) (rowOf t key) false ≡ true) × (getD (t .«row_keys») (rowOf t key) 0 ≡ key)
 row-holds t key h = row-both t key (rowOf t key) (lowest-holds (isRowOf t key) 16 h)
 
-pub no-row : (t : Table) → Sound t → (key : ℕ) → 16 ≤ rowOf t key → (row : ℕ) → getD (t .used) row false ≡ true → getD (t .codes) row 0 ≡ key → ⊥
+pub no-row : (t : Table) → Sound t → (key : ℕ) → 16 ≤ rowOf t key → (row : ℕ) → getD (t .used) row false ≡ true → getD (t .«row_keys») row 0 ≡ key → ⊥
 no-row t s key h row e f =
     let is : isRowOf t key row ≡ true = rw (e, eq-eqb _ _ f) in
     false≢true (sym (lowest-before (isRowOf t key) 16 row (omega (arith, used-row t s row e))) ∙ is)
@@ -94,7 +94,7 @@ no-row t s key h row e f =
 -- what each change keeps
 pub fresh-sound : Sound freshTable
 fresh-sound = record {
-  codes-long = length-replicate {A = ℕ} 16 0;
+  row-keys-long = length-replicate {A = ℕ} 16 0;
   firsts-long = length-replicate {A = ℕ} 16 0;
   places-long = fresh-long;
   used-long = length-replicate 16 false;
@@ -134,7 +134,7 @@ module _ (t : Table) (s : Sound t) (at row : ℕ) (in-32 : at < 32) (p : Place) 
 
   pub put-sound : Sound (withPlace t at p)
   put-sound = record {
-    codes-long = s .codes-long;
+    row-keys-long = s .row-keys-long;
     firsts-long = s .firsts-long;
     places-long = put-long t (s .places-long) at p;
     used-long = s .used-long;
@@ -152,11 +152,11 @@ module _ (t : Table) (s : Sound t) (row key time : ℕ) (in-16 : row < 16) (new 
   was-used : (r : ℕ) → (r ≡ row → ⊥) → getD (withKey t row key time .used) r false ≡ true → getD (t .used) r false ≡ true
   was-used r other e = sym (getD-set-other (t .used) row r true false other) ∙ e
 
-  keyed-at : (r q : ℕ) → getD (withKey t row key time .used) r false ≡ true → getD (withKey t row key time .used) q false ≡ true → getD (withKey t row key time .codes) r 0 ≡ getD (withKey t row key time .codes) q 0 → r ≡ q
+  keyed-at : (r q : ℕ) → getD (withKey t row key time .used) r false ≡ true → getD (withKey t row key time .used) q false ≡ true → getD (withKey t row key time .«row_keys») r 0 ≡ getD (withKey t row key time .«row_keys») q 0 → r ≡ q
   keyed-at r q e f =
-      after-set (λ (k : ℕ). k ≡ getD (withKey t row key time .codes) q 0 → r ≡ q) (t .codes) row r key 0 (omega (arith, s .codes-long))
-      (λ here. after-set (λ (k : ℕ). key ≡ k → r ≡ q) (t .codes) row q key 0 (omega (arith, s .codes-long)) (λ here₂ g. here ∙ sym here₂) (λ other g. absurd (no-row t s key new q (was-used q other f) (sym g))))
-      (λ other. after-set (λ (k : ℕ). getD (t .codes) r 0 ≡ k → r ≡ q) (t .codes) row q key 0 (omega (arith, s .codes-long))
+      after-set (λ (k : ℕ). k ≡ getD (withKey t row key time .«row_keys») q 0 → r ≡ q) (t .«row_keys») row r key 0 (omega (arith, s .row-keys-long))
+      (λ here. after-set (λ (k : ℕ). key ≡ k → r ≡ q) (t .«row_keys») row q key 0 (omega (arith, s .row-keys-long)) (λ here₂ g. here ∙ sym here₂) (λ other g. absurd (no-row t s key new q (was-used q other f) (sym g))))
+      (λ other. after-set (λ (k : ℕ). getD (t .«row_keys») r 0 ≡ k → r ≡ q) (t .«row_keys») row q key 0 (omega (arith, s .row-keys-long))
       (λ here g. absurd (no-row t s key new r (was-used r other e) g)) (λ other₂ g. s .keyed r q (was-used r other e) (was-used q other₂ f) g))
 
   -- the lists of places stay
@@ -165,7 +165,7 @@ module _ (t : Table) (s : Sound t) (row key time : ℕ) (in-16 : row < 16) (new 
 
   pub open-sound : Sound (withKey t row key time)
   open-sound = record {
-    codes-long = length-set (t .codes) row key ∙ s .codes-long;
+    row-keys-long = length-set (t .«row_keys») row key ∙ s .row-keys-long;
     firsts-long = length-set (t .firsts) row time ∙ s .firsts-long;
     places-long = opened-long (s .places-long);
     used-long = length-set (t .used) row true ∙ s .used-long;
@@ -182,9 +182,9 @@ module _ (t : Table) (row r : ℕ) (other : r ≡ row → ⊥) where
   unfolding without
   dropped-other = getD-set-other (t .used) row r false false other
 
-  pub dropped-code : getD (without t row .codes) r 0 ≡ getD (t .codes) r 0
+  pub dropped-key : getD (without t row .«row_keys») r 0 ≡ getD (t .«row_keys») r 0
   unfolding without
-  dropped-code = getD-set-other (t .codes) row r 0 0 other
+  dropped-key = getD-set-other (t .«row_keys») row r 0 0 other
 
   pub dropped-time : getD (without t row .firsts) r 0 ≡ getD (t .firsts) r 0
   unfolding without
@@ -205,7 +205,7 @@ module _ (t : Table) (s : Sound t) (row : ℕ) (in-16 : row < 16) where
   pub drop-sound : Sound (without t row)
   unfolding without
   drop-sound = record {
-    codes-long = length-set (t .codes) row 0 ∙ s .codes-long;
+    row-keys-long = length-set (t .«row_keys») row 0 ∙ s .row-keys-long;
     firsts-long = length-set (t .firsts) row 0 ∙ s .firsts-long;
     places-long = drop-long t (s .places-long) row;
     used-long = length-set (t .used) row false ∙ s .used-long;
@@ -218,7 +218,7 @@ module _ (t : Table) (s : Sound t) (row : ℕ) (in-16 : row < 16) where
     keyed = λ r q e f g.
         let a = not-dropped r e in
         let b = not-dropped q f in
-        s .keyed r q (sym (dropped-other t row r a) ∙ e) (sym (dropped-other t row q b) ∙ f) (sym (dropped-code t row r a) ∙ g ∙ dropped-code t row q b);
+        s .keyed r q (sym (dropped-other t row r a) ∙ e) (sym (dropped-other t row q b) ∙ f) (sym (dropped-key t row r a) ∙ g ∙ dropped-key t row q b);
   }
 
 pub end-sound : (t : Table) → Sound t → (row : ℕ) → Sound (droppedKey t row)

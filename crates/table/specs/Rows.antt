@@ -37,7 +37,7 @@ freePlace = record { message-type = 0; size = 0; owner = 0; number = 0; version 
 abbrev pub freshTable : Table
 freshTable =
     record {
-      codes = replicate keys 0;
+      «row_keys» = replicate keys 0;
       firsts = replicate keys 0;
       «message_types» = replicate places 0;
       sizes = replicate places 0;
@@ -49,7 +49,7 @@ freshTable =
 
 -- the row of a key, the number of keys where the table holds nothing under it
 abbrev pub isRowOf : Table → ℕ → ℕ → Bool
-isRowOf t key row = getD (t .used) row false && eqb (getD (t .codes) row 0) key
+isRowOf t key row = getD (t .used) row false && eqb (getD (t .«row_keys») row 0) key
 
 abbrev pub rowOf : Table → ℕ → ℕ
 rowOf t key = lowest (isRowOf t key) keys
@@ -90,7 +90,7 @@ lowestFree t = lowest (λ i. isFree (placeAt t i)) places
 abbrev pub withKey : Table → (row key time : ℕ) → Table
 withKey t row key time =
     record {
-      codes = set (t .codes) row key;
+      «row_keys» = set (t .«row_keys») row key;
       firsts = set (t .firsts) row time;
       «message_types» = t .«message_types»;
       sizes = t .sizes;
@@ -103,7 +103,7 @@ withKey t row key time =
 abbrev pub withPlace : Table → ℕ → Place → Table
 withPlace t i p =
     record {
-      codes = t .codes;
+      «row_keys» = t .«row_keys»;
       firsts = t .firsts;
       «message_types» = set (t .«message_types») i (p .message-type);
       sizes = set (t .sizes) i (p .size);
@@ -123,7 +123,7 @@ wiped owner blank (o ∷ os) (x ∷ xs) = cond (eqb o owner) blank x ∷ wiped o
 unfoldable pub without : Table → ℕ → Table
 without t row =
     record {
-      codes = set (t .codes) row 0;
+      «row_keys» = set (t .«row_keys») row 0;
       firsts = set (t .firsts) row 0;
       «message_types» = wiped (ownerOf row) 0 (t .owners) (t .«message_types»);
       sizes = wiped (ownerOf row) 0 (t .owners) (t .sizes);

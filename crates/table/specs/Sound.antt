@@ -15,7 +15,7 @@ pub record Long (t : Table) : Type 0 where
   pub versions : length (t .versions) ≡ places
 
 pub record Sound (t : Table) : Type 0 where
-  pub codes-long : length (t .codes) ≡ keys
+  pub row-keys-long : length (t .«row_keys») ≡ keys
   pub firsts-long : length (t .firsts) ≡ keys
   pub places-long : Long t
   pub used-long : length (t .used) ≡ keys
@@ -26,4 +26,4 @@ pub record Sound (t : Table) : Type 0 where
   -- a row has each number once
   pub once : (i j row : ℕ) → placeAt t i .owner ≡ ownerOf row → placeAt t j .owner ≡ ownerOf row → placeAt t i .number ≡ placeAt t j .number → i ≡ j
   -- a key has one row
-  pub keyed : (r s : ℕ) → getD (t .used) r false ≡ true → getD (t .used) s false ≡ true → getD (t .codes) r 0 ≡ getD (t .codes) s 0 → r ≡ s
+  pub keyed : (r s : ℕ) → getD (t .used) r false ≡ true → getD (t .used) s false ≡ true → getD (t .«row_keys») r 0 ≡ getD (t .«row_keys») s 0 → r ≡ s

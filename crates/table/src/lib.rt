@@ -17,7 +17,7 @@ pub const STORE_SIZE: usize = PLACES * PLACE_SIZE;
 // mark: no fragment that is kept is marked. Each list is an array of its own, which a look-up can be lent.
 #[repr(C)]
 pub struct Table {
-    pub codes: [u64; KEYS],
+    pub row_keys: [u64; KEYS],
     // when the key's first fragment came
     pub firsts: [u64; KEYS],
     pub message_types: [u16; PLACES],
@@ -35,7 +35,7 @@ pub fn fresh() -> Table
     ensures { λ r. ⌜ r ≡ freshTable ⌝ }
 {
     Table {
-        codes: [0u64; KEYS],
+        row_keys: [0u64; KEYS],
         firsts: [0u64; KEYS],
         message_types: [0u16; PLACES],
         sizes: [0u16; PLACES],
@@ -54,7 +54,7 @@ pub fn without_key(t: Table, row: usize) -> Table
     let mut n = t;
     if row < KEYS {
         let owner = row as u8 + 1;
-        n.codes[row] = 0;
+        n.row_keys[row] = 0;
         n.firsts[row] = 0;
         n.used[row] = false;
         let mut i: usize = 0;
