@@ -217,10 +217,10 @@ pub record OfTheTable : Type 0 where
   pub kept-if-not-last : (keeps joins : Way) → wayBy 47744 1492 32 false keeps joins ≡ keeps
   pub joined-if-last : (keeps joins : Way) → wayBy 47744 1492 32 true keeps joins ≡ joins
   -- 10: no place is free, or no row for a new key; a key that has a row needs none
-  pub no-place-free : keepWay 32 0 0 ≡ refuse 10 []
-  pub no-row-free : keepWay 31 16 16 ≡ refuse 10 []
-  pub row-of-its-own : keepWay 31 16 15 ≡ keepAt 31
-  pub new-row : keepWay 0 15 16 ≡ openAt 0 15
+  pub no-place-free : keepWay (record { row = 0; place = 32; free = 32; spare = 0 }) ≡ refuse 10 []
+  pub no-row-free : keepWay (record { row = 16; place = 32; free = 31; spare = 16 }) ≡ refuse 10 []
+  pub row-of-its-own : keepWay (record { row = 15; place = 32; free = 31; spare = 16 }) ≡ keepAt 31
+  pub new-row : keepWay (record { row = 16; place = 32; free = 0; spare = 15 }) ≡ openAt 0 15
   -- 13, of two fragments or more, gives the message's length; a single one needs no output
   pub output-too-small : messageWay 2 (1 ∷ 2 ∷ 3 ∷ []) 2 ≡ refuse 13 (3 ∷ [])
   pub output-just-enough : messageWay 2 (1 ∷ 2 ∷ 3 ∷ []) 3 ≡ end (joinedAs 3) (1 ∷ 2 ∷ 3 ∷ [])

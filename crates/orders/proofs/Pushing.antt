@@ -11,7 +11,7 @@ use Rattle.table.specs.declared.Table.{Table}
 use Rattle.pushing.specs.declared.Arrival.{Arrival}
 use Rattle.table.specs.Rows.{rowOf, spareRow, placeOf, lowestFree}
 use Rattle.pushing.specs.Joining.{Held, Fragments, isKept, heldOf, heldIn, andNew}
-use Rattle.pushing.specs.Push.{PushAnswer, Way, refuse, duplicate, keepAt, openAt, end, joinWay, keepWay, joinedWith, answerBy}
+use Rattle.pushing.specs.Push.{PushAnswer, Way, refuse, duplicate, keepAt, openAt, end, joinWay, lookedUp, keepWay, joinedWith, answerBy}
 use Rattle.pushing.specs.Made.{Made}
 use Rattle.pushing.proofs.Ways.{by-ends, keep-full, keep-there, keep-keys, keep-new, way-11, way-12, way-duplicate, way-last, way-keep}
 use Rattle.table.proofs.Sound.{Sound}
@@ -93,11 +93,11 @@ module _ (long : ℕ) (z : State) (p : Push) (g : Good long z) where
     joined-same : joinedWith t (part z p) row (a .fragment) (p .payload) (p .room) ≡ ownJoining v p
     joined-same = ap (λ (fs : Fragments). joinWay new (andNew fs (a .fragment .number) new) (p .room)) (held-lent z s (p .lent) h₁ row)
 
-    by-keep : wayOf z p ≡ keepWay (lowestFree t) (spareRow t) row → ownWay long v p ≡ keepAt 0 → a .fragment .last ≡ false → (x : Bool) → leb 32 (lowestFree t) ≡ x → (y : Bool) → ltb row 16 ≡ y → (w : Bool) → leb 16 (spareRow t) ≡ w → Turn long z p
-    by-keep is own l true e y f w q = full (is ∙ keep-full (lowestFree t) (spareRow t) row (lowestFree t) refl (leb-true _ _ e)) own l (no-place (leb-true _ _ e))
-    by-keep is own l false e true f w q = as-told (ap shape (is ∙ keep-there (lowestFree t) (spareRow t) row (lowestFree t) refl (leb-false _ _ e) (ltb-true _ _ f)) ∙ sym own)
-    by-keep is own l false e false f true q = full (is ∙ keep-keys (lowestFree t) (spareRow t) row (lowestFree t) refl (leb-false _ _ e) (ltb-false _ _ f) (spareRow t) refl (leb-true _ _ q)) own l (no-row (ltb-false _ _ f) (leb-true _ _ q))
-    by-keep is own l false e false f false q = as-told (ap shape (is ∙ keep-new (lowestFree t) (spareRow t) row (lowestFree t) refl (leb-false _ _ e) (ltb-false _ _ f) (spareRow t) refl (leb-false _ _ q)) ∙ sym own)
+    by-keep : wayOf z p ≡ keepWay (lookedUp t a) → ownWay long v p ≡ keepAt 0 → a .fragment .last ≡ false → (x : Bool) → leb 32 (lowestFree t) ≡ x → (y : Bool) → ltb row 16 ≡ y → (w : Bool) → leb 16 (spareRow t) ≡ w → Turn long z p
+    by-keep is own l true e y f w q = full (is ∙ keep-full (lookedUp t a) (leb-true _ _ e)) own l (no-place (leb-true _ _ e))
+    by-keep is own l false e true f w q = as-told (ap shape (is ∙ keep-there (lookedUp t a) (leb-false _ _ e) (ltb-true _ _ f)) ∙ sym own)
+    by-keep is own l false e false f true q = full (is ∙ keep-keys (lookedUp t a) (leb-false _ _ e) (ltb-false _ _ f) (leb-true _ _ q)) own l (no-row (ltb-false _ _ f) (leb-true _ _ q))
+    by-keep is own l false e false f false q = as-told (ap shape (is ∙ keep-new (lookedUp t a) (leb-false _ _ e) (ltb-false _ _ f) (leb-false _ _ q)) ∙ sym own)
 
     by-mark : 32 ≤ place → (b : Bool) → a .fragment .last ≡ b → Turn long z p
     by-mark h₃ true e = as-told (

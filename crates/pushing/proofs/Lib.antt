@@ -2,8 +2,8 @@ pub mod Byte
 pub mod Ways
 pub mod Sound
 pub mod Pieces
-pub mod Ends
-pub mod Changes
+pub mod Steps
+pub mod Verdicts
 pub mod Firm
 pub mod Apart
 pub mod Calls

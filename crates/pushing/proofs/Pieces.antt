@@ -1,7 +1,7 @@
 -- The pieces of a message, as the code finds them in the lists of places, are the fragments of the joining rule by their numbers.
 use mathlib.Core.Path.{_≡_, refl, sym, ap, _∙_, subst}
 use mathlib.Core.List.{List, [], _++_}
-use mathlib.Core.Bool.{Bool, true, false, cond, not, _&&_, false≢true}
+use mathlib.Core.Bool.{Bool, true, false, cond, not, _&&_, _||_, false≢true}
 use Prim.Native.Nat.{ℕ, zero, suc, _+_, _*_, _-_, _≤_, _<_}
 use native.Mathlib.Omega.{arith}
 use native.Mathlib.Nat.{add-zero, add-suc}
@@ -12,13 +12,11 @@ use lib.Seq.{paste, length-take-le, take-take, take-length, take-at, drop-append
 use borrow.Author.Tests.{eqb-true, eqb-false, eq-eqb, ne-eqb, ltb-true, ltb-false, lt-ltb, le-ltb}
 use Rattle.table.specs.declared.Table.{Table}
 use Rattle.pushing.specs.declared.Fragment.{Fragment}
-use Rattle.pushing.specs.declared.join.Verdict.{Verdict}
-use Rattle.pushing.specs.declared.join.Verdict.the-variants.{Inconsistent, Missing, MissingLast, Message}
 use Rattle.searching.specs.Search.{lowest, some}
 use Rattle.table.specs.Rows.{Place, ownerOf, placeAt, placeOf, bytesAt}
 use Rattle.pushing.specs.Joining.{Held, Kept, nothing, kept, Fragments, isKept, heldOf, heldAs, heldIn, andNew, keptAt, unlike, inconsistentWith, reach, gapped, isLast, payloadOf, inOrder, payloads}
-use Rattle.pushing.specs.Push.{messageWay, joinWay, joinedWith, over}
-use Rattle.pushing.specs.PrivateSteps.{placesIn, numberedIn, unlikeIn, beyondIn, fragmentAt, sizeAt, markedAt, pieceBytes, sizeTo, piecesTo, isGap, countFor, verdictFor, joinWayIn}
+use Rattle.pushing.specs.Push.{joinBy, joinWay, joinedWith, over}
+use Rattle.pushing.specs.PrivateSteps.{numberedIn, unlikeIn, beyondIn, fragmentAt, sizeAt, pieceBytes, sizeTo, piecesTo, isGap, countFor, gapIn, comparedIn, joinIn}
 use Rattle.searching.proofs.Search.{lowest-le, lowest-holds, lowest-before, lowest-same}
 use Rattle.table.proofs.Sound.{Sound, owned-place, place-holds, not-held, held-at}
 
@@ -101,67 +99,6 @@ at-most sizes size small h piece = by-place (ltb piece 32)
     by-place : (b : Bool) → cond b (getD sizes piece 0) size ≤ 1492
     by-place true = small piece
     by-place false = h
-
--- the tests of `verdictFor`, in the code's words
-module _ (p : Table) (row : ℕ) (f : Fragment) (size : ℕ) where
-  abbrev n : ℕ
-  n = countFor (p .owners) (p .numbers) row (f .number)
-
-  abbrev unlikely : ℕ
-  unlikely = unlikeIn (p .owners) (p .versions) (p .«message_types») (ownerOf row) (f .version) (f .«message_type»)
-
-  abbrev beyond : ℕ
-  beyond = beyondIn (p .owners) (p .numbers) (ownerOf row) n
-
-  abbrev marked : Bool
-  marked = markedAt (f .last) (fragmentAt (p .owners) (p .numbers) row (f .number) (n - 1))
-
-  abbrev total : ℕ
-  total = sizeTo (p .sizes) (p .owners) (p .numbers) row (f .number) size n
-
-  pub verdict-unlike : unlikely < 32 → verdictFor p row f size ≡ Inconsistent
-  unfolding verdictFor
-  verdict-unlike h = rw (lt-ltb _ _ h)
-
-  module _ (h₁ : 32 ≤ unlikely) where
-    pub verdict-new : n < f .number → verdictFor p row f size ≡ Missing
-    unfolding verdictFor
-    verdict-new h = rw (le-ltb _ _ h₁, lt-ltb _ _ h)
-
-    module _ (h₂ : f .number ≤ n) where
-      pub verdict-beyond : beyond < 32 → verdictFor p row f size ≡ Missing
-      unfolding verdictFor
-      verdict-beyond h = rw (le-ltb _ _ h₁, le-ltb _ _ h₂, lt-ltb _ _ h)
-
-      module _ (h₃ : 32 ≤ beyond) where
-        pub verdict-message : marked ≡ true → verdictFor p row f size ≡ Message n total
-        unfolding verdictFor
-        verdict-message h = rw (le-ltb _ _ h₁, le-ltb _ _ h₂, le-ltb _ _ h₃, h)
-
-        pub verdict-unmarked : marked ≡ false → verdictFor p row f size ≡ MissingLast
-        unfolding verdictFor
-        verdict-unmarked h = rw (le-ltb _ _ h₁, le-ltb _ _ h₂, le-ltb _ _ h₃, h)
-
-  -- a message has at most 256 pieces, and their bytes
-  abbrev Sized : Verdict → Type 0
-  Sized Inconsistent = Unit {0}
-  Sized Missing = Unit {0}
-  Sized MissingLast = Unit {0}
-  Sized (Message k bytes) = (k ≤ 256) × (bytes ≡ sizeTo (p .sizes) (p .owners) (p .numbers) row (f .number) size k)
-
-  sized-so : Sized (verdictFor p row f size)
-  unfolding verdictFor
-  sized-so = by-tests (ltb unlikely 32) (ltb n (f .number)) (ltb beyond 32) marked
-    where
-      by-tests : (a b c d : Bool) → Sized (cond a Inconsistent (cond b Missing (cond c Missing (cond d (Message n total) MissingLast))))
-      by-tests true b c d = tt
-      by-tests false true c d = tt
-      by-tests false false true d = tt
-      by-tests false false false true = (lowest-le (isGap (p .owners) (p .numbers) row (f .number)) 256, refl)
-      by-tests false false false false = tt
-
-  pub sized-as : (k bytes : ℕ) → verdictFor p row f size ≡ Message k bytes → (k ≤ 256) × (bytes ≡ sizeTo (p .sizes) (p .owners) (p .numbers) row (f .number) size k)
-  sized-as k bytes e = subst Sized e sized-so
 
 -- the bytes of a piece, with a store that has room for the places
 module _ (sizes store payload : List ℕ) where
@@ -252,9 +189,6 @@ kept-same t t′ store store′ i e b h =
 abbrev pub among : Table → List ℕ → ℕ → Fragment → List ℕ → Fragments
 among t store row f payload = andNew (heldIn t store row) (f .number) (heldOf f payload)
 
-abbrev pub placesOf : Table → Table
-placesOf t = placesIn (t .«message_types») (t .sizes) (t .owners) (t .numbers) (t .versions)
-
 pub place-le : (t : Table) (row k : ℕ) → placeOf t row k ≤ 32
 place-le t row k = numbered-le (t .owners) (t .numbers) (ownerOf row) k
 
@@ -265,11 +199,8 @@ module _ (t : Table) (store : List ℕ) (row : ℕ) (f : Fragment) (payload : Li
   abbrev new : Held
   new = heldOf f payload
 
-  abbrev P : Table
-  P = placesOf t
-
-  abbrev size : ℕ
-  size = length payload
+  abbrev n : ℕ
+  n = countFor (t .owners) (t .numbers) row (f .number)
 
   -- the fragment with a number: the new one, one in a place, or none
   pub at-new : (k : ℕ) → k ≡ f .number → fs k ≡ kept new
@@ -302,8 +233,12 @@ module _ (t : Table) (store : List ℕ) (row : ℕ) (f : Fragment) (payload : Li
   unfolding reach
   reach-is = lowest-same (λ k. not (isKept (fs k))) (isGap (t .owners) (t .numbers) row (f .number)) 256 (λ k h. gap-is k)
 
-  pub mark-is : (k : ℕ) → (fragmentAt (t .owners) (t .numbers) row (f .number) k ≡ 32 → ⊥) → isLast (fs k) ≡ markedAt (f .last) (fragmentAt (t .owners) (t .numbers) row (f .number) k)
-  mark-is k = by-piece (λ (x : Kept) (i : ℕ). (i ≡ 32 → ⊥) → isLast x ≡ markedAt (f .last) i) k (λ n g. refl) (λ n h g. rw (lt-ltb _ _ h)) (λ n h g. absurd (g refl))
+  -- the highest is marked if it is the new one, which is
+  pub marked-is : f .last ≡ true → isLast (fs (n - 1)) ≡ eqb n (f .number + 1)
+  marked-is last = by-piece (λ (x : Kept) (i : ℕ). isLast x ≡ eqb n (f .number + 1)) (n - 1)
+      (λ e. last ∙ sym (eq-eqb n (f .number + 1) (omega (arith, count-some (t .owners) (t .numbers) row (f .number) (omega arith)))))
+      (λ ne h. sym (ne-eqb n (f .number + 1) (λ e. ne (omega arith))))
+      (λ ne h. sym (ne-eqb n (f .number + 1) (λ e. ne (omega arith))))
 
   pub bytes-are : (k : ℕ) → (fragmentAt (t .owners) (t .numbers) row (f .number) k ≡ 32 → ⊥) → payloadOf (fs k) ≡ pieceBytes (t .sizes) store payload (fragmentAt (t .owners) (t .numbers) row (f .number) k)
   unfolding pieceBytes
@@ -354,50 +289,30 @@ module _ (t : Table) (store : List ℕ) (row : ℕ) (f : Fragment) (payload : Li
       pub tests-same : some (λ k. of-kept (fs k) k) 256 ≡ some (λ i. eqb (placeAt t i .owner) (ownerOf row) && of-place (placeAt t i)) 32
       tests-same = some-same (λ k. of-kept (fs k) k) (λ i. eqb (placeAt t i .owner) (ownerOf row) && of-place (placeAt t i)) 256 32 (λ k h e. ltb-true _ _ (there k h e)) back
 
-    pub unlike-is : inconsistentWith new fs ≡ ltb (unlikely P row f size) 32
+    pub unlike-is : inconsistentWith new fs ≡ ltb (unlikeIn (t .owners) (t .versions) (t .«message_types») (ownerOf row) (f .version) (f .«message_type»)) 32
     unfolding inconsistentWith
     unlike-is = tests-same (λ (x : Kept) (k : ℕ). unlike new x) (λ (p : Place). not (eqb (p .version) (f .version) && eqb (p .message-type) (f .«message_type»))) (λ k. refl)
         (rw (eq-eqb (f .version) (f .version) refl, eq-eqb (f .«message_type») (f .«message_type») refl)) (λ i. refl)
 
-    beyond-new : countFor (t .owners) (t .numbers) row (f .number) < f .number → gapped fs ≡ true
+    beyond-new : n < f .number → gapped fs ≡ true
     unfolding gapped
     beyond-new h = lt-ltb _ _ (some-at (λ k. isKept (fs k) && ltb (reach fs) k) 256 (f .number) byte (rw (at-new (f .number) refl, reach-is) (lt-ltb _ _ h)))
 
-    beyond-is : f .number ≤ countFor (t .owners) (t .numbers) row (f .number) → gapped fs ≡ ltb (beyond P row f size) 32
+    beyond-is : f .number ≤ n → gapped fs ≡ ltb (beyondIn (t .owners) (t .numbers) (ownerOf row) n) 32
     unfolding gapped
-    beyond-is h = rw reach-is (tests-same (λ (x : Kept) (k : ℕ). isKept x && ltb (countFor (t .owners) (t .numbers) row (f .number)) k) (λ (p : Place). ltb (countFor (t .owners) (t .numbers) row (f .number)) (p .number)) (λ k. refl) (le-ltb _ _ h) (λ i. refl))
+    beyond-is h = rw reach-is (tests-same (λ (x : Kept) (k : ℕ). isKept x && ltb n k) (λ (p : Place). ltb n (p .number)) (λ k. refl) (le-ltb _ _ h) (λ i. refl))
 
-  -- what the joining rule says of them
-  module _ (room : ℕ) (s : Sound t) (byte : f .number < 256) (once : 32 ≤ placeOf t row (f .number)) where
-    abbrev Judged : Type 0
-    Judged = joinedWith t store row f payload room ≡ joinWayIn P store row f payload room
+    gapped-is : gapped fs ≡ gapIn (t .owners) (t .numbers) (ownerOf row) (f .number) n
+    gapped-is = by-new (ltb n (f .number)) refl
+      where
+        by-new : (b : Bool) → ltb n (f .number) ≡ b → gapped fs ≡ (b || ltb (beyondIn (t .owners) (t .numbers) (ownerOf row) n) 32)
+        by-new true e = beyond-new (ltb-true _ _ e)
+        by-new false e = beyond-is (ltb-false _ _ e)
 
-    by-mark : 32 ≤ unlikely P row f size → f .number ≤ n P row f size → 32 ≤ beyond P row f size → (b : Bool) → marked P row f size ≡ b → Judged
+    -- what the joining rule says of them, in the code's words
+    pub judged : f .last ≡ true → (room : ℕ) → joinIn (t .sizes) (t .owners) (t .numbers) store payload (comparedIn (t .owners) (t .versions) (t .«message_types») row f) room ≡ joinedWith t store row f payload room
     unfolding joinWay
-    by-mark h₁ h₂ h₃ true e =
-        let some : 1 ≤ n P row f size = count-some (t .owners) (t .numbers) row (f .number) h₂ in
-        let its : isLast (fs (n P row f size - 1)) ≡ true = mark-is (n P row f size - 1) (no-gap (t .owners) (t .numbers) row (f .number) (n P row f size - 1) (omega arith)) ∙ e in
-        rw (verdict-message P row f size h₁ h₂ h₃ e)
-        (rw (unlike-is s byte once, le-ltb _ _ h₁, beyond-is s byte once h₂, le-ltb _ _ h₃, reach-is, its) (ap (λ (l : List ℕ). messageWay (n P row f size) l room) (payloads-are (n P row f size) (omega arith))))
-    by-mark h₁ h₂ h₃ false e =
-        let some : 1 ≤ n P row f size = count-some (t .owners) (t .numbers) row (f .number) h₂ in
-        let its : isLast (fs (n P row f size - 1)) ≡ false = mark-is (n P row f size - 1) (no-gap (t .owners) (t .numbers) row (f .number) (n P row f size - 1) (omega arith)) ∙ e in
-        rw (verdict-unmarked P row f size h₁ h₂ h₃ e) (rw (unlike-is s byte once, le-ltb _ _ h₁, beyond-is s byte once h₂, le-ltb _ _ h₃, reach-is, its))
-
-    by-beyond : 32 ≤ unlikely P row f size → f .number ≤ n P row f size → (b : Bool) → ltb (beyond P row f size) 32 ≡ b → Judged
-    unfolding joinWay
-    by-beyond h₁ h₂ true e = rw (verdict-beyond P row f size h₁ h₂ (ltb-true _ _ e)) (rw (unlike-is s byte once, le-ltb _ _ h₁, beyond-is s byte once h₂, e))
-    by-beyond h₁ h₂ false e = by-mark h₁ h₂ (ltb-false _ _ e) (marked P row f size) refl
-
-    by-new : 32 ≤ unlikely P row f size → (b : Bool) → ltb (n P row f size) (f .number) ≡ b → Judged
-    unfolding joinWay
-    by-new h₁ true e = rw (verdict-new P row f size h₁ (ltb-true _ _ e)) (rw (unlike-is s byte once, le-ltb _ _ h₁, beyond-new s byte once (ltb-true _ _ e)))
-    by-new h₁ false e = by-beyond h₁ (ltb-false _ _ e) (ltb (beyond P row f size) 32) refl
-
-    by-unlike : (b : Bool) → ltb (unlikely P row f size) 32 ≡ b → Judged
-    unfolding joinWay
-    by-unlike true e = rw (verdict-unlike P row f size (ltb-true _ _ e)) (rw (unlike-is s byte once, e))
-    by-unlike false e = by-new (ltb-false _ _ e) (ltb (n P row f size) (f .number)) refl
-
-    pub judged : Judged
-    judged = by-unlike (ltb (unlikely P row f size) 32) refl
+    judged last room =
+        let mark : isLast (fs (reach fs - 1)) ≡ eqb n (f .number + 1) = ap (λ (k : ℕ). isLast (fs (k - 1))) reach-is ∙ marked-is last in
+        let bytes : payloads fs (reach fs) ≡ piecesTo (t .sizes) (t .owners) (t .numbers) store row (f .number) payload n = ap (payloads fs) reach-is ∙ payloads-are n (omega arith) in
+        sym (λ i. joinBy (unlike-is i) (gapped-is i) (mark i) (reach-is i) (bytes i) room)

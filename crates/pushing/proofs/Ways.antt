@@ -11,41 +11,31 @@ use borrow.Author.Tests.{le-ltb, lt-ltb, le-leb, lt-leb, ltb-true, ltb-false, le
 use Rattle.numbers.specs.Numbers.{Answer, gives, refuses}
 use Rattle.table.specs.declared.Table.{Table}
 use Rattle.pushing.specs.declared.Arrival.{Arrival}
+use Rattle.pushing.specs.declared.look.LookedUp.{LookedUp}
 use Rattle.table.specs.Rows.{rowOf, spareRow, placeOf, lowestFree}
 use Rattle.pushing.specs.Joining.{Held, Fragments, heldOf, heldIn, andNew, inconsistentWith, gapped, isLast, reach, payloads}
-use Rattle.pushing.specs.Push.{PushAnswer, waiting, duplicated, inconsistent, missing, missingLast, single, joined, Way, refuse, duplicate, keepAt, openAt, end, keepWay, messageWay, joinWay, joinedWith, wayBy, way, over, outputBy, answerBy}
+use Rattle.pushing.specs.Push.{PushAnswer, waiting, duplicated, inconsistent, missing, missingLast, single, joined, Way, refuse, duplicate, keepAt, openAt, end, lookedUp, keepWay, messageWay, joinWay, joinedWith, wayBy, way, over, outputBy, answerBy}
 use Rattle.pushing.specs.Show.{startOf, shown}
 
 -- step 3
-module _ (free spare row : ℕ) (place : ℕ) (e : place ≡ free) where
-  pub keep-full : 32 ≤ place → keepWay free spare row ≡ refuse 10 []
+module _ (found : LookedUp) where
+  pub keep-full : 32 ≤ found .free → keepWay found ≡ refuse 10 []
   unfolding keepWay
-  keep-full h = rw (← e, le-leb _ _ h)
+  keep-full h = rw (le-leb _ _ h)
 
-  module _ (h₁ : place < 32) where
-    pub keep-there : row < 16 → keepWay free spare row ≡ keepAt place
+  module _ (h₁ : found .free < 32) where
+    pub keep-there : found .row < 16 → keepWay found ≡ keepAt (found .free)
     unfolding keepWay
-    keep-there h = rw (← e, lt-leb _ _ h₁, lt-ltb _ _ h)
+    keep-there h = rw (lt-leb _ _ h₁, lt-ltb _ _ h)
 
-    module _ (h₂ : 16 ≤ row) (at : ℕ) (e₂ : at ≡ spare) where
-      pub keep-keys : 16 ≤ at → keepWay free spare row ≡ refuse 10 []
+    module _ (h₂ : 16 ≤ found .row) where
+      pub keep-keys : 16 ≤ found .spare → keepWay found ≡ refuse 10 []
       unfolding keepWay
-      keep-keys h = rw (← e, ← e₂, lt-leb _ _ h₁, le-ltb _ _ h₂, le-leb _ _ h)
+      keep-keys h = rw (lt-leb _ _ h₁, le-ltb _ _ h₂, le-leb _ _ h)
 
-      pub keep-new : at < 16 → keepWay free spare row ≡ openAt place at
+      pub keep-new : found .spare < 16 → keepWay found ≡ openAt (found .free) (found .spare)
       unfolding keepWay
-      keep-new h = rw (← e, ← e₂, lt-leb _ _ h₁, le-ltb _ _ h₂, lt-leb _ _ h)
-
--- a fragment that is kept or refused leaves the output alone
-pub keep-output : (free spare row : ℕ) (out : List ℕ) → out ≡ outputBy (keepWay free spare row) out
-unfolding keepWay
-keep-output free spare row out = by-tests (leb 32 free) (ltb row 16) (leb 16 spare)
-  where
-    by-tests : (a b c : Bool) → out ≡ outputBy (cond a (refuse 10 []) (cond b (keepAt free) (cond c (refuse 10 []) (openAt free spare)))) out
-    by-tests true b c = refl
-    by-tests false true c = refl
-    by-tests false false true = refl
-    by-tests false false false = refl
+      keep-new h = rw (lt-leb _ _ h₁, le-ltb _ _ h₂, lt-leb _ _ h)
 
 -- step 4
 module _ (n : ℕ) (bytes : List ℕ) (room : ℕ) where
@@ -127,18 +117,30 @@ module _ (stored size place : ℕ) (last : Bool) (keeps joins : Way) where
         unfolding wayBy
         by-keep h = rw (le-ltb _ _ h₁, le-ltb _ _ h₂, le-ltb _ _ h₃, h)
 
--- what step 4 comes to matters only where it is reached
-pub same-joins : (stored size place : ℕ) (last : Bool) (keeps x y : Way) → (47744 ≤ stored → 32 ≤ place → x ≡ y) → wayBy stored size place last keeps x ≡ wayBy stored size place last keeps y
-unfolding wayBy
-same-joins stored size place last keeps x y e = by-tests (ltb stored 47744) refl (ltb 1492 size) (ltb place 32) refl last
+-- step 4 is reached by these tests alone
+abbrev isEnd : Way → Bool
+isEnd (refuse n values) = false
+isEnd duplicate = false
+isEnd (keepAt i) = false
+isEnd (openAt i row) = false
+isEnd (end h bytes) = true
+
+pub reached : (stored size : ℕ) (found : LookedUp) (last : Bool) → wayBy stored size (found .place) last (keepWay found) (end missing []) ≡ end missing [] → (47744 ≤ stored) × (size ≤ 1492) × (32 ≤ found .place) × (last ≡ true)
+unfolding wayBy keepWay
+reached stored size found last e =
+    by-tests (ltb stored 47744) refl (ltb 1492 size) refl (ltb (found .place) 32) refl last refl (leb 32 (found .free)) (ltb (found .row) 16) (leb 16 (found .spare)) (ap isEnd e)
   where
-    by-tests : (a : Bool) → ltb stored 47744 ≡ a → (b c : Bool) → ltb place 32 ≡ c → (d : Bool)
-        → cond a (refuse 11 []) (cond b (refuse 12 []) (cond c duplicate (cond (not d) keeps x))) ≡ cond a (refuse 11 []) (cond b (refuse 12 []) (cond c duplicate (cond (not d) keeps y)))
-    by-tests true p b c q d = refl
-    by-tests false p true c q d = refl
-    by-tests false p false true q d = refl
-    by-tests false p false false q true = e (ltb-false _ _ p) (ltb-false _ _ q)
-    by-tests false p false false q false = refl
+    by-tests : (a : Bool) → ltb stored 47744 ≡ a → (b : Bool) → ltb 1492 size ≡ b → (c : Bool) → ltb (found .place) 32 ≡ c → (d : Bool) → last ≡ d → (x y z : Bool)
+        → isEnd (cond a (refuse 11 []) (cond b (refuse 12 []) (cond c duplicate (cond (not d) (cond x (refuse 10 []) (cond y (keepAt (found .free)) (cond z (refuse 10 []) (openAt (found .free) (found .spare))))) (end missing []))))) ≡ true
+        → (47744 ≤ stored) × (size ≤ 1492) × (32 ≤ found .place) × (last ≡ true)
+    by-tests true p b q c r d l x y z g = absurd (false≢true g)
+    by-tests false p true q c r d l x y z g = absurd (false≢true g)
+    by-tests false p false q true r d l x y z g = absurd (false≢true g)
+    by-tests false p false q false r true l x y z g = (ltb-false _ _ p, ltb-false _ _ q, ltb-false _ _ r, l)
+    by-tests false p false q false r false l true y z g = absurd (false≢true g)
+    by-tests false p false q false r false l false true z g = absurd (false≢true g)
+    by-tests false p false q false r false l false false true g = absurd (false≢true g)
+    by-tests false p false q false r false l false false false g = absurd (false≢true g)
 
 -- which way a push went, and what held: what is true of each way is shown by these five cases
 pub data Went (t : Table) (store : List ℕ) (a : Arrival) (payload : List ℕ) (room : ℕ) : Way → Type 0 where
@@ -165,7 +167,7 @@ module _ (t : Table) (store : List ℕ) (a : Arrival) (payload : List ℕ) (room
   last-joins = by-ends Last (λ x o. refl) (λ x o. refl) (λ x o. refl) (λ n x o. refl) (λ n. tt) (λ bytes x o. start-over bytes o ∙ sym (start-over bytes [])) (heldOf (a .fragment) payload) (andNew (heldIn t store row) (a .fragment .number) (heldOf (a .fragment) payload)) room
 
   abbrev keeps : Way
-  keeps = keepWay (lowestFree t) (spareRow t) row
+  keeps = keepWay (lookedUp t a)
 
   -- the tests of a push to a table
   pub way-11 : length store < 47744 → way t store a payload room ≡ refuse 11 []
@@ -192,10 +194,10 @@ module _ (t : Table) (store : List ℕ) (a : Arrival) (payload : List ℕ) (room
         way-keep l = by-keep _ _ _ _ _ _ h₁ h₂ h₃ l
 
         by-room : a .fragment .last ≡ false → (x : Bool) → leb 32 (lowestFree t) ≡ x → (y : Bool) → ltb row 16 ≡ y → (z : Bool) → leb 16 (spareRow t) ≡ z → Went t store a payload room keeps
-        by-room l true e y f z g = rw (keep-full (lowestFree t) (spareRow t) row (lowestFree t) refl (leb-true _ _ e)) (went-refuse 10 [])
-        by-room l false e true f z g = rw (keep-there (lowestFree t) (spareRow t) row (lowestFree t) refl (leb-false _ _ e) (ltb-true _ _ f)) (went-keep (lowestFree t) h₁ h₂ h₃ l refl (leb-false _ _ e) (ltb-true _ _ f))
-        by-room l false e false f true g = rw (keep-keys (lowestFree t) (spareRow t) row (lowestFree t) refl (leb-false _ _ e) (ltb-false _ _ f) (spareRow t) refl (leb-true _ _ g)) (went-refuse 10 [])
-        by-room l false e false f false g = rw (keep-new (lowestFree t) (spareRow t) row (lowestFree t) refl (leb-false _ _ e) (ltb-false _ _ f) (spareRow t) refl (leb-false _ _ g)) (went-open (lowestFree t) (spareRow t) h₁ h₂ h₃ l refl (leb-false _ _ e) (ltb-false _ _ f) refl (leb-false _ _ g))
+        by-room l true e y f z g = rw (keep-full (lookedUp t a) (leb-true _ _ e)) (went-refuse 10 [])
+        by-room l false e true f z g = rw (keep-there (lookedUp t a) (leb-false _ _ e) (ltb-true _ _ f)) (went-keep (lowestFree t) h₁ h₂ h₃ l refl (leb-false _ _ e) (ltb-true _ _ f))
+        by-room l false e false f true g = rw (keep-keys (lookedUp t a) (leb-false _ _ e) (ltb-false _ _ f) (leb-true _ _ g)) (went-refuse 10 [])
+        by-room l false e false f false g = rw (keep-new (lookedUp t a) (leb-false _ _ e) (ltb-false _ _ f) (leb-false _ _ g)) (went-open (lowestFree t) (spareRow t) h₁ h₂ h₃ l refl (leb-false _ _ e) (ltb-false _ _ f) refl (leb-false _ _ g))
 
         -- a last way is a refusal or an end
         by-end : a .fragment .last ≡ true → (w : Way) → joins ≡ w → Went t store a payload room w

@@ -1,23 +1,24 @@
 -- What the private functions answer, in the words of the other files. No public contract cites this one.
 use mathlib.Core.Path.{_≡_}
-use mathlib.Core.List.{List, []}
-use mathlib.Core.Bool.{Bool, true, false, cond, not, _&&_}
-use Prim.Native.Nat.{ℕ, zero, suc, _+_, _-_}
+use mathlib.Core.List.{List}
+use mathlib.Core.Bool.{Bool, false, cond, not, _&&_, _||_}
+use Prim.Native.Nat.{ℕ, zero, suc, _+_, _≤_}
 use lib.Dec.{eqb, ltb}
 use lib.ListN.{length, getD}
+use Rattle.numbers.specs.Numbers.{number, values}
 use Rattle.table.specs.declared.Table.{Table}
 use Rattle.pushing.specs.declared.Arrival.{Arrival}
-use Rattle.pushing.specs.declared.Fragment.{Fragment}
 use Rattle.pushing.specs.declared.join.Reach.{Reach}
 use Rattle.pushing.specs.declared.join.Verdict.{Verdict}
-use Rattle.pushing.specs.declared.join.Verdict.the-variants.{Inconsistent, Missing, MissingLast, Message}
-use Rattle.pushing.specs.declared.choose.Change.{Change}
-use Rattle.pushing.specs.declared.choose.Change.the-variants.{Stay, PutAt, DropKey}
-use Rattle.pushing.specs.declared.choose.Chosen.{Chosen}
+use Rattle.pushing.specs.declared.join.Compared.{Compared}
+use Rattle.pushing.specs.declared.Fragment.{Fragment}
+use Rattle.pushing.specs.declared.look.LookedUp.{LookedUp}
+use Rattle.pushing.specs.declared.choose.Step.{Step}
+use Rattle.pushing.specs.declared.choose.Step.the-variants.{Refuse, Duplicate, Keep, Join}
 use Rattle.searching.specs.Search.{lowest}
 use Rattle.table.specs.Rows.{keys, places, ownerOf, bytesAt, withKey}
 use Rattle.pushing.specs.Joining.{inOrder}
-use Rattle.pushing.specs.Push.{Way, refuse, duplicate, keepAt, openAt, end, inconsistent, missing, missingLast, messageWay, pushedOf, answerBy, outputBy}
+use Rattle.pushing.specs.Push.{Way, refuse, duplicate, keepAt, openAt, end, joinBy, pushedOf, over, answerBy, outputBy}
 
 -- the look-ups, in the lists that they are lent
 abbrev pub rowIn : List Bool → List ℕ → ℕ → ℕ
@@ -38,9 +39,14 @@ unlikeIn owners versions types owner version type = lowest (λ i. eqb (getD owne
 abbrev pub beyondIn : (owners numbers : List ℕ) → (owner number : ℕ) → ℕ
 beyondIn owners numbers owner number = lowest (λ i. eqb (getD owners i 0) owner && ltb number (getD numbers i 0)) places
 
--- a table of which only the five lists of its places are known
-abbrev pub placesIn : (types sizes owners numbers versions : List ℕ) → Table
-placesIn types sizes owners numbers versions = record { «row_keys» = []; firsts = []; «message_types» = types; sizes = sizes; owners = owners; numbers = numbers; versions = versions; used = [] }
+-- all that a push looks up
+abbrev pub lookedIn : List Bool → (row-keys owners numbers : List ℕ) → (key number : ℕ) → LookedUp
+lookedIn used row-keys owners numbers key number = record {
+  row = rowIn used row-keys key;
+  place = numberedIn owners numbers (ownerOf (rowIn used row-keys key)) number;
+  free = lowestFreeIn owners;
+  spare = spareRowIn used;
+}
 
 -- where the piece with number k lies: in a place, at the number of places where there is none, and one behind that where it is the new fragment
 abbrev pub newPiece : ℕ
@@ -51,9 +57,6 @@ fragmentAt owners numbers row number k = cond (eqb k number) newPiece (numberedI
 
 abbrev pub sizeAt : List ℕ → (size piece : ℕ) → ℕ
 sizeAt sizes size piece = cond (ltb piece places) (getD sizes piece 0) size
-
-abbrev pub markedAt : Bool → ℕ → Bool
-markedAt last piece = cond (ltb piece places) false last
 
 unfoldable pub pieceBytes : (sizes store payload : List ℕ) → ℕ → List ℕ
 pieceBytes sizes store payload piece = cond (ltb piece places) (bytesAt store piece (getD sizes piece 0)) payload
@@ -75,40 +78,52 @@ countFor owners numbers row number = lowest (isGap owners numbers row number) 25
 abbrev pub reachFor : (sizes owners numbers : List ℕ) → (row number size : ℕ) → Reach
 reachFor sizes owners numbers row number size = record { count = countFor owners numbers row number; total = sizeTo sizes owners numbers row number size (countFor owners numbers row number) }
 
-unfoldable pub verdictFor : Table → ℕ → Fragment → ℕ → Verdict
-verdictFor p row f size =
-    cond (ltb (unlikeIn (p .owners) (p .versions) (p .«message_types») (ownerOf row) (f .version) (f .«message_type»)) places) Inconsistent
-    (cond (ltb (countFor (p .owners) (p .numbers) row (f .number)) (f .number)) Missing
-    (cond (ltb (beyondIn (p .owners) (p .numbers) (ownerOf row) (countFor (p .owners) (p .numbers) row (f .number))) places) Missing
-    (cond (markedAt (f .last) (fragmentAt (p .owners) (p .numbers) row (f .number) (countFor (p .owners) (p .numbers) row (f .number) - 1)))
-    (Message (countFor (p .owners) (p .numbers) row (f .number)) (sizeTo (p .sizes) (p .owners) (p .numbers) row (f .number) size (countFor (p .owners) (p .numbers) row (f .number))))
-    MissingLast)))
+-- a number that is there is beyond one that is not: the new one's, or one of a place
+abbrev pub gapIn : (owners numbers : List ℕ) → (owner number count : ℕ) → Bool
+gapIn owners numbers owner number count = ltb count number || ltb (beyondIn owners numbers owner count) places
 
--- the way of a verdict; `bytes n` are those of the first n pieces
-abbrev pub verdictWay : Verdict → (ℕ → List ℕ) → (room : ℕ) → Way
-verdictWay Inconsistent bytes room = end inconsistent []
-verdictWay Missing bytes room = end missing []
-verdictWay MissingLast bytes room = end missingLast []
-verdictWay (Message n total) bytes room = messageWay n (bytes n) room
+-- a last fragment, compared with those that its row holds
+abbrev pub comparedIn : (owners versions types : List ℕ) → ℕ → Fragment → Compared
+comparedIn owners versions types row f = record { row = row; number = f .number; unlike = ltb (unlikeIn owners versions types (ownerOf row) (f .version) (f .«message_type»)) places }
 
-abbrev pub joinWayIn : Table → List ℕ → ℕ → Fragment → List ℕ → (room : ℕ) → Way
-joinWayIn p store row f payload room = verdictWay (verdictFor p row f (length payload)) (piecesTo (p .sizes) (p .owners) (p .numbers) store row (f .number) payload) room
+-- the joining rule for it
+abbrev pub joinIn : (sizes owners numbers store payload : List ℕ) → Compared → (room : ℕ) → Way
+joinIn sizes owners numbers store payload last room =
+    joinBy (last .unlike) (gapIn owners numbers (ownerOf (last .row)) (last .number) (countFor owners numbers (last .row) (last .number)))
+    (eqb (countFor owners numbers (last .row) (last .number)) (last .number + 1)) (countFor owners numbers (last .row) (last .number))
+    (piecesTo sizes owners numbers store (last .row) (last .number) payload (countFor owners numbers (last .row) (last .number))) room
 
--- what each way does to the table, for a key with this row
-abbrev pub endChange : ℕ → Change
-endChange row = cond (ltb row keys) DropKey Stay
+-- the way of a step, for a push by what was found; a last fragment's is that of joining
+abbrev pub stepWay : LookedUp → Step → (joins : Way) → Way
+stepWay found (Refuse r) joins = refuse (number r) (values r)
+stepWay found Duplicate joins = duplicate
+stepWay found Keep joins = cond (ltb (found .row) keys) (keepAt (found .free)) (openAt (found .free) (found .spare))
+stepWay found Join joins = joins
 
-abbrev pub changeBy : Way → ℕ → Change
-changeBy (refuse n values) row = Stay
-changeBy duplicate row = Stay
-changeBy (keepAt i) row = PutAt i row false
-changeBy (openAt i spare) row = PutAt i spare true
-changeBy (end h bytes) row = endChange row
+-- under which row a fragment is kept
+abbrev pub underRow : LookedUp → ℕ
+underRow found = cond (ltb (found .row) keys) (found .row) (found .spare)
 
--- a choice is that of the way w, and so is the output
-pub record Chooses (w : Way) (row : ℕ) (r : Chosen) (out out′ : List ℕ) : Type 0 where
+-- the row whose key a way drops, the number of keys where it drops none
+abbrev pub dropBy : Way → ℕ → ℕ
+dropBy (refuse n values) row = keys
+dropBy duplicate row = keys
+dropBy (keepAt i) row = keys
+dropBy (openAt i spare) row = keys
+dropBy (end h bytes) row = row
+
+-- a verdict is that of the way w: what is answered, the row that is dropped, and the pieces that go to the output
+pub record Judges (w : Way) (row count room : ℕ) (piece : ℕ → List ℕ) (r : Verdict) : Type 0 where
   pub answers : pushedOf (r .answer) ≡ answerBy w
-  pub changes : r .change ≡ changeBy w row
+  pub drops : r .dropped ≡ dropBy w row
+  pub few : r .pieces ≤ count
+  pub fits : length (inOrder piece (r .pieces)) ≤ room
+  pub puts : (out : List ℕ) → over (inOrder piece (r .pieces)) out ≡ outputBy w out
+
+-- a verdict and the output are those of the way w
+pub record Ends (w : Way) (row : ℕ) (r : Verdict) (out out′ : List ℕ) : Type 0 where
+  pub answers : pushedOf (r .answer) ≡ answerBy w
+  pub drops : r .dropped ≡ dropBy w row
   pub puts : out′ ≡ outputBy w out
 
 -- a row gets the key, or has it

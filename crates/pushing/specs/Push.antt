@@ -11,6 +11,7 @@ use Rattle.table.specs.declared.Table.{Table}
 use Rattle.pushing.specs.declared.Fragment.{Fragment}
 use Rattle.pushing.specs.declared.Arrival.{Arrival}
 use Rattle.pushing.specs.declared.Pushed.{Pushed}
+use Rattle.pushing.specs.declared.look.LookedUp.{LookedUp}
 use Rattle.pushing.specs.declared.Pushed.the-variants.{WaitingForMoreFragments, DuplicatedFragment, InconsistentMetadata, MissingFragments, MissingLastFragment, Single, Joined, Refused}
 use Rattle.table.specs.Rows.{keys, places, placeSize, storeSize, Place, ownerOf, rowOf, spareRow, placeOf, lowestFree, withKey, withPlace, droppedKey}
 use Rattle.pushing.specs.Joining.{Held, Fragments, heldOf, heldIn, andNew, inconsistentWith, gapped, isLast, reach, payloads}
@@ -63,13 +64,17 @@ wayBy stored size place last keeps joins =
     -- 4. "Marked last: it needs no place. Join it with those kept."
     joins)))
 
--- 3. by the lowest free place, the lowest row that no key has, and the key's row. 10: "when 32 places are used, or when it needs a new key and 16 are used"
-unfoldable pub keepWay : (free spare row : ℕ) → Way
-keepWay free spare row =
-    cond (leb places free) (refuse 10 [])
-    (cond (ltb row keys) (keepAt free)
-    (cond (leb keys spare) (refuse 10 [])
-    (openAt free spare)))
+-- what a push is decided by: the row of its key, the place that holds its number there, the lowest free place, and the lowest row that no key has
+abbrev pub lookedUp : Table → Arrival → LookedUp
+lookedUp t a = record { row = rowOf t (a .key); place = placeOf t (rowOf t (a .key)) (a .fragment .number); free = lowestFree t; spare = spareRow t }
+
+-- 3. 10: "when 32 places are used, or when it needs a new key and 16 are used"
+unfoldable pub keepWay : LookedUp → Way
+keepWay found =
+    cond (leb places (found .free)) (refuse 10 [])
+    (cond (ltb (found .row) keys) (keepAt (found .free))
+    (cond (leb keys (found .spare)) (refuse 10 [])
+    (openAt (found .free) (found .spare))))
 
 -- 4. a message of n fragments; room is the output's length. 13: "two or more fragments join, but into more bytes than the output has; gives the length"
 unfoldable pub messageWay : ℕ → List ℕ → (room : ℕ) → Way
@@ -79,13 +84,16 @@ messageWay n bytes room =
     (end (joined (length bytes)) bytes))
 
 -- "Joining: version or type not the same in all gives `InconsistentMetadata`; else numbers not exactly 0 to n-1, `MissingFragments`; else the highest not marked last, `MissingLastFragment`;
--- else the payloads in number order."
+-- else the payloads in number order." By the three tests, how many fragments there are, and their bytes
+abbrev pub joinBy : (unlike gap marked : Bool) → ℕ → List ℕ → (room : ℕ) → Way
+joinBy unlike gap marked n bytes room =
+    cond unlike (end inconsistent [])
+    (cond gap (end missing [])
+    (cond (not marked) (end missingLast [])
+    (messageWay n bytes room)))
+
 unfoldable pub joinWay : Held → Fragments → (room : ℕ) → Way
-joinWay new fs room =
-    cond (inconsistentWith new fs) (end inconsistent [])
-    (cond (gapped fs) (end missing [])
-    (cond (not (isLast (fs (reach fs - 1)))) (end missingLast [])
-    (messageWay (reach fs) (payloads fs (reach fs)) room)))
+joinWay new fs room = joinBy (inconsistentWith new fs) (gapped fs) (isLast (fs (reach fs - 1))) (reach fs) (payloads fs (reach fs)) room
 
 -- a new fragment is joined with those that a row holds
 abbrev pub joinedWith : Table → List ℕ → ℕ → Fragment → List ℕ → ℕ → Way
@@ -93,8 +101,7 @@ joinedWith t store row f payload room = joinWay (heldOf f payload) (andNew (held
 
 unfoldable pub way : Table → List ℕ → Arrival → List ℕ → (room : ℕ) → Way
 way t store a payload room =
-    wayBy (length store) (length payload) (placeOf t (rowOf t (a .key)) (a .fragment .number)) (a .fragment .last)
-    (keepWay (lowestFree t) (spareRow t) (rowOf t (a .key)))
+    wayBy (length store) (length payload) (lookedUp t a .place) (a .fragment .last) (keepWay (lookedUp t a))
     (joinedWith t store (rowOf t (a .key)) (a .fragment) payload room)
 
 -- a fragment as its place keeps it

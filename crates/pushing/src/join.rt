@@ -1,18 +1,23 @@
 // Step 4 of push: a fragment marked last is joined with those kept. Each number is looked up as it is needed; no ordered copy is made.
 use crate::Fragment;
+use crate::Pushed;
 use crate::look::find_beyond;
 use crate::look::find_numbered;
 use crate::look::find_unlike;
 use crate::rows::copy;
+use numbers::Refusal;
+use table::KEYS;
 use table::PLACE_SIZE;
 use table::PLACES;
 ghost use mathlib.Core.Path.{_≡_};
+ghost use mathlib.Core.List.{List};
 ghost use Prim.Native.Nat.{ℕ, _+_, _≤_, _<_};
 ghost use lib.ListN.{length, getD};
 ghost use lib.Seq.{paste};
 ghost use Rattle.table.specs.Rows.{keys, placeSize, storeSize};
-ghost use Rattle.pushing.specs.Push.{over};
-ghost use Rattle.pushing.specs.PrivateSteps.{placesIn, fragmentAt, sizeAt, markedAt, pieceBytes, piecesTo, reachFor, verdictFor};
+ghost use Rattle.pushing.specs.Joining.{inOrder};
+ghost use Rattle.pushing.specs.Push.{over, joinBy};
+ghost use Rattle.pushing.specs.PrivateSteps.{fragmentAt, sizeAt, pieceBytes, piecesTo, reachFor, gapIn, comparedIn, joinIn, Judges, Ends};
 
 // Where the new fragment stands among the places: behind `PLACES`, which stands for none.
 const NEW_PIECE: usize = PLACES + 1;
@@ -50,16 +55,6 @@ pub(crate) fn size_at(sizes: &[u16; PLACES], size: usize, piece: usize) -> usize
     size
 }
 
-// Whether a piece is marked last: none that is kept is, and the new fragment as it says.
-pub(crate) fn marked_at(last: bool, piece: usize) -> bool
-    ensures { λ r. ⌜ r ≡ markedAt last piece ⌝ }
-{
-    if piece < PLACES {
-        return false;
-    }
-    last
-}
-
 // How many numbers from 0 on are there without a gap, and how many bytes they have.
 pub(crate) struct Reach {
     pub count: usize,
@@ -90,49 +85,78 @@ pub(crate) fn reach_of<'a>(
     Reach { count: k, total }
 }
 
-// What joining comes to.
-pub(crate) enum Verdict {
-    Inconsistent,
-    Missing,
-    MissingLast,
-    // so many fragments, with so many bytes
-    Message { count: usize, total: usize },
-}
-
-pub(crate) fn judge<'a>(
-    types: &'a [u16; PLACES],
-    sizes: &'a [u16; PLACES],
+// Whether a number is there beyond one that is not.
+pub(crate) fn is_gapped<'a>(
     owners: &'a [u8; PLACES],
     numbers: &'a [u8; PLACES],
-    versions: &'a [u8; PLACES],
-    row: usize,
-    f: Fragment,
-    size: usize,
-) -> Verdict
-    requires { ⌜ (row ≤ keys) × (size ≤ placeSize) × ((i : ℕ) → getD (now sizes) i 0 ≤ placeSize) ⌝ }
-    ensures { λ r. ⌜ r ≡ verdictFor (placesIn (now (types .entry)) (now (sizes .entry)) (now (owners .entry)) (now (numbers .entry)) (now (versions .entry))) row f size ⌝ }
+    owner: u8,
+    number: u8,
+    count: usize,
+) -> bool
+    ensures { λ r. ⌜ r ≡ gapIn (now (owners .entry)) (now (numbers .entry)) owner number count ⌝ }
 {
-    let owner = row as u8 + 1;
-    if find_unlike(owners, versions, types, owner, f.version, f.message_type) < PLACES {
-        return Verdict::Inconsistent;
+    let own = number as usize;
+    if count < own {
+        return true;
     }
-    let reached = reach_of(sizes, owners, numbers, row, f.number, size);
-    let count = reached.count;
-    let number = f.number as usize;
-    if count < number {
-        return Verdict::Missing;
+    find_beyond(owners, numbers, owner, count) < PLACES
+}
+
+// What joining is decided by: the three tests of the joining rule, how many numbers from 0 on are there, and how many bytes they have.
+pub(crate) struct Seen {
+    pub unlike: bool,
+    pub gapped: bool,
+    pub marked: bool,
+    pub count: usize,
+    pub total: usize,
+}
+
+// What joining comes to: so many pieces go to the output, and the key of a row is dropped, none's at `KEYS`.
+pub(crate) struct Verdict {
+    pub answer: Pushed,
+    pub pieces: usize,
+    pub dropped: usize,
+}
+
+// An answer without joined bytes: the key is dropped.
+fn ended(row: usize, answer: Pushed) -> Verdict
+    ensures { λ r. ⌜ (r .answer ≡ answer) × (r .pieces ≡ 0) × (r .dropped ≡ row) ⌝ }
+{
+    Verdict {
+        answer,
+        pieces: 0,
+        dropped: row,
     }
-    if find_beyond(owners, numbers, owner, count) < PLACES {
-        return Verdict::Missing;
+}
+
+// The joining rule, and refusal 13 for an output with too little room.
+pub(crate) fn judge(s: Seen, row: usize, room: usize) -> Verdict
+    ensures { λ r. ⌜ ((piece : ℕ → List ℕ) → s .total ≡ length (inOrder piece (s .count)) → Judges (joinBy (s .unlike) (s .gapped) (s .marked) (s .count) (inOrder piece (s .count)) room) row (s .count) room piece r) ⌝ }
+{
+    if s.unlike {
+        return ended(row, Pushed::InconsistentMetadata);
     }
-    let highest = piece_at(owners, numbers, row, f.number, (count - 1) as u8);
-    if marked_at(f.last, highest) {
-        return Verdict::Message {
-            count,
-            total: reached.total,
+    if s.gapped {
+        return ended(row, Pushed::MissingFragments);
+    }
+    if s.marked {
+        if s.count <= 1 {
+            return ended(row, Pushed::Single(s.total));
+        }
+        if room < s.total {
+            return Verdict {
+                answer: Pushed::Refused(Refusal::OutputTooSmall(s.total)),
+                pieces: 0,
+                dropped: KEYS,
+            };
+        }
+        return Verdict {
+            answer: Pushed::Joined(s.total),
+            pieces: s.count,
+            dropped: row,
         };
     }
-    Verdict::MissingLast
+    ended(row, Pushed::MissingLastFragment)
 }
 
 // A piece's bytes go to the output; the answer is where they end.
@@ -157,27 +181,95 @@ pub(crate) fn put_piece(
     at + payload.len()
 }
 
-// The first n pieces, one behind the other.
+// Which pieces: those with numbers below count that a row holds, the new fragment's among them.
+pub(crate) struct Pieces {
+    pub row: usize,
+    pub number: u8,
+    pub count: usize,
+}
+
+// The pieces, one after the other.
 pub(crate) fn join_into<'a>(
     sizes: &'a [u16; PLACES],
     owners: &'a [u8; PLACES],
     numbers: &'a [u8; PLACES],
     store: &[u8],
-    row: usize,
-    number: u8,
     payload: &[u8],
-    n: usize,
+    p: Pieces,
     out: &mut [u8],
 )
-    requires { ⌜ (row ≤ keys) × ((i : ℕ) → getD (now sizes) i 0 ≤ placeSize) × (storeSize ≤ length (now store)) × (n ≤ 256)
-        × (length (piecesTo (now sizes) (now owners) (now numbers) (now store) row number (now payload) n) ≤ length (now out)) ⌝ }
-    ensures { λ _. ⌜ now (out .exit) ≡ over (piecesTo (now (sizes .entry)) (now (owners .entry)) (now (numbers .entry)) (now (store .entry)) row number (now (payload .entry)) n) (now (out .entry)) ⌝ }
+    requires { ⌜ (p .row ≤ keys) × ((i : ℕ) → getD (now sizes) i 0 ≤ placeSize) × (storeSize ≤ length (now store)) × (p .count ≤ 256)
+        × (length (piecesTo (now sizes) (now owners) (now numbers) (now store) (p .row) (p .number) (now payload) (p .count)) ≤ length (now out)) ⌝ }
+    ensures { λ _. ⌜ now (out .exit) ≡ over (piecesTo (now (sizes .entry)) (now (owners .entry)) (now (numbers .entry)) (now (store .entry)) (p .row) (p .number) (now (payload .entry)) (p .count)) (now (out .entry)) ⌝ }
 {
+    let n = p.count;
     let mut at: usize = 0;
     let mut k: usize = 0;
     while k < n {
-        let piece = piece_at(owners, numbers, row, number, k as u8);
+        let piece = piece_at(owners, numbers, p.row, p.number, k as u8);
         at = put_piece(sizes, store, payload, piece, out, at);
         k += 1;
     }
+}
+
+// A last fragment that was compared with those that its row holds.
+pub(crate) struct Compared {
+    pub row: usize,
+    pub number: u8,
+    // whether one of them has another version or type
+    pub unlike: bool,
+}
+
+pub(crate) fn compare<'a>(
+    owners: &'a [u8; PLACES],
+    versions: &'a [u8; PLACES],
+    types: &'a [u16; PLACES],
+    row: usize,
+    f: Fragment,
+) -> Compared
+    requires { ⌜ row ≤ keys ⌝ }
+    ensures { λ r. ⌜ r ≡ comparedIn (now (owners .entry)) (now (versions .entry)) (now (types .entry)) row f ⌝ }
+{
+    let owner = row as u8 + 1;
+    let other = find_unlike(owners, versions, types, owner, f.version, f.message_type);
+    Compared {
+        row,
+        number: f.number,
+        unlike: other < PLACES,
+    }
+}
+
+// Step 4 of push: a fragment marked last ends its key's message, unless the output is too small.
+pub(crate) fn finish<'a>(
+    sizes: &'a [u16; PLACES],
+    owners: &'a [u8; PLACES],
+    numbers: &'a [u8; PLACES],
+    store: &[u8],
+    payload: &[u8],
+    last: Compared,
+    out: &mut [u8],
+) -> Verdict
+    requires { ⌜ (last .row ≤ keys) × ((i : ℕ) → getD (now sizes) i 0 ≤ placeSize) × (storeSize ≤ length (now store)) × (length (now payload) ≤ placeSize) ⌝ }
+    ensures { λ r. ⌜ Ends (joinIn (now (sizes .entry)) (now (owners .entry)) (now (numbers .entry)) (now (store .entry)) (now (payload .entry)) last (length (now (out .entry)))) (last .row) r (now (out .entry)) (now (out .exit)) ⌝ }
+{
+    let row = last.row;
+    let number = last.number;
+    let reached = reach_of(sizes, owners, numbers, row, number, payload.len());
+    let count = reached.count;
+    let gapped = is_gapped(owners, numbers, row as u8 + 1, number, count);
+    let seen = Seen {
+        unlike: last.unlike,
+        gapped,
+        marked: count == number as usize + 1,
+        count,
+        total: reached.total,
+    };
+    let verdict = judge(seen, row, out.len());
+    let pieces = Pieces {
+        row,
+        number,
+        count: verdict.pieces,
+    };
+    join_into(sizes, owners, numbers, store, payload, pieces, out);
+    verdict
 }

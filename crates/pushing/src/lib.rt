@@ -5,12 +5,16 @@ mod join;
 mod look;
 mod rows;
 
-use choose::Change;
+use choose::Step;
 use choose::choose;
-use look::find_key;
+use choose::under_row;
+use join::compare;
+use join::finish;
+use look::look_up;
 use numbers::Refusal;
 use rows::copy;
 use rows::with_fragment;
+use table::KEYS;
 use table::PLACE_SIZE;
 use table::Table;
 use table::without_key;
@@ -65,34 +69,45 @@ pub fn push_step(
     requires { ⌜ Made t ⌝ }
     ensures { λ r. ⌜ Goes (way t (now (store .entry)) a (now (payload .entry)) (length (now (out .entry)))) t (now (store .entry)) (now (out .entry)) a (now (payload .entry)) (r .answer) (r .table) (now (store .exit)) (now (out .exit)) ⌝ }
 {
-    let row = find_key(&t.used, &t.row_keys, a.key);
-    let chosen = choose(
+    let found = look_up(
         &t.used,
-        &t.message_types,
-        &t.sizes,
+        &t.row_keys,
         &t.owners,
         &t.numbers,
-        &t.versions,
-        store,
-        out,
-        row,
-        a.fragment,
-        payload,
+        a.key,
+        a.fragment.number,
     );
-    let change = chosen.change;
-    let answer = chosen.answer;
-    match change {
-        Change::Stay => AfterPush { table: t, answer },
-        Change::PutAt(place, under, opens) => {
-            copy(payload, 0, payload.len(), store, place * PLACE_SIZE);
-            let kept = with_fragment(t, place, under, opens, a, payload.len());
+    let step = choose(found, store.len(), payload.len(), a.fragment.last);
+    match step {
+        Step::Refuse(refusal) => AfterPush {
+            table: t,
+            answer: Pushed::Refused(refusal),
+        },
+        Step::Duplicate => AfterPush {
+            table: t,
+            answer: Pushed::DuplicatedFragment,
+        },
+        Step::Keep => {
+            let size = payload.len();
+            copy(payload, 0, size, store, found.free * PLACE_SIZE);
+            let under = under_row(found);
+            let table = with_fragment(t, found.free, under, KEYS <= found.row, a, size);
             AfterPush {
-                table: kept,
-                answer,
+                table,
+                answer: Pushed::WaitingForMoreFragments,
             }
         }
-        Change::DropKey => {
-            let table = without_key(t, row);
+        Step::Join => {
+            let last = compare(
+                &t.owners,
+                &t.versions,
+                &t.message_types,
+                found.row,
+                a.fragment,
+            );
+            let verdict = finish(&t.sizes, &t.owners, &t.numbers, store, payload, last, out);
+            let answer = verdict.answer;
+            let table = without_key(t, verdict.dropped);
             AfterPush { table, answer }
         }
     }

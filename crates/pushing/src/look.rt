@@ -5,8 +5,8 @@ ghost use mathlib.Core.Path.{_≡_};
 ghost use mathlib.Core.Bool.{not, _&&_};
 ghost use Prim.Native.Nat.{_≤_};
 ghost use lib.Dec.{eqb, ltb};
-ghost use Rattle.table.specs.Rows.{keys, places};
-ghost use Rattle.pushing.specs.PrivateSteps.{rowIn, spareRowIn, lowestFreeIn, numberedIn, unlikeIn, beyondIn};
+ghost use Rattle.table.specs.Rows.{keys, places, ownerOf};
+ghost use Rattle.pushing.specs.PrivateSteps.{rowIn, spareRowIn, lowestFreeIn, numberedIn, unlikeIn, beyondIn, lookedIn};
 
 pub(crate) fn is_key(used: bool, own: u64, key: u64) -> bool
     ensures { λ r. ⌜ r ≡ (used && eqb own key) ⌝ }
@@ -16,7 +16,7 @@ pub(crate) fn is_key(used: bool, own: u64, key: u64) -> bool
 
 // The row of a key, `KEYS` where there is none.
 pub(crate) fn find_key<'a>(used: &'a [bool; KEYS], row_keys: &'a [u64; KEYS], key: u64) -> usize
-    ensures { λ r. ⌜ (r ≡ rowIn (now (used .entry)) (now (row_keys .entry)) key) × (r ≤ keys) ⌝ }
+    ensures { λ r. ⌜ (r ≡ rowIn (now (used .entry)) (now («row_keys» .entry)) key) × (r ≤ keys) ⌝ }
 {
     let mut i: usize = 0;
     while i < KEYS {
@@ -156,4 +156,50 @@ pub(crate) fn find_beyond<'a>(
         i += 1;
     }
     i
+}
+
+// The place in which a row holds a number, `PLACES` where it holds none; a new key's row, `KEYS`, holds nothing.
+fn held_at<'a>(owners: &'a [u8; PLACES], numbers: &'a [u8; PLACES], row: usize, number: u8) -> usize
+    requires { ⌜ (keys ≤ row → places ≤ numberedIn (now owners) (now numbers) (ownerOf row) number) ⌝ }
+    ensures { λ r. ⌜ r ≡ numberedIn (now (owners .entry)) (now (numbers .entry)) (ownerOf row) number ⌝ }
+{
+    if row < KEYS {
+        return find_numbered(owners, numbers, row as u8 + 1, number);
+    }
+    PLACES
+}
+
+// What a push is decided by, one number for each question.
+pub(crate) struct LookedUp {
+    // the row of its key
+    pub row: usize,
+    // the place that holds its number under this key
+    pub place: usize,
+    // the lowest free place
+    pub free: usize,
+    // the lowest row that no key has
+    pub spare: usize,
+}
+
+pub(crate) fn look_up<'a>(
+    used: &'a [bool; KEYS],
+    row_keys: &'a [u64; KEYS],
+    owners: &'a [u8; PLACES],
+    numbers: &'a [u8; PLACES],
+    key: u64,
+    number: u8,
+) -> LookedUp
+    requires { ⌜ (keys ≤ rowIn (now used) (now «row_keys») key → places ≤ numberedIn (now owners) (now numbers) (ownerOf (rowIn (now used) (now «row_keys») key)) number) ⌝ }
+    ensures { λ r. ⌜ r ≡ lookedIn (now (used .entry)) (now («row_keys» .entry)) (now (owners .entry)) (now (numbers .entry)) key number ⌝ }
+{
+    let row = find_key(used, row_keys, key);
+    let place = held_at(owners, numbers, row, number);
+    let free = find_free(owners);
+    let spare = find_spare(used);
+    LookedUp {
+        row,
+        place,
+        free,
+        spare,
+    }
 }

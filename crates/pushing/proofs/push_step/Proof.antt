@@ -1,29 +1,39 @@
--- The change that `choose` names is made; it is that of the push's way.
-use mathlib.Core.Path.{_≡_, _∙_}
-use mathlib.Core.List.{List}
-use Prim.Native.Nat.{ℕ, _<_}
-use lib.ListN.{length}
+-- What was looked up is what the definitions look up, and each step does what its way does.
+use mathlib.Core.Path.{_≡_, refl, sym, ap, _∙_, subst}
+use mathlib.Core.List.{List, []}
+use mathlib.Core.Bool.{true}
+use Prim.Native.Nat.{ℕ, _*_, _≤_, _<_}
 use native.Mathlib.Omega.{arith}
+use lib.Dec.{leb}
+use lib.ListN.{length}
+use lib.Seq.{paste}
 use denote.Ref.{now}
 use Rattle.table.specs.declared.Table.{Table}
 use Rattle.pushing.specs.declared.Arrival.{Arrival}
-use Rattle.pushing.specs.declared.choose.Change.{Change}
-use Rattle.pushing.specs.Push.{Way, way, tableBy, storeBy, Goes}
-use Rattle.pushing.proofs.Byte.{number-byte}
+use Rattle.pushing.specs.declared.Pushed.the-variants.{WaitingForMoreFragments}
+use Rattle.pushing.specs.declared.join.Verdict.{Verdict}
+use Rattle.pushing.specs.declared.join.Compared.{Compared}
+use Rattle.pushing.specs.declared.look.LookedUp.{LookedUp}
+use Rattle.pushing.specs.declared.choose.Step.{Step}
+use Rattle.pushing.specs.declared.choose.Step.the-variants.{Keep, Join}
+use Rattle.table.specs.Rows.{placeOf, isRowOf, rowOf, withPlace, droppedKey}
+use Rattle.pushing.specs.Push.{Way, end, missing, lookedUp, keepWay, joinedWith, wayBy, way, placeFor, Goes}
+use Rattle.pushing.specs.PrivateSteps.{stepWay, underRow, opened, comparedIn, joinIn, Ends}
 use Rattle.table.proofs.Sound.{Sound, no-place}
+use Rattle.searching.proofs.Search.{lowest-le}
+use Rattle.pushing.proofs.Byte.{number-byte}
 use Rattle.pushing.proofs.Sound.{sound}
-use Rattle.pushing.proofs.Changes.{Does, way-is, done, goes-so}
+use Rattle.pushing.proofs.Ways.{reached}
+use Rattle.pushing.proofs.Pieces.{judged}
+use Rattle.pushing.proofs.Steps.{keep-room, keep-goes, join-goes}
 use borrow.Author.Needs.{needs}
 use Rattle.pushing.proofs.push_step.Statement.{statement}
 use Rattle.pushing.proofs.push_step.Tie as tie
 
--- once the choice is made
+-- once the step is chosen
 module _ (c : tie.After-choose) where
   abbrev start : tie.Start
-  start = c .before .before .before .before .before .before .before .before .before .before .before .before .before .before .before .before .before
-
-  abbrev searched : tie.After-find-key
-  searched = c .before .before .before .before .before .before .before .before .before .before
+  start = c .before .before .before .before .before .before .before .before .before .before
 
   abbrev t : Table
   t = start .args .t1
@@ -40,79 +50,128 @@ module _ (c : tie.After-choose) where
   abbrev payload : List ℕ
   payload = now (start .args .payload)
 
-  abbrev row : ℕ
-  row = searched .find-key .result
+  abbrev found : LookedUp
+  found = c .before .look-up .result
 
   abbrev its : Way
   its = way t stored arrival payload (length lent)
 
-  s : Sound t
-  s = sound (start .pre)
+  abbrev joins : Way
+  joins = joinedWith t stored (rowOf t (arrival .key)) (arrival .fragment) payload (length lent)
 
-  byte : arrival .fragment .number < 256
-  byte = number-byte arrival _ (start .good .1 .1 .1 .0)
+  found-is : found ≡ lookedUp t arrival
+  found-is = c .before .look-up .ensures
 
-  did : (change : Change) → c .choose .result .change ≡ change → Does t s stored arrival payload (length lent) row (searched .find-key .ensures .0) its change
-  did change told = done t s stored arrival payload (length lent) row (searched .find-key .ensures .0) byte (c .choose .result .change) change (c .choose .ensures .changes) told
+  way-is : (step : Step) → c .choose .result ≡ step → its ≡ stepWay (lookedUp t arrival) step joins
+  unfolding way
+  way-is step told =
+      sym (ap (λ (l : LookedUp). wayBy (length stored) (length payload) (l .place) (arrival .fragment .last) (keepWay l) joins) found-is)
+      ∙ sym (c .choose .ensures joins)
+      ∙ ap (λ (s : Step). stepWay found s joins) told
+      ∙ ap (λ (l : LookedUp). stepWay l step joins) found-is
 
-  goes : (t′ : Table) (stored′ : List ℕ) → t′ ≡ tableBy its t arrival (length payload) → stored′ ≡ storeBy its stored payload
-      → Goes its t stored lent arrival payload (c .choose .result .answer) t′ stored′ (c .choose .last .1 .1 .1 .1 .1 .1 .1 .0)
-  goes t′ stored′ keeps stores =
-      goes-so _ its (way-is t s stored arrival payload (length lent) row (searched .find-key .ensures .0) byte) t stored lent arrival payload row (c .choose .result)
-      (c .choose .last .1 .1 .1 .1 .1 .1 .1 .0) (c .choose .ensures) t′ stored′ keeps stores
+  room : c .choose .result ≡ Keep → (47744 ≤ length stored) × (length payload ≤ 1492) × (found .free < 32) × (underRow found < 16)
+  room told =
+      subst (λ (l : LookedUp). (47744 ≤ length stored) × (length payload ≤ 1492) × (l .free < 32) × (underRow l < 16)) (sym found-is)
+      (keep-room t stored arrival payload (length lent) joins (way-is Keep told))
 
-choose-requires : tie.Need-choose-requires
-choose-requires c κs =
-    let s = sound (c .before .before .before .before .before .before .before .before .before .before .before .before .before .before .before .before .pre) in
-    (c .before .before .before .before .before .before .before .before .before .find-key .ensures .1, s .small, λ h. no-place (c .before .before .before .before .before .before .before .before .before .before .before .before .before .before .before .before .args .t1) s (c .before .before .before .before .before .before .before .before .before .find-key .result) (c .before .before .before .before .before .before .before .before .before .before .before .before .before .before .before .before .args .a .fragment .number) h)
+  kept : c .choose .result ≡ Keep → (under : ℕ) → under ≡ underRow found → (t′ : Table) → t′ ≡ withPlace (opened (leb 16 (found .row)) t under arrival) (found .free) (placeFor under (arrival .fragment) (length payload))
+      → (stored′ : List ℕ) → stored′ ≡ paste stored (found .free * 1492) payload (length payload) → Goes its t stored lent arrival payload WaitingForMoreFragments t′ stored′ lent
+  kept told under is t′ keeps stored′ stores =
+      let goes = keep-goes t stored arrival payload (length lent) joins (way-is Keep told) lent in
+      let put : LookedUp → ℕ → Table = λ l u. withPlace (opened (leb 16 (l .row)) t u arrival) (l .free) (placeFor u (arrival .fragment) (length payload)) in
+      record {
+        answers = goes .answers;
+        keeps = keeps ∙ ap (put found) is ∙ ap (λ (l : LookedUp). put l (underRow l)) found-is ∙ goes .keeps;
+        stores = stores ∙ ap (λ (l : LookedUp). paste stored (l .free * 1492) payload (length payload)) found-is ∙ goes .stores;
+        puts = goes .puts;
+      }
+
+  row-is : found .row ≡ rowOf t (arrival .key)
+  row-is = ap (λ (l : LookedUp). l .row) found-is
+
+  row-in : found .row ≤ 16
+  row-in = omega (arith, row-is, lowest-le (isRowOf t (arrival .key)) 16)
+
+  at-end : c .choose .result ≡ Join → (47744 ≤ length stored) × (length payload ≤ 1492) × (32 ≤ found .place) × (arrival .fragment .last ≡ true)
+  at-end told = reached (length stored) (length payload) found (arrival .fragment .last) (sym (c .choose .ensures (end missing [])) ∙ ap (λ (s : Step). stepWay found s (end missing [])) told)
+
+  abbrev compared : ℕ → Compared
+  compared row = comparedIn (t .owners) (t .versions) (t .«message_types») row (arrival .fragment)
+
+  joined : c .choose .result ≡ Join → (last : Compared) → last ≡ compared (found .row) → (r : Verdict) (lent′ : List ℕ) → Ends (joinIn (t .sizes) (t .owners) (t .numbers) stored payload last (length lent)) (last .row) r lent lent′
+      → (t′ : Table) → t′ ≡ droppedKey t (r .dropped) → Goes its t stored lent arrival payload (r .answer) t′ stored lent′
+  joined told last is r lent′ ends t′ dropped =
+      let row = rowOf t (arrival .key) in
+      let held : 32 ≤ placeOf t row (arrival .fragment .number) = subst (λ (l : LookedUp). 32 ≤ l .place) found-is (at-end told .2) in
+      let byte = number-byte arrival _ (start .good .1 .1 .1 .0) in
+      rw dropped
+      (join-goes t stored arrival payload (length lent) (way-is Join told) lent lent′ r
+      (subst (λ (w : Way). Ends w row r lent lent′) (judged t stored row (arrival .fragment) payload (sound (start .pre)) byte held (at-end told .3) (length lent))
+      (subst (λ (l : Compared). Ends (joinIn (t .sizes) (t .owners) (t .numbers) stored payload l (length lent)) (l .row) r lent lent′) (is ∙ ap compared row-is) ends)))
+
+look-up-requires : tie.Need-look-up-requires
+look-up-requires c κs h =
+    let start = c .before .before .before .before .before .before .before .before in
+    no-place (start .args .t1) (sound (start .pre)) (rowOf (start .args .t1) (start .args .a .key)) (start .args .a .fragment .number) h
 
 mul-copy : tie.Need-mul-copy
-mul-copy c = omega (arith, did (c .before .before .before .before .before .before) _ (c .before .before .change .given .1) .0)
+mul-copy c = omega (arith, room (c .before .before .before .before) (c .before .before .enum-told2 .given .1) .2)
 
 copy-requires : tie.Need-copy-requires
 copy-requires c κs =
-    let does = did (c .before .before .before .before .before .before) _ (c .before .before .change .given .1) in
-    (omega arith, omega (arith, does .0, does .2, does .3))
+    let has = room (c .before .before .before .before) (c .before .before .enum-told2 .given .1) in
+    (omega arith, omega (arith, has .0, has .1, has .2))
 
 with-fragment-requires : tie.Need-with-fragment-requires
 with-fragment-requires c κs =
-    let does = did (c .before .before .before .before .before .before .before .before .before) _ (c .before .before .before .before .before .change .given .1) in
-    (does .0, does .1, does .3)
+    let has = room (c .before .before .before .before .before .before .before .before .before) (c .before .before .before .before .before .before .before .enum-told2 .given .1) in
+    (has .2, rw (c .before .under-row .ensures) (has .3), has .1)
+
+compare-requires : tie.Need-compare-requires
+compare-requires c κs = row-in (c .before .before .before .before .before .before)
+
+finish-requires : tie.Need-finish-requires
+finish-requires c κs =
+    let chosen = c .before .before .before .before .before .before .before .before .before .before .before .before .before in
+    let long = at-end chosen (c .before .before .before .before .before .before .before .before .before .before .before .enum-told3 .given .1) in
+    (omega (arith, row-in chosen, ap (λ (l : Compared). l .row) (c .before .before .before .before .before .before .compare .ensures)), sound (start chosen .pre) .small, long .0, long .1)
 
 returns : tie.Need-returns
-returns c =
-    let does = did (c .before .before .before .before) _ (c .enum-told .given .1) in
-    goes (c .before .before .before .before) (c .before .before .before .before .before .before .before .before .before .before .before .before .before .before .before .before .before .before .before .before .before .args .t1) (now (c .before .before .before .before .before .before .before .before .before .before .before .before .before .before .before .before .before .before .before .before .before .args .store)) (does .0) (does .1)
+returns c = rw (way-is (c .before .before .before) _ (c .before .step .given .1)) (record { answers = refl; keeps = refl; stores = refl; puts = refl })
 
 returns-2 : tie.Need-returns-2
-returns-2 c =
-    let does = did (c .before .before .before .before .before .before .before .before .before .before) _ (c .before .before .before .before .before .before .change .given .1) in
-    goes (c .before .before .before .before .before .before .before .before .before .before) (c .with-fragment .result) (c .before .before .before .copy .last .1 .1 .1 .0) (c .with-fragment .ensures ∙ does .4) (c .before .before .before .copy .ensures ∙ does .5)
+returns-2 c = rw (way-is (c .before .before) _ (c .enum-told .given .1)) (record { answers = refl; keeps = refl; stores = refl; puts = refl })
 
 returns-3 : tie.Need-returns-3
-returns-3 c =
-    let does = did (c .before .before .before .before .before) _ (c .before .enum-told2 .given .1) in
-    goes (c .before .before .before .before .before) (c .without-key .result) (now (c .before .before .before .before .before .before .before .before .before .before .before .before .before .before .before .before .before .before .before .before .before .before .args .store)) (c .without-key .ensures ∙ does .0) (does .1)
+returns-3 c = kept (c .before .before .before .before .before .before .before .before .before .before) (c .before .before .before .before .before .before .before .before .enum-told2 .given .1) (c .before .before .under-row .result) (c .before .before .under-row .ensures) _ (c .with-fragment .ensures) _ (c .before .before .before .before .before .copy .ensures)
+
+returns-4 : tie.Need-returns-4
+returns-4 c =
+    joined (c .before .before .before .before .before .before .before .before .before .before .before .before .before .before .before .before .before) (c .before .before .before .before .before .before .before .before .before .before .before .before .before .before .before .enum-told3 .given .1) (c .before .before .before .before .before .before .before .before .before .before .compare .result) (c .before .before .before .before .before .before .before .before .before .before .compare .ensures)
+    (c .before .before .before .finish .result) _ (c .before .before .before .finish .ensures) _ (c .without-key .ensures)
 
 pub push-step-spec : {M : Type 1} → statement M
 push-step-spec =
     tie.close
     (tie.spec
+    look-up-requires
     (λ c κs. search needs)
-    choose-requires
+    (λ c. search needs)
     (λ c. search needs)
     (λ c. search needs)
     mul-copy
     copy-requires
+    (λ c κs. search needs)
     with-fragment-requires
     (λ c. search needs)
+    compare-requires
+    finish-requires
     (λ c κs. search needs)
-    (λ c. search needs)
-    (λ c. search needs)
     returns
-    (λ c. search needs)
-    (λ c. search needs)
     returns-2
     (λ c. search needs)
+    returns-3
     (λ c. search needs)
-    returns-3)
+    (λ c. search needs)
+    returns-4)

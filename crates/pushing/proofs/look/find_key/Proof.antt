@@ -23,23 +23,23 @@ abbrev μ-loop : tie.MeasureT-loop
 μ-loop used row-keys key i₀ i = 16 - i
 
 loop-holds : tie.Need-loop-holds Inv-loop μ-loop
-loop-holds c = (omega arith, before-all (test (now (c .args .used)) (now (c .args .«row_keys»)) (c .args .key)))
+loop-holds c = (omega arith, before-all (test (now (c .args .used)) (now (c .args .row-keys)) (c .args .key)))
 
 returns : tie.Need-returns Inv-loop μ-loop
 returns c =
     let b = c .before .before .before .before .before in
-    (found (test (now (b .before .args .used)) (now (b .before .args .«row_keys»)) (b .before .args .key)) 16 (b .loop .i) (b .loop .inv .1) (search needs) (sym (c .before .is-key .ensures) ∙ c .if1 .taken), search needs)
+    (found (test (now (b .before .args .used)) (now (b .before .args .row-keys)) (b .before .args .key)) 16 (b .loop .i) (b .loop .inv .1) (search needs) (sym (c .before .is-key .ensures) ∙ c .if1 .taken), search needs)
 
 loop-again : tie.Need-loop-again Inv-loop μ-loop
 loop-again c =
     let b = c .before .before .before .before .before in
-    (search needs, passed (test (now (b .before .args .used)) (now (b .before .args .«row_keys»)) (b .before .args .key)) (b .loop .i) (b .loop .inv .1) (sym (c .before .is-key .ensures) ∙ c .if1 .left))
+    (search needs, passed (test (now (b .before .args .used)) (now (b .before .args .row-keys)) (b .before .args .key)) (b .loop .i) (b .loop .inv .1) (sym (c .before .is-key .ensures) ∙ c .if1 .left))
 
 returns-2 : tie.Need-returns-2 Inv-loop μ-loop
 returns-2 c =
     let b = c .before in
     let end : b .loop .i ≡ 16 = omega arith in
-    (b .loop .inv .1 ∙ ap (lowest (test (now (b .before .args .used)) (now (b .before .args .«row_keys»)) (b .before .args .key))) end, search needs)
+    (b .loop .inv .1 ∙ ap (lowest (test (now (b .before .args .used)) (now (b .before .args .row-keys)) (b .before .args .key))) end, search needs)
 
 pub find-key-spec : {M : Type 1} → statement M
 find-key-spec = tie.close (tie.spec Inv-loop μ-loop loop-holds (λ c. search needs) (λ c. search needs) (λ c. search needs) (λ c κs. search needs) returns (λ c. search needs) (λ c. search needs) loop-again returns-2)

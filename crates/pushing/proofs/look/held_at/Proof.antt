@@ -4,8 +4,8 @@ use denote.Ref.{now}
 use Rattle.table.specs.Rows.{ownerOf}
 use Rattle.pushing.proofs.Pieces.{numbered-le}
 use borrow.Author.Needs.{needs}
-use Rattle.pushing.proofs.choose.held_at.Statement.{statement}
-use Rattle.pushing.proofs.choose.held_at.Tie as tie
+use Rattle.pushing.proofs.look.held_at.Statement.{statement}
+use Rattle.pushing.proofs.look.held_at.Tie as tie
 
 returns : tie.Need-returns
 returns c = c .find-numbered .ensures .0

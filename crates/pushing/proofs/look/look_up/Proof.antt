@@ -1,0 +1,30 @@
+-- Each number is that of its look-up; a key that is not there holds nothing.
+use mathlib.Core.Path.{_≡_, sym, ap, _∙_}
+use Prim.Native.Nat.{ℕ}
+use native.Mathlib.Omega.{arith}
+use denote.Ref.{now}
+use Rattle.table.specs.Rows.{ownerOf}
+use Rattle.pushing.specs.PrivateSteps.{rowIn, numberedIn}
+use borrow.Author.Needs.{needs}
+use Rattle.pushing.proofs.look.look_up.Statement.{statement}
+use Rattle.pushing.proofs.look.look_up.Tie as tie
+
+held-at-requires : tie.Need-held-at-requires
+held-at-requires c κs h =
+    let a = c .before .args in
+    let row-is = c .find-key .ensures .0 in
+    rw row-is (c .before .pre (rw (← row-is) h))
+
+returns : tie.Need-returns
+returns c =
+    let a = c .before .before .before .before .args in
+    let row-is = c .before .before .before .find-key .ensures .0 in
+    λ i. record {
+      row = row-is i;
+      place = (c .before .before .held-at .ensures ∙ ap (λ (r : ℕ). numberedIn (now (a .owners)) (now (a .numbers)) (ownerOf r) (a .number)) row-is) i;
+      free = c .before .find-free .ensures .0 i;
+      spare = c .find-spare .ensures .0 i;
+    }
+
+pub look-up-spec : {M : Type 1} → statement M
+look-up-spec = tie.close (tie.spec (λ c κs. search needs) held-at-requires (λ c κs. search needs) (λ c κs. search needs) returns)
