@@ -1,6 +1,6 @@
 // The commands of the kinds that read: r, e, a, u and U.
-use answer_lines::Tally;
 use answer_lines::Answers;
+use answer_lines::Tally;
 use kinds::KindRead;
 use layouts::Located;
 use layouts::Path;
@@ -121,7 +121,13 @@ pub(crate) fn entry(code: u8, numbers: &[u8], data: &[u8], text: &mut Answers, u
 }
 
 // u: the text of a value with this number.
-pub(crate) fn text_of(code: u8, number: usize, data: &[u8], text: &mut Answers, used: usize) -> usize
+pub(crate) fn text_of(
+    code: u8,
+    number: usize,
+    data: &[u8],
+    text: &mut Answers,
+    used: usize,
+) -> usize
     ensures { λ r. ⌜ r ≤ 65536 ⌝ }
 {
     let located = kinds::locate_text(code, number, data);

@@ -67,7 +67,6 @@ firmness : Firmness
 firmness = record {
   list-at = λ row s at. by-telling listingOf listing-told _;
   read-list = λ row n s at. by-telling endingOf ending-told _;
-  read-entry = λ row s at. by-telling endingOf ending-told _;
   is-list = λ code. by-equation _;
   read-value = λ code s. by-telling readingOf reading-told _;
   locate = λ code path s. by-telling locatedOf located-told _;

@@ -32,6 +32,14 @@ head-of row = go (row .levels) where
   go zero = refl
   go (suc k) = refl
 
+-- one entry is a list of one
+pub one-entry : (f : ℕ → Answer ℕ) (p : ℕ) → entriesEnd f 1 p ≡ f p
+unfolding entriesEnd
+one-entry f p = go (f p) where
+  go : (x : Answer ℕ) → andThen x (λ q. gives q) ≡ x
+  go (gives q) = refl
+  go (refuses n vs) = refl
+
 module _ (row : LayoutRow) (s : List ℕ) (p : ℕ) where
   -- the list of an entry stands after its head
   pub list-none : row .levels ≡ 0 → listOf (rowLayout row) s p ≡ refuses 6 []

@@ -18,7 +18,6 @@ use Rattle.layouts.specs.Access.{numbersOf, Span, spanOf, nthOf, partsIn
 pub record Firmness : Type 0 where
   pub list-at : (row : LayoutRow) (s : List ℕ) (at : ℕ) → Firm (λ r. listingOf r ≡ listOf (rowLayout row) s at)
   pub read-list : (row : LayoutRow) (n : ℕ) (s : List ℕ) (at : ℕ) → Firm (λ r. endingOf r ≡ entriesEnd (endOf (rowLayout row) s) n at)
-  pub read-entry : (row : LayoutRow) (s : List ℕ) (at : ℕ) → Firm (λ r. endingOf r ≡ endOf (rowLayout row) s at)
   pub is-list : (code : ℕ) → Firm (λ r. r ≡ isList code)
   pub read-value : (code : ℕ) (s : List ℕ) → Firm (λ r. readingOf r ≡ readValue code s)
   pub locate : (code : ℕ) (path : Path) (s : List ℕ) → Firm (λ r. locatedOf r ≡ locateEntry code (numbersOf path) s)

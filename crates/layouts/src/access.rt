@@ -8,7 +8,6 @@ use crate::Path;
 use crate::Reading;
 use crate::list_at;
 use crate::lists::read_row;
-use crate::read_entry;
 use crate::read_list;
 use crate::rows::row_below;
 use numbers::Refusal;
@@ -75,7 +74,7 @@ fn span_of(row: LayoutRow, path: Path, s: &[u8]) -> Located
         return Located::Refused(Refusal::NoEntry);
     }
     match find_entry(row, path, s) {
-        Level::Of { row: found, at } => match read_entry(found, s, at) {
+        Level::Of { row: found, at } => match read_list(found, 1, s, at) {
             Ending::At(end) => Located::Entry { start: at, end },
             Ending::Refused(r) => Located::Refused(r),
         },

@@ -107,7 +107,7 @@ pub fn read_list(row: LayoutRow, n: usize, s: &[u8], at: usize) -> Ending
 }
 
 // Where the entry of this row that starts at `at` ends: in its list, if it has one.
-pub fn read_entry(row: LayoutRow, s: &[u8], at: usize) -> Ending
+fn read_entry(row: LayoutRow, s: &[u8], at: usize) -> Ending
     ensures { λ r. ⌜ endingOf r ≡ endOf (rowLayout row) (now (s .entry)) at ⌝ }
 {
     if row.levels == 0 {

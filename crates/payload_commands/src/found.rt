@@ -1,6 +1,6 @@
 // The commands of finding: d and D.
-use answer_lines::Tally;
 use answer_lines::Answers;
+use answer_lines::Tally;
 use finding::Found;
 use finding::Searched;
 use numbers::Refusal;

@@ -31,7 +31,13 @@ fn list_of(records: &[u8]) -> [Tlv; 40] {
 }
 
 // l: the first readable record of the kind.
-pub(crate) fn first(records: &[u8], payload: &[u8], code: u8, text: &mut Answers, used: usize) -> usize
+pub(crate) fn first(
+    records: &[u8],
+    payload: &[u8],
+    code: u8,
+    text: &mut Answers,
+    used: usize,
+) -> usize
     ensures { λ r. ⌜ r ≤ 65536 ⌝ }
 {
     let list = list_of(records);

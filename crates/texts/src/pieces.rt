@@ -2,7 +2,6 @@
 use layouts::Ending;
 use layouts::LayoutRow;
 use layouts::Located;
-use layouts::read_entry;
 use layouts::read_list;
 use numbers::Refusal;
 use numbers::wide;
@@ -92,7 +91,7 @@ pub(crate) fn all_valid(row: LayoutRow, n: usize, s: &[u8], at: usize) -> bool
     let mut p = at;
     let mut i = 0;
     while i < n {
-        match read_entry(row, s, p) {
+        match read_list(row, 1, s, p) {
             Ending::At(q) => {
                 let text = text_span(row, s, p, q);
                 let start = text.start;
@@ -119,7 +118,7 @@ pub(crate) fn nth(row: LayoutRow, n: usize, i: usize, s: &[u8], at: usize) -> Lo
         return Located::Refused(Refusal::NoEntry);
     }
     match read_list(row, i, s, at) {
-        Ending::At(start) => match read_entry(row, s, start) {
+        Ending::At(start) => match read_list(row, 1, s, start) {
             Ending::At(end) => Located::Entry { start, end },
             Ending::Refused(r) => Located::Refused(r),
         },

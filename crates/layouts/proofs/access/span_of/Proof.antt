@@ -1,4 +1,4 @@
--- What `find_entry` and then `read_entry` found are the two steps of `spanOf`.
+-- What `find_entry` and then `read_list` found are the two steps of `spanOf`.
 use borrow.Author.Needs.{needs}
 use Rattle.layouts.proofs.access.span_of.Statement.{statement}
 use Rattle.layouts.proofs.access.span_of.Tie as tie
@@ -7,6 +7,7 @@ use Rattle.numbers.specs.Numbers.{gives, andThen, mapped}
 use Rattle.layouts.specs.Reading.{endOf}
 use Rattle.layouts.specs.Access.{numbersOf, findEntry, spanOf}
 use Rattle.layouts.specs.Rows.{rowLayout}
+use Rattle.layouts.proofs.Laws.{one-entry}
 use Rattle.layouts.proofs.Finding.{span-none, span-some}
 
 returns : tie.Need-returns
@@ -34,13 +35,13 @@ returns-2 : tie.Need-returns-2
 returns-2 c =
     let d = c .before .before .before in
     let k = d .before .before in
-    sym (some (k .before .before) ∙ rw (has k, sym (rw (c .before .end .given .1) at (d .read-entry .ensures))))
+    sym (some (k .before .before) ∙ rw (has k, sym (rw (c .before .end .given .1) at (d .read-list .ensures ∙ one-entry _ _))))
 
 returns-3 : tie.Need-returns-3
 returns-3 c =
     let d = c .before .before .before in
     let k = d .before .before in
-    sym (some (k .before .before) ∙ rw (has k, sym (rw (c .before .r .given .1) at (d .read-entry .ensures))))
+    sym (some (k .before .before) ∙ rw (has k, sym (rw (c .before .r .given .1) at (d .read-list .ensures ∙ one-entry _ _))))
 
 returns-4 : tie.Need-returns-4
 returns-4 c =

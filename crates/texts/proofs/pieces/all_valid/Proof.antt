@@ -10,6 +10,7 @@ use Rattle.numbers.specs.Numbers.{gives}
 use Rattle.layouts.specs.Rows.{rowLayout}
 use Rattle.layouts.specs.Reading.{endOf}
 use Rattle.layouts.proofs.Within.{end-within}
+use Rattle.layouts.proofs.Laws.{one-entry}
 use Rattle.utf8.specs.Utf8.{isUtf8}
 use Rattle.texts.specs.Reading.{textIn}
 use Rattle.texts.proofs.Laws.{text-lies, Left, left-all, left-none, left-cut, left-bad, left-more}
@@ -28,7 +29,7 @@ has : (c : tie.After-q Inv-loop μ-loop) →
     let l = c .before .before .before .before in
     let a = l .before .before .args in
     endOf (rowLayout (a .row)) (a .s .now) (l .loop .p) ≡ gives (c .q .given .0 .0)
-has c = sym (rw (c .q .given .1) at (c .before .before .read-entry .ensures))
+has c = sym (rw (c .q .given .1) at (c .before .before .read-list .ensures ∙ one-entry _ _))
 
 text-span-requires : tie.Need-text-span-requires Inv-loop μ-loop
 text-span-requires c κs =
@@ -82,7 +83,7 @@ returns-2 c =
     let l = c .before .before .before .before in
     let a = l .before .before .args in
     let v = l .loop in
-    let e = sym (rw (c .enum-told .given .1) at (c .before .before .read-entry .ensures)) in
+    let e = sym (rw (c .enum-told .given .1) at (c .before .before .read-list .ensures ∙ one-entry _ _)) in
     left-cut (rowLayout (a .row)) (a .s .now) (a .n) (a .at) (v .i) (v .p) (v .inv) _ _ (c .before .before .before .loop-test .taken) e
 
 loop-again : tie.Need-loop-again Inv-loop μ-loop

@@ -7,6 +7,7 @@ use Rattle.numbers.specs.Numbers.{gives}
 use Rattle.numbers.proofs.Answers.{follows, stops, mapped-given, mapped-refused}
 use Rattle.layouts.specs.Rows.{rowLayout}
 use Rattle.layouts.specs.Reading.{entriesEnd, endOf}
+use Rattle.layouts.proofs.Laws.{one-entry}
 use Rattle.texts.proofs.Laws.{nth-none, nth-after}
 
 returns : tie.Need-returns
@@ -22,14 +23,14 @@ returns-2 : tie.Need-returns-2
 returns-2 c =
     let k = c .before .before .before .before .before in
     let a = k .before .before .before .before .before .args in
-    let e = sym (rw (c .before .end .given .1) at (c .before .before .before .read-entry .ensures)) in
+    let e = sym (rw (c .before .end .given .1) at (c .before .before .before .read-list2 .ensures ∙ one-entry _ _)) in
     sym (nth-after (rowLayout (a .row)) (a .n) (a .i) (a .s .now) (a .at) (k .before .before .before .if1 .left) ∙ follows _ _ _ (passed k) ∙ mapped-given _ _ _ e)
 
 returns-3 : tie.Need-returns-3
 returns-3 c =
     let k = c .before .before .before .before .before in
     let a = k .before .before .before .before .before .args in
-    let e = sym (rw (c .before .r .given .1) at (c .before .before .before .read-entry .ensures)) in
+    let e = sym (rw (c .before .r .given .1) at (c .before .before .before .read-list2 .ensures ∙ one-entry _ _)) in
     sym (nth-after (rowLayout (a .row)) (a .n) (a .i) (a .s .now) (a .at) (k .before .before .before .if1 .left) ∙ follows _ _ _ (passed k) ∙ mapped-refused _ _ _ _ e)
 
 returns-4 : tie.Need-returns-4
