@@ -1,5 +1,5 @@
 -- What each step of the code does is what its way does.
-use mathlib.Core.Path.{_≡_, refl, sym, ap, _∙_, subst}
+use mathlib.Core.Path.{_≡_, refl, ap, _∙_, subst}
 use mathlib.Core.List.{List}
 use mathlib.Core.Bool.{Bool, true, false, cond}
 use Prim.Native.Nat.{ℕ, _*_, _≤_, _<_}
@@ -11,12 +11,11 @@ use borrow.Author.Tests.{ltb-true, ltb-false, leb-true, leb-false}
 use Rattle.table.specs.declared.Table.{Table}
 use Rattle.pushing.specs.declared.Arrival.{Arrival}
 use Rattle.pushing.specs.declared.join.Verdict.{Verdict}
-use Rattle.pushing.specs.declared.Pushed.{Pushed}
 use Rattle.pushing.specs.declared.Pushed.the-variants.{WaitingForMoreFragments}
 use Rattle.pushing.specs.declared.choose.Step.the-variants.{Keep}
 use Rattle.table.specs.Rows.{rowOf, withPlace, droppedKey}
 use Rattle.pushing.specs.Joining.{heldOf, heldIn, andNew}
-use Rattle.pushing.specs.Push.{Way, refuse, duplicate, keepAt, openAt, end, joinedWith, lookedUp, way, placeFor, pushedOf, tableBy, storeBy, outputBy, answerBy, Goes}
+use Rattle.pushing.specs.Push.{Way, refuse, duplicate, keepAt, openAt, end, joinedWith, lookedUp, way, placeFor, tableBy, storeBy, Goes}
 use Rattle.pushing.specs.PrivateSteps.{stepWay, underRow, dropBy, Ends, opened}
 use Rattle.pushing.proofs.Ways.{by-ends, Went, went, went-refuse, went-duplicate, went-keep, went-open, went-end}
 

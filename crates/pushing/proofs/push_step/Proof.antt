@@ -19,7 +19,7 @@ use Rattle.pushing.specs.declared.choose.Step.the-variants.{Keep, Join}
 use Rattle.table.specs.Rows.{placeOf, isRowOf, rowOf, withPlace, droppedKey}
 use Rattle.pushing.specs.Push.{Way, end, missing, lookedUp, keepWay, joinedWith, wayBy, way, placeFor, Goes}
 use Rattle.pushing.specs.PrivateSteps.{stepWay, underRow, opened, comparedIn, joinIn, Ends}
-use Rattle.table.proofs.Sound.{Sound, no-place}
+use Rattle.table.proofs.Sound.{no-place}
 use Rattle.searching.proofs.Search.{lowest-le}
 use Rattle.pushing.proofs.Byte.{number-byte}
 use Rattle.pushing.proofs.Sound.{sound}

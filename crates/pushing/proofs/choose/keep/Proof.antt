@@ -1,5 +1,5 @@
 -- Each way out is that of `keepWay`, by the tests that led there.
-use mathlib.Core.Path.{sym, _∙_}
+use mathlib.Core.Path.{sym}
 use borrow.Author.Tests.{lt-ltb, le-ltb}
 use Rattle.pushing.proofs.Ways.{keep-full, keep-there, keep-keys, keep-new}
 use Rattle.pushing.proofs.choose.keep.Statement.{statement}

@@ -2,7 +2,6 @@
 use mathlib.Core.Path.{refl, ap}
 use mathlib.Core.List.{[], _∷_}
 use Prim.Native.Nat.{ℕ}
-use lib.ListN.{length}
 use native.Mathlib.Omega.{arith}
 use Rattle.numbers.specs.Numbers.{gives, refuses}
 use Rattle.pushing.specs.Joining.{inOrder}

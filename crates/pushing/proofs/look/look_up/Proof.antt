@@ -1,17 +1,15 @@
 -- Each number is that of its look-up; a key that is not there holds nothing.
-use mathlib.Core.Path.{_≡_, sym, ap, _∙_}
+use mathlib.Core.Path.{ap, _∙_}
 use Prim.Native.Nat.{ℕ}
-use native.Mathlib.Omega.{arith}
 use denote.Ref.{now}
 use Rattle.table.specs.Rows.{ownerOf}
-use Rattle.pushing.specs.PrivateSteps.{rowIn, numberedIn}
+use Rattle.pushing.specs.PrivateSteps.{numberedIn}
 use borrow.Author.Needs.{needs}
 use Rattle.pushing.proofs.look.look_up.Statement.{statement}
 use Rattle.pushing.proofs.look.look_up.Tie as tie
 
 held-at-requires : tie.Need-held-at-requires
 held-at-requires c κs h =
-    let a = c .before .args in
     let row-is = c .find-key .ensures .0 in
     rw row-is (c .before .pre (rw (← row-is) h))
 
