@@ -1,4 +1,5 @@
--- The CMDU header (IEEE 1905.1, clause 6.2): version, reserved byte, type in 2 bytes, message id in 2, fragment number, flags; bit 7 of flags marks the last fragment.
+-- The CMDU header (IEEE 1905.1, clause 6.2): version, reserved byte, type in 2 bytes, message id in 2, fragment
+-- number, flags; bit 7 of flags marks the last fragment.
 use mathlib.Core.Bool.{cond}
 use mathlib.Core.List.{List, [], _∷_}
 use Prim.Native.Nat.{ℕ, _-_, _/_, _%_}

@@ -1,4 +1,5 @@
--- A TLV: "one type byte, a big-endian 16-bit length, then that many bytes" (document 01, "Framing"; IEEE 1905.1, clause 6.4).
+-- A TLV: "one type byte, a big-endian 16-bit length, then that many bytes" (document 01, "Framing"; IEEE 1905.1,
+-- clause 6.4).
 use mathlib.Core.Bool.{cond}
 use mathlib.Core.List.{List, [], _∷_, _++_}
 use Prim.Native.Nat.{ℕ, _+_, _-_}
@@ -26,14 +27,16 @@ readOf (Read.Refused r) = told r
 abbrev pub declared : List ℕ → ℕ
 declared s = numberAt 2 1 s
 
--- 2026-01: 1 and 2 "shall carry the exact shortfall": "3 [..] less what there is; the declared length less what there is"
+-- 2026-01: 1 and 2 "shall carry the exact shortfall": "3 [..] less what there is; the declared length less what there
+-- is"
 unfoldable pub readTlv : List ℕ → Answer TlvRead
 readTlv s =
     cond (ltb (length s) 3) (refuses 1 ((3 - length s) ∷ []))
     (cond (ltb (length s - 3) (declared s)) (refuses 2 ((declared s - (length s - 3)) ∷ []))
     (gives (record { tlv-type = getD s 0 0; value-length = declared s; consumed = 3 + declared s })))
 
--- the value of a TLV that reads as said, as a part of the bytes, and where it starts in them; where none reads, their empty start
+-- the value of a TLV that reads as said, as a part of the bytes, and where it starts in them; where none reads, their
+-- empty start
 abbrev pub valueIn : Answer TlvRead → List ℕ → List ℕ
 valueIn (gives t) s = take (t .value-length) (drop 3 s)
 valueIn (refuses n vs) s = []
@@ -62,7 +65,8 @@ longestValue = 65535
 unfoldable pub writeSize : ℕ → ℕ → Answer ℕ
 writeSize n room = cond (ltb longestValue n) (refuses 8 []) (cond (ltb room (3 + n)) (refuses 7 []) (gives (3 + n)))
 
--- what a buffer holds after some bytes were to be written at its start: "bytes past the TLV stay as lent", on a refusal all do
+-- what a buffer holds after some bytes were to be written at its start: "bytes past the TLV stay as lent", on a
+-- refusal all do
 abbrev pub leaves : Answer ℕ → List ℕ → List ℕ → List ℕ
 leaves (gives n) bytes out = bytes ++ drop (length bytes) out
 leaves (refuses n vs) bytes out = out

@@ -1,4 +1,5 @@
-// Framing, the lowest layer of the protocol: a TLV read and written, and the CMDU header. The walk over a payload's TLVs is the crate `walking`.
+// Framing, the lowest layer of the protocol: a TLV read and written, and the CMDU header. The walk over a payload's
+// TLVs is the crate `walking`.
 use numbers::Refusal;
 use numbers::be16;
 ghost use mathlib.Core.Path.{_≡_};
@@ -12,7 +13,8 @@ ghost use Rattle.framing.specs.Cmdu.{headerOf, readHeader};
 // The longest value that a length in two bytes can say.
 const LONGEST_VALUE: usize = 65535;
 
-// What reading a TLV finds: its type, the length of its value, and the bytes consumed. The value stands after the three header bytes.
+// What reading a TLV finds: its type, the length of its value, and the bytes consumed. The value stands after the
+// three header bytes.
 pub enum Read {
     Whole {
         tlv_type: u8,
@@ -78,8 +80,8 @@ pub fn value(s: &[u8]) -> &[u8]
     }
 }
 
-// The three header bytes of a TLV whose value has so many bytes, where the buffer has room for the whole TLV. What writes the value is then
-// lent the part from byte 3 onward.
+// The three header bytes of a TLV whose value has so many bytes, where the buffer has room for the whole TLV. What
+// writes the value is then lent the part from byte 3 onward.
 pub fn write_header(tlv_type: u8, value_length: usize, out: &mut [u8]) -> Written
     ensures answer { λ r. ⌜ writtenOf r ≡ writeSize «value_length» (length (now (out .entry))) ⌝ }
     ensures bytes { λ _. ⌜ now (out .exit) ≡ leaves (writeSize «value_length» (length (now (out .entry)))) (header «tlv_type» «value_length») (now (out .entry)) ⌝ }

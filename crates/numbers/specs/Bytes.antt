@@ -1,4 +1,5 @@
--- Numbers in bytes, big-endian: "a big-endian 16-bit length", counts "in one byte or two, big-endian" (document 01). The first byte is the highest.
+-- Numbers in bytes, big-endian: "a big-endian 16-bit length", counts "in one byte or two, big-endian" (document 01).
+-- The first byte is the highest.
 use mathlib.Core.List.{List, [], _∷_, _++_}
 use Prim.Native.Nat.{ℕ, zero, suc, _+_, _*_, _/_, _%_, _<_}
 use lib.ListN.{take, drop, getD}

@@ -6,7 +6,8 @@ use lib.ListN.{getD}
 use Rattle.numbers.specs.declared.Refusal.{Refusal}
 use Rattle.numbers.specs.declared.Refusal.the-variants.{TooFewBytes, RunsPastEnd, CutShort, LeftOver, BadValue, NoEntry, NoRoom, ValueTooLong, NeverRead, TableFull, StoreTooSmall, PayloadTooLong, OutputTooSmall, ListTooShort, NotFound, UnknownKind, NoStationRoom, NotText}
 
--- What a call answers in document 01's words: what it gives, or the number of its refusal with the values that stand beside it.
+-- What a call answers in document 01's words: what it gives, or the number of its refusal with the values that stand
+-- beside it.
 pub data Answer (A : Type 0) : Type 0 where
   gives : A → Answer A
   refuses : ℕ → List ℕ → Answer A
@@ -25,7 +26,8 @@ abbrev pub isGiven : {A : Type 0} → Answer A → Bool
 isGiven (gives a) = true
 isGiven (refuses n vs) = false
 
--- The number of each refusal and its values: "All but 13 and these [the walk's, which carry an offset] carry no other number." 2026-01: "Numbers 1 and 2 shall carry the exact shortfall".
+-- The number of each refusal and its values: "All but 13 and these [the walk's, which carry an offset] carry no other
+-- number." 2026-01: "Numbers 1 and 2 shall carry the exact shortfall".
 abbrev pub numbered : Refusal → ℕ × List ℕ
 numbered (TooFewBytes missing) = (1, missing ∷ [])
 numbered (RunsPastEnd missing) = (2, missing ∷ [])

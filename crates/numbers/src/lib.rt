@@ -5,7 +5,8 @@ ghost use Prim.Native.Nat.{_<_};
 ghost use Rattle.numbers.specs.Numbers.{number, carried};
 ghost use Rattle.numbers.specs.Bytes.{bigEndian};
 
-// Why a call refused. A caller passes a refusal of a layer below on by this name and never makes it anew, so that what a case carries can grow.
+// Why a call refused. A caller passes a refusal of a layer below on by this name and never makes it anew, so that
+// what a case carries can grow.
 pub enum Refusal {
     // 1: fewer than 3 bytes for a TLV, or 8 for a CMDU header; with how many are missing
     TooFewBytes(usize),
@@ -71,7 +72,8 @@ pub fn number_of(refusal: Refusal) -> u8
     }
 }
 
-// What a refusal carries besides its number: the shortfall of 1 and 2, the length of 13, and 0 where it carries nothing.
+// What a refusal carries besides its number: the shortfall of 1 and 2, the length of 13, and 0 where it carries
+// nothing.
 pub fn carried_by(refusal: Refusal) -> usize
     ensures { λ r. ⌜ r ≡ carried refusal ⌝ }
 {

@@ -19,25 +19,30 @@ pub record Firmness : Type 0 where
   pub step : (p : List ℕ) (at : ℕ) → Firm (λ s. steppedOf s ≡ stepAt p at)
   pub walk : (p : List ℕ) → Firm (λ w. walkedOf w ≡ counted (walkOf p))
   -- the answer, and what the list holds
-  pub walk-into : (list : List Tlv) (p : List ℕ) → Firm {A = Walked × List Tlv} (λ o. (walkedOf (o .0) ≡ listed (length list) (walkOf p)) × (o .1 ≡ filled (listed (length list) (walkOf p)) (walkOf p .items) list))
+  pub walk-into : (list : List Tlv) (p : List ℕ)
+      → Firm {A = Walked × List Tlv} (λ o. (walkedOf (o .0) ≡ listed (length list) (walkOf p)) × (o .1 ≡ filled (listed (length list) (walkOf p)) (walkOf p .items) list))
 
 -- the TLV of a record, with its value from the payload
 abbrev pub tlvOf : List ℕ → Tlv → List ℕ
 tlvOf p t = tlvBytes (t .«tlv_type») (take (t .length) (drop (t .offset + 3) p))
 
--- The TLVs of a walk that succeeds, written one after the other, and then the padding, the payload's last bytes, are the payload, byte for byte.
+-- The TLVs of a walk that succeeds, written one after the other, and then the padding, the payload's last bytes, are
+-- the payload, byte for byte.
 abbrev pub WalkWritten : Type 0
 WalkWritten = (p : List ℕ) → AllBytes p → (padding : ℕ) → walkOf p .end ≡ gives padding
     → (flatten (map (tlvOf p) (walkOf p .items)) ++ drop (length p - padding) p ≡ p) × (padding ≤ length p)
 
--- 2026-03: "The message ends with the first TLV of type 0 and length 0; what follows is padding, is not looked at, and its length is given." A marker among the TLVs of a walk is their
--- last, and whatever else follows it, more bytes or fewer, a walk has the same TLVs and gives how many bytes follow.
+-- 2026-03: "The message ends with the first TLV of type 0 and length 0; what follows is padding, is not looked at,
+-- and its length is given." A marker among the TLVs of a walk is their last, and whatever else follows it, more bytes
+-- or fewer, a walk has the same TLVs and gives how many bytes follow.
 pub record Ends (p : List ℕ) (tlvs : List Tlv) (k : ℕ) : Type 0 where
   pub is-last : k + 1 ≡ length tlvs
-  pub not-looked-at : (other : List ℕ) → walkOf (take (offsetAt tlvs k + 3) p ++ other) ≡ record { items = tlvs; end = gives (length other) }
+  pub not-looked-at : (other : List ℕ)
+      → walkOf (take (offsetAt tlvs k + 3) p ++ other) ≡ record { items = tlvs; end = gives (length other) }
 
 abbrev pub MarkerEnds : Type 0
-MarkerEnds = (p : List ℕ) (k : ℕ) → k < length (walkOf p .items) → isMarker (getD (walkOf p .items) k noTlv) ≡ true → Ends p (walkOf p .items) k
+MarkerEnds = (p : List ℕ) (k : ℕ) → k < length (walkOf p .items) → isMarker (getD (walkOf p .items) k noTlv) ≡ true
+    → Ends p (walkOf p .items) k
 
 -- no marker is among these TLVs
 abbrev pub Unmarked : List Tlv → Type 0
@@ -47,19 +52,22 @@ Unmarked tlvs = (k : ℕ) → k < length tlvs → isMarker (getD tlvs k noTlv) �
 abbrev pub NoMarker : Type 0
 NoMarker = (p : List ℕ) (padding : ℕ) → walkOf p .end ≡ gives padding → Unmarked (walkOf p .items) → padding ≡ 0
 
--- 2026-01: "the bytes that must be added before that same number would no longer be given". The number and the offset of a refusal; 0 and 0 where there is none.
+-- 2026-01: "the bytes that must be added before that same number would no longer be given". The number and the offset
+-- of a refusal; 0 and 0 where there is none.
 abbrev pub refusedAt : {A : Type 0} → Answer A → ℕ × ℕ
 refusedAt (gives a) = (0, 0)
 refusedAt (refuses n []) = (n, 0)
 refusedAt (refuses n (at ∷ vs)) = (n, at)
 
--- with any fewer bytes after the payload a walk is refused by n at the same offset again, and with any so many by n nowhere
+-- with any fewer bytes after the payload a walk is refused by n at the same offset again, and with any so many by n
+-- nowhere
 pub record MissingAt (p : List ℕ) (n at missing : ℕ) : Type 0 where
   pub again : (more : List ℕ) → length more < missing → refusedAt (counted (walkOf (p ++ more))) ≡ (n, at)
   pub no-longer : (more : List ℕ) → length more ≡ missing → numberIn (counted (walkOf (p ++ more))) ≡ n → ⊥
 
 abbrev pub WalkShortfall : Type 0
-WalkShortfall = (p : List ℕ) (n at missing : ℕ) → counted (walkOf p) ≡ refuses n (at ∷ missing ∷ []) → MissingAt p n at missing
+WalkShortfall = (p : List ℕ) (n at missing : ℕ) → counted (walkOf p) ≡ refuses n (at ∷ missing ∷ [])
+    → MissingAt p n at missing
 
 -- one TLV and nothing else
 pub record IsTlv (s : List ℕ) : Type 0 where
@@ -67,15 +75,19 @@ pub record IsTlv (s : List ℕ) : Type 0 where
   pub reads : readTlv s ≡ gives tlv
   pub all : tlv .consumed ≡ length s
 
--- The pieces of a payload that a walk gets through: one after the other, and then the padding, they are the payload, and each is one TLV.
+-- The pieces of a payload that a walk gets through: one after the other, and then the padding, they are the payload,
+-- and each is one TLV.
 pub record InPieces : Type 0 where
-  pub one-by-one : (p : List ℕ) (padding : ℕ) → walkOf p .end ≡ gives padding → flatten (pieces p) ++ drop (length p - padding) p ≡ p
+  pub one-by-one : (p : List ℕ) (padding : ℕ) → walkOf p .end ≡ gives padding
+      → flatten (pieces p) ++ drop (length p - padding) p ≡ p
   pub each : (p : List ℕ) (k : ℕ) → k < length (pieces p) → IsTlv (getD (pieces p) k [])
   -- what follows whole TLVs without a marker adds its pieces to theirs, and is walked to its own end
-  pub followed : (a b : List ℕ) (padding : ℕ) → walkOf a .end ≡ gives 0 → Unmarked (walkOf a .items) → walkOf b .end ≡ gives padding
+  pub followed : (a b : List ℕ) (padding : ℕ) → walkOf a .end ≡ gives 0 → Unmarked (walkOf a .items)
+      → walkOf b .end ≡ gives padding
       → (pieces (a ++ b) ≡ pieces a ++ pieces b) × (walkOf (a ++ b) .end ≡ gives padding)
   -- what follows whole TLVs that have a marker, which is their last, is padding
-  pub padded : (a b : List ℕ) (k : ℕ) → walkOf a .end ≡ gives 0 → k < length (walkOf a .items) → isMarker (getD (walkOf a .items) k noTlv) ≡ true
+  pub padded : (a b : List ℕ) (k : ℕ) → walkOf a .end ≡ gives 0 → k < length (walkOf a .items)
+      → isMarker (getD (walkOf a .items) k noTlv) ≡ true
       → (pieces (a ++ b) ≡ pieces a) × (walkOf (a ++ b) .end ≡ gives (length b))
 
 -- everything that is claimed of this crate

@@ -1,4 +1,5 @@
--- A walk by steps: over items that stand one after the other in some bytes, whatever the step reads. Of TLVs it is the walk of a payload (Walk.antt).
+-- A walk by steps: over items that stand one after the other in some bytes, whatever the step reads. Of TLVs it is
+-- the walk of a payload (Walk.antt).
 use mathlib.Core.List.{List, [], _∷_}
 use Prim.Native.Nat.{ℕ, zero, suc, _-_}
 use Rattle.numbers.specs.Numbers.{Answer, gives, refuses}

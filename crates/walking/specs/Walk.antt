@@ -1,5 +1,6 @@
--- The walk: "reads TLVs from the payload's start until no byte is left, and may fill a lent list of TLV records" (document 01, "Framing"). "The message ends
--- with the first TLV of type 0 and length 0; what follows is padding, is not looked at, and its length is given" (document 02, 2026-03).
+-- The walk: "reads TLVs from the payload's start until no byte is left, and may fill a lent list of TLV records"
+-- (document 01, "Framing"). "The message ends with the first TLV of type 0 and length 0; what follows is padding, is
+-- not looked at, and its length is given" (document 02, 2026-03).
 use mathlib.Core.Bool.{Bool, false, cond}
 use mathlib.Core.List.{List, [], _∷_, _++_}
 use Prim.Native.Nat.{ℕ, _+_}
@@ -61,7 +62,8 @@ noTlv = record { «tlv_type» = 0; length = 0; offset = 0 }
 abbrev pub offsetAt : List Tlv → ℕ → ℕ
 offsetAt tlvs k = getD tlvs k noTlv .offset
 
--- the same with a list that has room for so many: 1 or 2 wherever it occurs, before 14 with the offset of the first TLV without a place
+-- the same with a list that has room for so many: 1 or 2 wherever it occurs, before 14 with the offset of the first
+-- TLV without a place
 abbrev pub listed : ℕ → Walk Tlv → Answer WalkCount
 listed room w = andThen (counted w) (λ c. cond (ltb room (c .count)) (refuses 14 (offsetAt (w .items) room ∷ [])) (gives c))
 

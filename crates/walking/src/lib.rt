@@ -1,5 +1,5 @@
-// The walk over a payload's TLVs, counted and, in a second form, listed in a slice that the caller lends. It ends with the end marker, the first TLV of
-// type 0 and length 0: what follows that is padding and not looked at.
+// The walk over a payload's TLVs, counted and, in a second form, listed in a slice that the caller lends. It ends
+// with the end marker, the first TLV of type 0 and length 0: what follows that is padding and not looked at.
 use framing::Read;
 use numbers::Refusal;
 ghost use mathlib.Core.Path.{_≡_};
@@ -16,15 +16,15 @@ pub struct Tlv {
     pub offset: usize,
 }
 
-// How many TLVs a payload has and how many bytes of padding follow them, or the refusal with the offset of the TLV that failed; of a list too short, of the
-// first without a place.
+// How many TLVs a payload has and how many bytes of padding follow them, or the refusal with the offset of the TLV
+// that failed; of a list too short, of the first without a place.
 pub enum Walked {
     Count { count: usize, padding: usize },
     Refused { refusal: Refusal, at: usize },
 }
 
-// What a step of the walk finds: the payload's end; a TLV and where the next step is taken; the marker, which is the message's last TLV, and where the message
-// ends; or the refusal with the offset of the TLV that failed.
+// What a step of the walk finds: the payload's end; a TLV and where the next step is taken; the marker, which is the
+// message's last TLV, and where the message ends; or the refusal with the offset of the TLV that failed.
 pub enum Stepped {
     End,
     Tlv { tlv: Tlv, next: usize },
@@ -42,7 +42,8 @@ fn is_marker(t: Tlv) -> bool
     false
 }
 
-// One step of the walk, at the offset `at`. Whoever goes over a payload's TLVs goes by this step, from 0 on: where a walk ends is said here alone.
+// One step of the walk, at the offset `at`. Whoever goes over a payload's TLVs goes by this step, from 0 on: where a
+// walk ends is said here alone.
 pub fn step(payload: &[u8], at: usize) -> Stepped
     ensures { λ r. ⌜ steppedOf r ≡ stepAt (now (payload .entry)) at ⌝ }
 {
@@ -171,7 +172,8 @@ fn plan(payload: &[u8], room: usize) -> Planned
     }
 }
 
-// The TLVs of a payload, counted and listed. Nothing is filled in before the whole payload has been walked, so that a refusal leaves the list as lent.
+// The TLVs of a payload, counted and listed. Nothing is filled in before the whole payload has been walked, so that a
+// refusal leaves the list as lent.
 pub fn walk_into(list: &mut [Tlv], payload: &[u8]) -> Walked
     ensures { λ r. ⌜ (walkedOf r ≡ listed (length (now (list .entry))) (walkOf (now (payload .entry))))
         × (now (list .exit) ≡ filled (listed (length (now (list .entry))) (walkOf (now (payload .entry)))) (walkOf (now (payload .entry)) .items) (now (list .entry))) ⌝ }
