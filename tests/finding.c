@@ -1,4 +1,5 @@
-/* Finding over lists of records that no walk need have made: the cases are named, and what has to be answered is written from document 01. */
+/* Finding over lists of TLV records that no walk need have made (rules F1 to F3): the cases are named, and each says
+   what has to be answered. */
 #include "../include/ashlar.h"
 #include <stdio.h>
 
@@ -12,7 +13,7 @@ static const uint8_t payload[] = {
 static const AshlarTlv walked[] = {{0x92, 13, 0}, {0x92, 13, 16}, {0x92, 13, 32}, {0, 0, 48}};
 static int failed;
 
-/* find says where; what lies there has to read, and to be so long */
+/* find says where; what lies there has to read, and to consume this many bytes */
 static bool reads(AshlarTlv t, uint8_t code, size_t consumed) {
     AshlarKind got = ashlar_read_kind(code, payload + t.offset + 3, t.length);
     return got.refusal == 0 && got.consumed == consumed;
@@ -32,15 +33,15 @@ int main(void) {
     const AshlarTlv other[] = {{0x92, 14, 16}, {0x92, 12, 16}, {1, 6, 3}, {1, 5, 3}};
 
     finds("an unreadable record before a readable one", walked, 4, 0x92, 0, 1, 13, 0);
-    finds("the next one behind it", walked, 4, 0x92, 2, 2, 13, 0);
-    finds("none behind the last", walked, 4, 0x92, 3, 0, 0, 15);
+    finds("the next one after it", walked, 4, 0x92, 2, 2, 13, 0);
+    finds("none after the last", walked, 4, 0x92, 3, 0, 0, 15);
     finds("none from the list's end, and from beyond it", walked, 4, 0x92, 4, 0, 0, 15);
     finds("none from 2 to the 64 less 1", walked, 4, 0x92, SIZE_MAX, 0, 0, 15);
     finds("records outside the payload are passed over, offsets near 2 to the 64 among them", outside, 6, 0x92, 0, 5, 13, 0);
     finds("a value that ends with the payload is inside, if it reads", past, 1, 0x92, 0, 0, 13, 0);
     finds("one that ends a byte past it is not", past + 1, 1, 0x92, 0, 0, 0, 15);
     finds("an empty list", walked, 0, 0x92, 0, 0, 0, 15);
-    finds("a list longer than the walk's: entries behind are looked at like any other", longer, 6, 0x92, 4, 5, 13, 0);
+    finds("a list longer than the walk's: entries past the walk's are searched like any other", longer, 6, 0x92, 4, 5, 13, 0);
     finds("a kind 0 record at the payload's last three bytes", walked, 4, 0, 0, 3, 0, 0);
     finds("the record's length decides, not the header's: 14 bytes leave one", other, 4, 0x92, 0, 0, 13, 0);
     finds("and 12 bytes do not read", other + 1, 1, 0x92, 0, 0, 0, 15);

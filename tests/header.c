@@ -1,5 +1,6 @@
-/* The header against the archive, the one thing that no proof ties together: the order of a struct's fields in memory and of a call's parameters, the numbers of refusals and answers,
-   the sizes. Each is seen by a call that gives it, with values that tell fields and parameters apart. */
+/* The header against the archive, the one thing that no proof ties together (rule C1): the order of a struct's fields in
+   memory and of a call's parameters, the numbers of refusals and answers, the sizes. Each is seen by a call that gives
+   it, with values that tell fields and parameters apart. */
 #include "../include/ashlar.h"
 #include <stdio.h>
 #include <string.h>
@@ -189,7 +190,7 @@ static void reads(void) {
 
 /* ---- Texts ---- */
 
-/* the texts "Schloß", "" and "m", two radios with the texts "5 GHz" and "", and two bytes behind them */
+/* the texts "Schloß", "" and "m", two radios with the texts "5 GHz" and "", and two bytes after them */
 static const uint8_t device[] = "\7Schlo\xC3\x9F" "\0" "\1m" "\2" "\x02\x11\x22\x33\x44\x55" "\5" "5 GHz" "\x06\xAA\xBB\xCC\xDD\xEE" "\0" "\xFF";
 
 static bool lies(AshlarPart p, size_t start, size_t length) { return p.start == start && p.length == length && p.refusal == ASHLAR_OK; }
@@ -265,7 +266,7 @@ static AshlarPushed pushed(AshlarArrival a, size_t size) {
 
 static bool answered(AshlarPushed p, uint8_t answer, size_t length) { return p.answer == answer && p.length == length && p.refusal == ASHLAR_OK; }
 
-/* a refusal is told so, and leaves the table */
+/* a refusal is answered so, and leaves the table as it was (rule A3) */
 static void refused(const char *name, AshlarArrival a, size_t store_size, size_t out_size, size_t size, uint8_t refusal, size_t length) {
     AshlarTable before = table;
     AshlarPushed p = ashlar_push(&table, store, store_size, out, out_size, a, payload, size);
@@ -292,7 +293,8 @@ static void fields(void) {
     check("ASHLAR_PAYLOAD: a place in the store", !memcmp(store, payload, 10) && store[10] == 0 && !memcmp(store + ASHLAR_PAYLOAD, payload, 20));
 }
 
-/* a duplicate differs from the kept fragment in all but its key and number, and no byte of the table, the store or the output changes */
+/* a duplicate differs from the kept fragment in all but its key and number, and no byte of the table, the store or the
+   output changes (rule T5) */
 static void duplicates(void) {
     static uint8_t stored[sizeof store], lent[sizeof out];
     AshlarTable before = table;
@@ -417,7 +419,7 @@ static void moves(void) {
     check("AshlarAt, AshlarRow: addresses of zeros are held", heard(ashlar_station_event(&stations, none, none, true), ASHLAR_PLACED, none) && is_at(none, none) && holds(0, none, none) && ashlar_station_count(&stations) == 1);
 }
 
-/* a value that joins the phone to the attic, and a byte behind it */
+/* a value that joins the phone to the attic, and a byte after it */
 static uint8_t association[14] = {0x02, 0x11, 0x22, 0x33, 0x44, 0x55, 0x0A, 0x0F, 0x1E, 0x2D, 0x3C, 0x4B, 0x80, 0x99};
 
 /* a value is refused so, all else is 0, and the table stays */

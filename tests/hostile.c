@@ -1,5 +1,6 @@
-/* hostile CALLS SEED: so many random calls. Each slice ends at a page that can't be touched, lengths are any, tables are those that the calls made; a station table may be any
-   bytes. Every answer is one of the documents' numbers for its call and the same as that of the plain C of bench/plain.c, and so is every byte that was lent. */
+/* hostile CALLS SEED: CALLS random calls (rules A1 to A4). Each slice ends at a page that can't be touched, lengths are
+   any, tables are those that the calls made; a station table may be any bytes. Every refusal is one that the rules give
+   the call. Every answer and every lent byte is the same as that of the plain C of bench/plain.c. */
 #include "../bench/calls.h"
 #include <stdio.h>
 #include <stdlib.h>
@@ -10,7 +11,7 @@ enum { PAGE = 4096, READ_HEADER = 0, WALK, WALK_INTO, READ_KIND, FIND, TEXT, RAD
 
 static const char *const names[KINDS] = {
     "read_header", "walk", "walk_into", "read_kind", "find", "text", "radio", "radio_text", "push", "show", "sweep", "station_event", "station_event_from", "station_at", "station_count", "station_row"};
-/* which numbers the documents let each call give, a bit for each; 0 is no refusal */
+/* which numbers each call may give by rules N1 and N2, a bit for each; 0 is no refusal */
 static const unsigned numbers[KINDS] = {
     1u << 0 | 1u << 1,
     1u << 0 | 1u << 1 | 1u << 2,
@@ -110,7 +111,7 @@ static size_t string(uint8_t *at, size_t head) {
     return head + 1 + at[head];
 }
 
-/* a value of a kind that holds text, now and then cut, or with bytes behind it; of any other kind any bytes */
+/* a value of a kind that holds text, now and then cut, or with bytes after it; of any other kind any bytes */
 static uint8_t *value(uint8_t k, size_t *n) {
     static uint8_t made[PAGE];
     size_t size = 0;
@@ -186,7 +187,7 @@ static bool reads(uint8_t k, const uint8_t *p, AshlarTlv t) {
     return !a.refusal && same_kind(a, plain_read_kind(k, p + t.offset + 3, t.length));
 }
 
-/* the list holds what a walk left, and behind it anything at all */
+/* the list holds what a walk left, and after it anything at all (rule F3) */
 static void find(void) {
     AshlarTlv *list;
     size_t n = below(4) ? below(64) : below(3000), many;
@@ -198,7 +199,7 @@ static void find(void) {
     told(FIND, a.refusal, same && (a.refusal || reads(k, p, list[a.place])));
 }
 
-/* what is told lies in the value */
+/* the part that is answered lies in the value */
 static bool same_part(AshlarPart a, AshlarPart b, size_t n) {
     return a.start == b.start && a.length == b.length && a.refusal == b.refusal && a.start <= n && a.length <= n - a.start && (!a.refusal || !(a.start || a.length));
 }
