@@ -1,5 +1,5 @@
-/* What the benchmark and the tests want beside include/ashlar.h: plain C's calls of plain.c, each of its exported call's type, and CALL(name), which is ashlar_name, or
-   plain_name where PLAIN is defined. */
+/* What the benchmark and the tests want beside include/ashlar.h: plain C's calls of plain.c, each of its exported
+   call's type, and CALL(name), which is ashlar_name, or plain_name where PLAIN is defined. */
 #ifndef CALLS_H
 #define CALLS_H
 #include "../include/ashlar.h"

@@ -19,11 +19,12 @@ PROGRAMS = {"plain": [f"{WORK}/plain"], "original": LOADER + [ORIGINAL], "ours":
 WITHOUT_ORIGINAL = {who: PROGRAMS[who] for who in ("plain", "ours")}
 LISTERS = {"plain": [f"{WORK}/plain-tlvlist"], "original": LOADER + [ORIGINAL, "list"], "ours": LOADER + ["target/bin/tlvlist"]}
 TURNS = 20
-# Where the stack lies moves with the environment's length, and with it what a copy on the stack costs: so the programs get always the same one.
+# Where the stack lies moves with the environment's length, and with it what a copy on the stack costs: so the programs
+# get always the same one.
 FIXED = {"PATH": os.defpath}
 
-# what is done; words for the programs; at most so many times plain C; less than, or at most, so many times the original, None where it has no such call; at most so many beyond
-# the payload's copy
+# what is done; words for the programs; at most so many times plain C; less than, or at most, so many times the
+# original, None where it has no such call; at most so many beyond the payload's copy
 ROWS = [
     ("A CMDU header", "header", 2, None, None),
     ("Walk of 1,492 bytes, 497 TLVs", "walk-497", 2, 0.5, None),

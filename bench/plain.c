@@ -1,4 +1,5 @@
-/* The same calls in plain C, as one would write them by hand: nothing copied but the payloads, the same checks and the same refusals. */
+/* The same calls in plain C, as one would write them by hand: nothing copied but the payloads, the same checks and the
+   same refusals. */
 #include "calls.h"
 #include <string.h>
 
@@ -89,7 +90,8 @@ static inline __attribute__((always_inline)) AshlarKind three(size_t head, size_
 
 /* ---- Texts ---- */
 
-/* how many bytes the character at p has, 0 where none is there: the first byte's length, and the least and the most that the second one may be */
+/* how many bytes the character at p has, 0 where none is there: the first byte's length, and the least and the most
+   that the second one may be */
 static size_t character(const uint8_t *p, size_t n) {
     size_t size = p[0] < 0x80 ? 1 : p[0] < 0xC2 ? 0 : p[0] < 0xE0 ? 2 : p[0] < 0xF0 ? 3 : p[0] < 0xF5 ? 4 : 0;
     uint8_t least = p[0] == 0xE0 ? 0xA0 : p[0] == 0xF0 ? 0x90 : 0x80, most = p[0] == 0xED ? 0x9F : p[0] == 0xF4 ? 0x8F : 0xBF;

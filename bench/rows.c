@@ -1,5 +1,5 @@
-/* rows ROW TURNS [SIZE]: does a row's work so many times over, and prints its answer. What a turn needs is made before the first turn, and for
-   MOST turns whatever TURNS is, so that the difference of two runs is the turns alone. */
+/* rows ROW TURNS [SIZE]: does a row's work so many times over, and prints its answer. What a turn needs is made before
+   the first turn, and for MOST turns whatever TURNS is, so that the difference of two runs is the turns alone. */
 #include "calls.h"
 #include <stdio.h>
 #include <stdlib.h>

@@ -8,7 +8,8 @@ import model
 
 
 def agree(original, ours):
-    """Refusals agree whatever the number, which the original doesn't have; `-` is what it can't know. The original's four counts of a sweep are compared by their sum."""
+    """Refusals agree whatever the number, which the original doesn't have; `-` is what it can't know. The original's four
+    counts of a sweep are compared by their sum (rule S2)."""
     if original == ours:
         return True
     first, second = original.split(" "), ours.split(" ")
@@ -67,7 +68,8 @@ class Replacing(model.Table):
 
 
 def first_copy_kept(words, original, ours, before):
-    """The original's duplicate stands in the place of the fragment that was kept. Both rules are played over the group, from its start on."""
+    """The original replaces the kept fragment by the duplicate; rule T5 doesn't. Both are played over the group, from its
+    start on."""
     lines = [line for line, _, _ in before] + [" ".join(words)]
     if words[0] not in "pc" or lines[0] != "z":
         return False
@@ -86,19 +88,19 @@ def payload_above_1492(words, original, ours, before):
     return words[0] == "p" and ours == "no 12" and len(model.to_bytes(words[8])) > 1492
 
 
-# --- texts (2026-04) ---
+# --- texts (rules E5 and E6) ---
 
 BLANK = "\t\n\x0b\x0c\r \x85\xa0\u1680" + "".join(map(chr, range(0x2000, 0x200b))) + "\u2028\u2029\u202f\u205f\u3000"
 
 
 def kept_by_original(text, fixed):
-    """The original's rule for a text: what isn't UTF-8 replaced, zeros taken off both ends, in a fixed field blanks too."""
+    """What the original keeps of a text: what isn't UTF-8 replaced, zeros taken off both ends, in a field blanks too."""
     kept = text.decode("utf-8", "replace").strip("\0")
     return (kept.strip(BLANK) if fixed else kept).encode()
 
 
 def texts_alike(kind, value):
-    """Whether the original keeps every text of a value, as our rule has it, byte for byte; a value cut short has none."""
+    """Whether the original keeps every text of a value as rules E5 and E6 do, byte for byte; a cut value has none."""
     try:
         if kind == 21:
             fields = [value[at:at + 64] for at in (0, 64, 128)] if len(value) >= 192 else []
@@ -182,8 +184,8 @@ def explanation(line, original, ours, before):
 
 
 def differences(lines, original, ours):
-    """The places where the answers don't agree, each with the name of its difference or None; and those where they agree, and a rule of document 02 for the table has it
-    otherwise. Commands from a `z` on depend on each other."""
+    """The places where the answers don't agree, each with the name of its difference or None; and those where they agree,
+    and the model's table answers otherwise. Commands from a `z` on depend on each other."""
     before, table = [], model.Table()
     for at, line in enumerate(lines):
         if line == "z":

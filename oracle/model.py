@@ -1,17 +1,20 @@
 #!/usr/bin/env python3
-"""Document 01 as a program: answers the commands of COMMANDS.md, with the document's numbers behind `no`.
+"""The rules of docs/RULES.md as a plain program: answers the commands of COMMANDS.md, with the numbers of rule N1 after `no`.
 
-Usage: oracle/model.py [LEVEL] < COMMANDS. LEVEL is the last request of document 02 that counts for the kinds of 2026-04, 2026-08 and 2026-13, 4 without it; the shortfall of 2026-01,
-the stations of 2026-02 and the end marker of 2026-03 are here at any level. Of the stations this is the only opinion beside the library's, since the original has none.
-It shakes out the driver and the language, and stands beside the proved library as a second opinion on the numbers, which the original doesn't have.
-It follows document 01's text and the readings of its open points, as plainly as it goes. The generator takes its layouts from here.
+Usage: oracle/model.py [LEVEL] < COMMANDS
+LEVEL is the last request that counts for the kinds that there are, 4 without it: from 4 on kinds 21, 22 and 0xD4, from 8
+on 9 and 10, from 13 on no kind 30. All other rules hold at any level.
+
+The model tries out the driver and the command language. It is a second opinion beside the proved library on the numbers,
+which the original doesn't have, and on the stations, which it doesn't have either. The generator takes its layouts from
+here.
 """
 import itertools
 import sys
 
 STORE_PLACES, STORE_KEYS, PLACE = 32, 16, 1492
 MOST_STATIONS = 128
-# The last request of document 02 that counts, where none is named.
+# The last request that counts, where none is named.
 LEVEL = 4
 EXPIRES = 3000
 # Of the command language: bytes of a line, and bytes that come out of one.
@@ -133,7 +136,7 @@ COUNTED = {
 # To the end: bytes in front, bytes of an entry.
 TO_THE_END = {6: (6, 6), 7: (6, 7)}
 NOTHING_AFTER = {0, 30}
-# Kinds that hold text (2026-04): fixed fields of 64 bytes, the whole value, strings with their lengths.
+# Kinds that hold text (rules E5 to E8): fixed fields of 64 bytes, the whole value, strings with their lengths.
 TEXTS = set()
 KINDS, RECORD_KINDS, LIST_KINDS = [], [], []
 
@@ -156,7 +159,7 @@ use_level(LEVEL)
 
 
 def string_end(data, at):
-    """The offset behind a string with its one-byte length."""
+    """The offset after a string with its one-byte length."""
     return end_of_list(data, at, [(1, 1)])
 
 
@@ -194,7 +197,7 @@ def checked_texts(kind, data):
 
 
 def end_of_list(data, at, levels):
-    """The offset behind the list that starts at `at`; entries are fixed bytes, then the list of the level below."""
+    """The offset after the list that starts at `at`; entries are fixed bytes, then the list of the level below."""
     (count_bytes, fixed), below = levels[0], levels[1:]
     if len(data) < at + count_bytes:
         raise Refused(3)
@@ -450,10 +453,10 @@ class Table:
         return " ".join(text)
 
 
-# --- stations (2026-02) ---
+# --- stations (rules P1 to P7) ---
 
 class Stations:
-    """Which access point each station is at; addresses are words of twelve hex digits, which are in the order of the addresses."""
+    """The access point that each station is at; addresses are words of twelve hex digits, in the addresses' order."""
 
     def __init__(self):
         self.point_of = {}

@@ -1,6 +1,6 @@
-/* The header against the archive, the one thing that no proof ties together (rule C1): the order of a struct's fields in
-   memory and of a call's parameters, the numbers of refusals and answers, the sizes. Each is seen by a call that gives
-   it, with values that tell fields and parameters apart. */
+/* The header against the archive, the one thing that no proof ties together (rule C1): the order of a struct's fields
+   in memory and of a call's parameters, the numbers of refusals and answers, the sizes. Each is seen by a call that
+   gives it, with values that tell fields and parameters apart. */
 #include "../include/ashlar.h"
 #include <stdio.h>
 #include <string.h>
@@ -50,7 +50,8 @@ static void headings(void) {
 /* TLVs at 0, 5 and 8, the last with a length of two bytes, and one that begins at 267 and lacks its nine bytes */
 static const uint8_t row[279] = {0x92, 0, 2, 0xAA, 0xBB, 7, 0, 0, 0x83, 1, 0, [267] = 1, 0, 9};
 
-/* what a receive loop does: from so many bytes of the row it waits for those that are missing, as long as any are, and then has them all */
+/* what a receive loop does: from so many bytes of the row it waits for those that are missing, as long as any are, and
+   then has them all */
 static bool waits(size_t size) {
     AshlarWalk w = ashlar_walk(row, size);
     while (w.refusal && w.shortfall && w.shortfall <= sizeof row - size) {
@@ -99,7 +100,8 @@ static void walks(void) {
     check("ASHLAR_TLVS: as many as a payload can have", w.count == ASHLAR_TLVS(9) && w.refusal == ASHLAR_OK);
 }
 
-/* a TLV of type 0 with a length, one of type 1, the end marker, and nine bytes of padding: a role that would read, and then no TLV */
+/* a TLV of type 0 with a length, one of type 1, the end marker, and nine bytes of padding: a role that would read, and
+   then no TLV */
 static const uint8_t padded[20] = {0, 0, 1, 9, 1, 0, 1, 5, 0, 0, 0, 13, 0, 1, 0, 0xFF, 0xFF, 0xFF, 1, 0};
 
 static void paddings(void) {
@@ -126,7 +128,8 @@ static void paddings(void) {
 
 /* ---- Reading and finding ---- */
 
-/* a value of each kind, one entry at each level of a list, and what is answered where its last byte lacks: of a text, half of its last character is left */
+/* a value of each kind, one entry at each level of a list, and what is answered where its last byte lacks: of a text,
+   half of its last character is left */
 static const struct {
     const char *name;
     uint8_t code, cut;

@@ -86,7 +86,8 @@ static uint8_t code(void) {
     return below(4) ? codes[below(24)] : (uint8_t)any();
 }
 
-/* a text of up to so many bytes: the first and last characters of each length, zeros, now and then what is no character, or one that is cut */
+/* a text of up to so many bytes: the first and last characters of each length, zeros, now and then what is no
+   character, or one that is cut */
 static size_t letters(uint8_t *at, size_t most) {
     static const char *const good[10] = {"a", "\x7F", "\xC2\x80", "\xDF\xBF", "\xE0\xA0\x80", "\xED\x9F\xBF", "\xEE\x80\x80", "\xEF\xBF\xBF", "\xF0\x90\x80\x80", "\xF4\x8F\xBF\xBF"};
     static const char *const bad[10] = {"\x80", "\xC0\x80", "\xC1\xBF", "\xC2", "\xE0\x9F\xBF", "\xED\xA0\x80", "\xF0\x8F\xBF\xBF", "\xF4\x90\x80\x80", "\xF5\x80\x80\x80", "\xFF"};

@@ -5,8 +5,8 @@ shopt -s lastpipe
 passed=0
 failed=0
 
-# Runs a built program as rt does: it is compiled for x86-64, so on another processor the kit's emulator runs it. A check sets the seconds that it may take:
-# one that goes on for ever is to fail.
+# Runs a built program as rt does: it is compiled for x86-64, so on another processor the kit's emulator runs it. A
+# check sets the seconds that it may take: one that goes on for ever is to fail.
 seconds=
 program() { # NAME
     local home tools emulator
@@ -33,8 +33,8 @@ told() { # NAME STATUS
     fi
 }
 
-# A C program over the archive of exported calls: tests/NAME.c and the sources named, built, and run with the arguments. It prints lines that begin 'ok ' or
-# 'FAILED ', which are counted; the last line has the counts.
+# A C program over the archive of exported calls: tests/NAME.c and the sources named, built, and run with the arguments.
+# It prints lines that begin 'ok ' or 'FAILED ', which are counted; the last line has the counts.
 c_program() { # NAME SOURCES ARGUMENTS..
     local name=$1 sources=$2 work=target/$1 status
     shift 2
@@ -52,8 +52,9 @@ c_program() { # NAME SOURCES ARGUMENTS..
     [ "$failed" -eq 0 ] && [ "$passed" -gt 0 ]
 }
 
-# Builds target/NAME/NAME of C sources and the archive of exported calls; `emulator` then says what has to run it, where something has to. Installs the Debian packages that
-# it needs (as root); where they can't be had it says so and fails, with the counts in the last line.
+# Builds target/NAME/NAME of C sources and the archive of exported calls; `emulator` then says what has to run it, where
+# something has to. Installs the Debian packages that it needs (as root); where they can't be had it says so and fails,
+# with the counts in the last line.
 c_built() { # NAME SOURCES..
     local name=$1 work=target/$1
     shift
@@ -62,7 +63,8 @@ c_built() { # NAME SOURCES..
         lacking "the program could not be built; $work/gcc.log says why"
 }
 
-# The archive of exported calls, proved and built anew where a file of crates/ is newer than it, and what builds and takes apart programs for x86-64.
+# The archive of exported calls, proved and built anew where a file of crates/ is newer than it, and what builds and
+# takes apart programs for x86-64.
 archive=target/staticlib/libashlar.a
 archive_built() { # NAME
     local name=$1 work=target/$1

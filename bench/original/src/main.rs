@@ -1,5 +1,6 @@
-//! rows ROW TURNS [SIZE]: the work of ../rows.c by the original, with the same answers. What a turn needs is made before the first turn, and for
-//! MOST turns whatever TURNS is. `rows list` reads a payload from standard input and lists its TLVs, as tlvlist does.
+//! rows ROW TURNS [SIZE]: the work of ../rows.c by the original, with the same answers. What a turn needs is made
+//! before the first turn, and for MOST turns whatever TURNS is. `rows list` reads a payload from standard input and
+//! lists its TLVs, as tlvlist does.
 
 use pnet::datalink::MacAddr;
 use rows::cmdu::{CMDU, TLV};

@@ -1,4 +1,5 @@
-//! A clock that the commands set: the standard library's `Instant` links to this `clock_gettime`, so the original sees exactly these milliseconds.
+//! A clock that the commands set: the standard library's `Instant` links to this `clock_gettime`, so the original sees
+//! exactly these milliseconds.
 
 use std::sync::atomic::{AtomicU64, Ordering};
 use std::time::Instant;
@@ -27,7 +28,8 @@ pub fn set(milliseconds: u64) {
     NOW.store(milliseconds, Ordering::Relaxed);
 }
 
-/// How often the clock was read. Tokio's own clock is paused and doesn't read it, so a rise shows that the worker went round.
+/// How often the clock was read. Tokio's own clock is paused and doesn't read it, so a rise shows that the worker went
+/// round.
 pub fn readings() -> u64 {
     READINGS.load(Ordering::Relaxed)
 }

@@ -1,4 +1,5 @@
-//! Each kind of document 01: its fields and entries in the words of ../COMMANDS.md, read, written and found by the original's own code.
+//! Each kind of rule K2: its fields and entries in the words of ../COMMANDS.md, read, written and found by the
+//! original's own code.
 
 use crate::words::{Bad, Fields, number, shown, six, word};
 use driver::cmdu_codec::*;
@@ -20,8 +21,8 @@ fn leaves(bytes: &[u8]) -> Vec<Entry> {
     bytes.iter().map(|byte| leaf(vec![*byte])).collect()
 }
 
-/// What a kind shows. The bytes of an entry come from the original's writer: that of the entry where it is public, else that of a value that
-/// holds this entry alone, without what stands in front of it.
+/// What a kind shows. The bytes of an entry come from the original's writer: that of the entry where it is public, else
+/// that of a value that holds this entry alone, without what stands in front of it.
 pub trait Shown: TLVTrait {
     fn fields(&self) -> String;
 
@@ -366,7 +367,8 @@ impl Shown for LinkMetricRx {
     }
 }
 
-/// The last request of document 02 that counts; it decides which kinds there are. Without one that is named, the one that `model.py` takes.
+/// The last request that counts; it decides which kinds there are. Without one that is named, the one that `model.py`
+/// takes.
 pub static LEVEL: AtomicU8 = AtomicU8::new(4);
 
 /// What is asked of a kind; one match on the code for all of it.

@@ -15,7 +15,8 @@ use words::{Bad, Fields, LONGEST_LINE, bytes, checksum, number, shown, six, word
 
 const NO: &str = "no";
 
-/// TLVs from the start up to the end marker, or until no byte is left: each with its offset; or the offset of the one that doesn't read.
+/// TLVs from the start up to the end marker, or until no byte is left: each with its offset; or the offset of the one
+/// that doesn't read.
 fn walk(payload: &[u8]) -> Result<Vec<(usize, TLV)>, usize> {
     let mut found = Vec::new();
     let mut rest = payload;
@@ -251,8 +252,9 @@ impl Ask for FindAll<'_> {
     }
 }
 
-/// Find over a list of records that the command gives. The original has no such list: it gets the TLVs that lie inside the payload, each with
-/// the record's type and the value behind its offset, and its answer is taken back to the place in the list.
+/// Find over a list of records that the command gives. The original has no such list: it gets the TLVs that lie inside
+/// the payload, each with the record's type and the value behind its offset, and its answer is taken back to the place
+/// in the list.
 fn find_listed(kind: u8, records: &str, payload: &[u8]) -> Result<String, Bad> {
     let (mut tlvs, mut places) = (Vec::new(), Vec::new());
     for (place, record) in records.split(',').filter(|text| *text != "-").enumerate() {

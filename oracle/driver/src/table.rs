@@ -1,4 +1,5 @@
-//! The original's reassembler under commands: its worker goes round exactly once per sweep, at the time that the command sets.
+//! The original's reassembler under commands: its worker goes round exactly once per sweep, at the time that the
+//! command sets.
 
 use crate::clock;
 use crate::words::shown;
