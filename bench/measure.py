@@ -1,12 +1,14 @@
-"""Counts the instructions of each row in the three programs that bench/run built, and writes docs/BENCHMARK.md and docs/benchmark.png.
+"""Counts the instructions of each row in the three programs that bench/run built; writes docs/BENCHMARK.md and its picture.
 
-A row's count is the difference of a run with 40 turns and one with 20, over 20. Before it counts, they must give the same answer.
+A row's count is the difference of a run with 40 turns and one with 20, over 20. Before it counts, they must give the same
+answer.
 """
 import datetime
 import os
 import re
 import subprocess
 import sys
+import textwrap
 
 WORK = "target/bench"
 HOME = os.path.dirname(os.path.dirname(subprocess.run(["rt", "doc"], capture_output=True, text=True, check=True).stdout.strip()))
@@ -160,6 +162,15 @@ def picture(walks, pushes):
     figure.savefig("docs/benchmark.png", dpi=110, metadata={"Software": None})
 
 
+def growth(walks, pushes):
+    """In two sentences what the picture shows: the cost of a TLV in the longest walk, and the range of a waiting push."""
+    for_each = {who: f"{counts / WALKS[-1]:.1f}" for who, counts in walks[-1].items()}
+    spans = {who: f"{shown(min(c[who] for c in pushes))} to {shown(max(c[who] for c in pushes))}" for who in PROGRAMS}
+    walk, push = (f"{by['ours']}{of}, plain C {by['plain']}, the original {by['original']}"
+                  for by, of in ((for_each, " instructions for each TLV"), (spans, " as the table fills")))
+    return f"A walk takes {walk}.\nA push that waits takes {push}.\n"
+
+
 def main():
     # asked first, so that a document is written whole or not at all
     known = list(versions())
@@ -172,7 +183,9 @@ def main():
         print(f"{words}: {counts}{' MISSES: ' + '; '.join(missed) if missed else ''}", flush=True)
         table.append(f"| {title} | {shown(counts['plain'])} | {shown(counts['original']) if original else 'no such call'} | {shown(counts['ours'])} | {ratio(counts, 'plain')} | {ratio(counts, 'original')} | {', '.join(bars)} | {'missed' if missed else 'kept'} |")
         if missed:
-            misses.append(f"- **{title}** (`{words}`): {'; '.join(missed)}. {told.get(words, 'The reason is not recorded yet.')}")
+            why = told.get(words, "The reason is not recorded yet.")
+            said = f"- **{title}** (`{words}`): {'; '.join(missed)}. {why}"
+            misses.append(textwrap.fill(said, 120, subsequent_indent="  ", break_on_hyphens=False))
     walks = [counted(f"walk {n}") for n in WALKS]
     pushes = [counted(f"wait {u}") for u in USED]
     picture(walks, pushes)
@@ -182,36 +195,35 @@ def main():
     with open("docs/BENCHMARK.md", "w", encoding="utf-8") as f:
         f.write(f"""# Speed and stack
 
-Made by `bench/run` on {datetime.date.today().isoformat()}; not to be edited by hand. Instructions of x86-64 executed for one turn, counted by an emulator's plugin:
-the difference of runs with {2 * TURNS} and {TURNS} turns, over {TURNS}. Before it is counted, a row's answers are seen to be the same.
+Made by `bench/run` on {datetime.date.today().isoformat()}; not to be edited by hand. The numbers are instructions of x86-64
+executed for one turn, counted by a plugin of an emulator: the difference of runs with {2 * TURNS} and {TURNS} turns, over {TURNS}.
+A row is counted only if all programs give the same answer.
 
-- The programs run in one fixed environment, because a copy of the table on the stack costs more or less as the stack lies. With environments of ten lengths, tried before the requests of document 02, ours moved by 48 in a push
-  that completes, by 12 in one that waits and in a sweep that drops none, and by 204 in one that drops all; every bar was kept at each. Walk, typed reads and find did not move. The
-  original's rows of push differ a little from run to run.
-- Plain C is `bench/plain.c`: written by hand, zero-copy, with the same checks, refusals and calls as ours.
-- The original is unchanged. Its rows pay for its own lists and buffers, whose making and freeing belongs to what it does; the fragments that it is pushed are made before
-  the first turn. Its sweep runs in its worker, so a sweep's row has the turn of the runtime that wakes the worker in it.
-  It reads a header only together with what follows it, so the header's row stands beside plain C alone.
-- Ours are the exported calls of the crate `ashlar`, linked as an archive; tlvlist is the proved program.
-- The original's find hands over the value itself, ours and plain C say where it lies, once it has been seen to read: so their turns copy the six bytes out.
-- A waiting push is held to 900 instructions beyond the copy of its payload, which by itself takes {copies[16]:,.0f} for 16 bytes and {copies[1492]:,.0f} for 1,492.
-- A text is held to 3 instructions a byte, beside plain C alone: the original replaces what is no UTF-8 and cuts texts, so it does other work.
-- The original has no table of stations: a station's rows stand beside plain C alone, and are held to 1,500 instructions. The station is that of the last row, which is found last.
+- **Plain C** is `bench/plain.c`: written by hand, without copies, with the same checks, refusals and calls as ours.
+- **Original** is the Rust code that was ported, unchanged. Its rows include its own lists and buffers; the fragments that
+  are pushed to it are made before the first turn. A row of its sweep includes the turn of the runtime that wakes its
+  worker. Its rows of push differ a little from run to run.
+- **Ours** are the calls of include/ashlar.h, linked as an archive. tlvlist is the proved program.
+- The programs run in one fixed environment, because copying a table on the stack costs more or less as the stack lies.
+- Bars are set against plain C, the original, or a number of instructions. A waiting push may take 900 beyond the copy of
+  its payload, which by itself takes {copies[16]:,.0f} for 16 bytes and {copies[1492]:,.0f} for 1,492. A text may take 3 for each byte. A call
+  of the station table may take 1,500; the station is the one that is found last.
+- Some rows have no original: it reads a header only together with what follows it, it cuts and replaces texts, and it has
+  no station table. Its find returns the value itself; ours and plain C say where it lies, so their turns copy it out.
 
 | Work | Plain C | Original | Ours | to plain C | to the original | Bar | |
 |---|---:|---:|---:|---:|---:|---|---|
 """)
         f.write("\n".join(table) + "\n\n## Rows that miss their bar\n\n")
-        f.write(("\n".join(misses) if misses else "None.") + "\n\n## How cost grows\n\n![Instructions of a walk by its TLVs, and of a waiting push by the places used](benchmark.png)\n\n")
-        f.write("| TLVs walked | Plain C | Original | Ours |\n|---:|---:|---:|---:|\n")
-        f.writelines(f"| {n:,} | {shown(c['plain'])} | {shown(c['original'])} | {shown(c['ours'])} |\n" for n, c in zip(WALKS, walks))
-        f.write("\n| Places used after a waiting push | Plain C | Original | Ours |\n|---:|---:|---:|---:|\n")
-        f.writelines(f"| {u + 1} | {shown(c['plain'])} | {shown(c['original'])} | {shown(c['ours'])} |\n" for u, c in zip(USED, pushes))
+        f.write(("\n".join(misses) if misses else "None.") + "\n\n## How cost grows\n\n")
+        f.write(growth(walks, pushes))
         f.write("""
+![Instructions of a walk by its TLVs, and of a waiting push by the places used](benchmark.png)
+
 ## Stack
 
-Bytes of stack that a call takes with all that it calls, its return address included, read off the archive by `bench/stack`, which fails where a frame isn't constant. The gate holds
-each to its bar (`tests/stack`).
+Bytes of stack that a call takes with all that it calls, its return address included. `bench/stack` reads them off the
+archive, and fails where a frame isn't constant. The gate compares each with its bar (rule C3, `tests/stack`).
 
 | Call | Bytes | Bar | Deepest way | |
 |---|---:|---:|---|---|
