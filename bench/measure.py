@@ -205,9 +205,9 @@ A row is counted only if all programs give the same answer.
   its worker. Its rows of push differ a little from run to run.
 - **Ours** are the calls of include/ashlar.h, linked as an archive. tlvlist is the proved program.
 - The programs run in one fixed environment, because copying a table on the stack costs more or less as the stack lies.
-- Bars are set against plain C, the original, or a number of instructions. A waiting push may take 900 beyond the copy of
-  its payload, which by itself takes {copies[16]:,.0f} for 16 bytes and {copies[1492]:,.0f} for 1,492. A text may take 3 for each byte. A call
-  of the station table may take 1,500; the station is the one that is found last.
+- Bars are set against plain C, the original, or a number of instructions. A waiting push may take 900 beyond the copy
+  of its payload, which by itself takes {copies[16]:,.0f} for 16 bytes and {copies[1492]:,.0f} for 1,492. A text may take 3 for each
+  byte. A call of the station table may take 1,500; the station is the one that is found last.
 - Some rows have no original: it reads a header only together with what follows it, it cuts and replaces texts, and it
   has no station table. Its find returns the value itself; ours and plain C say where it lies, so their turns copy it
   out.
