@@ -187,9 +187,9 @@ typedef struct {
     size_t padding;   /* how many bytes follow the marker, which are not looked at; 0 without one or where
                          refused */
     size_t at;        /* where refused, the offset of the TLV that doesn't read (1, 2) or fit (14); else 0 */
-    size_t shortfall; /* for 1 and 2, how many bytes are missing; else 0. Append fewer bytes to the payload,
-                         and the same number is refused at the same offset. Append exactly that many, and that
-                         number is not refused any more (rule W4). */
+    size_t shortfall; /* for 1 and 2, how many bytes are missing; else 0. With fewer bytes appended to the
+                         payload, the walk refuses with the same number at the same offset. With exactly that
+                         many appended, it doesn't refuse with that number any more (rule W4). */
     uint8_t refusal;  /* an AshlarRefusal */
 } AshlarWalk;
 
