@@ -1,4 +1,4 @@
-"""Counts the instructions of each row in the three programs that bench/run built; writes docs/BENCHMARK.md and its picture.
+"""Counts the instructions of each row in the programs that bench/run built; writes docs/BENCHMARK.md and its picture.
 
 A row's count is the difference of a run with 40 turns and one with 20, over 20. Before it counts, they must give the same
 answer.
@@ -163,7 +163,7 @@ def picture(walks, pushes):
 
 
 def growth(walks, pushes):
-    """In two sentences what the picture shows: the cost of a TLV in the longest walk, and the range of a waiting push."""
+    """What the picture shows, in two sentences: the cost of a TLV in the longest walk, the range of a waiting push."""
     for_each = {who: f"{counts / WALKS[-1]:.1f}" for who, counts in walks[-1].items()}
     spans = {who: f"{shown(min(c[who] for c in pushes))} to {shown(max(c[who] for c in pushes))}" for who in PROGRAMS}
     walk, push = (f"{by['ours']}{of}, plain C {by['plain']}, the original {by['original']}"

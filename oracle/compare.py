@@ -8,8 +8,8 @@ import model
 
 
 def agree(original, ours):
-    """Refusals agree whatever the number, which the original doesn't have; `-` is what it can't know. The original's four
-    counts of a sweep are compared by their sum (rule S2)."""
+    """Refusals agree whatever the number, which the original doesn't have; `-` is what it can't know. The original's
+    four counts of a sweep are compared by their sum (rule S2)."""
     if original == ours:
         return True
     first, second = original.split(" "), ours.split(" ")
@@ -68,8 +68,8 @@ class Replacing(model.Table):
 
 
 def first_copy_kept(words, original, ours, before):
-    """The original replaces the kept fragment by the duplicate; rule T5 doesn't. Both are played over the group, from its
-    start on."""
+    """The original replaces the kept fragment by the duplicate; rule T5 doesn't. Both are played over the group, from
+    its start on."""
     lines = [line for line, _, _ in before] + [" ".join(words)]
     if words[0] not in "pc" or lines[0] != "z":
         return False
@@ -94,7 +94,7 @@ BLANK = "\t\n\x0b\x0c\r \x85\xa0\u1680" + "".join(map(chr, range(0x2000, 0x200b)
 
 
 def kept_by_original(text, fixed):
-    """What the original keeps of a text: what isn't UTF-8 replaced, zeros taken off both ends, in a field blanks too."""
+    """What the original keeps of a text: no UTF-8 is replaced, zeros are taken off both ends, in a field blanks too."""
     kept = text.decode("utf-8", "replace").strip("\0")
     return (kept.strip(BLANK) if fixed else kept).encode()
 
@@ -184,8 +184,8 @@ def explanation(line, original, ours, before):
 
 
 def differences(lines, original, ours):
-    """The places where the answers don't agree, each with the name of its difference or None; and those where they agree,
-    and the model's table answers otherwise. Commands from a `z` on depend on each other."""
+    """The places where the answers don't agree, each with the name of its difference or None; and those where they
+    agree, and the model's table answers otherwise. Commands from a `z` on depend on each other."""
     before, table = [], model.Table()
     for at, line in enumerate(lines):
         if line == "z":

@@ -1,13 +1,13 @@
 #!/usr/bin/env python3
-"""The rules of docs/RULES.md as a plain program: answers the commands of COMMANDS.md, with the numbers of rule N1 after `no`.
+"""docs/RULES.md as a plain program: answers the commands of COMMANDS.md, with the numbers of rule N1 after `no`.
 
 Usage: oracle/model.py [LEVEL] < COMMANDS
 LEVEL is the last request that counts for the kinds that there are, 4 without it: from 4 on kinds 21, 22 and 0xD4, from 8
 on 9 and 10, from 13 on no kind 30. All other rules hold at any level.
 
-The model tries out the driver and the command language. It is a second opinion beside the proved library on the numbers,
-which the original doesn't have, and on the stations, which it doesn't have either. The generator takes its layouts from
-here.
+The model tries out the driver and the command language. It is a second opinion beside the proved library on the
+numbers, which the original doesn't have, and on the stations, which it doesn't have either. The generator takes its
+layouts from here.
 """
 import itertools
 import sys

@@ -355,7 +355,7 @@ static void limits(void) {
     check("ASHLAR_MESSAGE: the longest that can be joined", answered(pushed(piece(1, ASHLAR_PLACES, true), ASHLAR_PAYLOAD), ASHLAR_JOINED, ASHLAR_MESSAGE));
 }
 
-/* sixteen keys are due, or none; a key that holds nothing, which no call leaves, is dropped and counted like any other */
+/* sixteen keys are due, or none; a key that holds nothing, which no call leaves, is dropped and counted like others */
 static void sweeps(void) {
     table = ashlar_fresh();
     for (uint64_t key = 0; key + 1 < ASHLAR_KEYS; key++) pushed(piece(key, 0, false), 5), pushed(piece(key, 1, false), 5);
