@@ -219,9 +219,9 @@ typedef struct {
 } AshlarPart;
 
 /* The fragments that are held, without their payloads (rules T1 and T14). Only to be looked at. A row of
-   `row_keys`, `firsts` and `used` is a message that waits. A row of the other lists is a place with a fragment
-   of it. Where a row or a place is free, all its elements are 0. No fragment that is held is marked last: one
-   that is marked ends its message at once, or is a duplicate. */
+   `row_keys`, `firsts` and `used` is a message that waits. A row of the other lists is a place with a
+   fragment of it. Where a row or a place is free, all its elements are 0. No fragment that is held is marked
+   last: one that is marked ends its message at once, or is a duplicate. */
 typedef struct {
     uint64_t row_keys[ASHLAR_KEYS];         /* the key of the message */
     uint64_t firsts[ASHLAR_KEYS];           /* the time at which its first fragment came */
