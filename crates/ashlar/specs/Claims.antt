@@ -11,6 +11,7 @@ use Rattle.walking.specs.declared.Tlv.{Tlv}
 use Rattle.walking.specs.Walk.{walkOf, counted, listed, filled}
 use Rattle.kinds.specs.Kinds.{readKind, locateTextIn}
 use Rattle.finding.specs.Finding.{findFrom}
+use Rattle.texts.specs.Texts.{inventoryCode}
 use Rattle.texts.specs.Access.{locateRadio, locateRadioText}
 use Rattle.table.specs.declared.Table.{Table}
 use Rattle.table.specs.Rows.{freshTable}
@@ -42,7 +43,7 @@ pub record Firmness : Type 0 where
   pub ashlar-find : (list : List Tlv) (payload : List ℕ) (code from : ℕ)
       → Firm (λ r. r ≡ foundNumbers (mapped (λ h. h .place) (findFrom code list payload from)))
   pub ashlar-text : (code number : ℕ) (value : List ℕ) → Firm (λ r. r ≡ partNumbers (locateTextIn code number value))
-  pub ashlar-radio : (number : ℕ) (value : List ℕ) → Firm (λ r. r ≡ partNumbers (locateRadio 0xD4 (number ∷ []) value))
+  pub ashlar-radio : (number : ℕ) (value : List ℕ) → Firm (λ r. r ≡ partNumbers (locateRadio inventoryCode (number ∷ []) value))
   pub ashlar-radio-text : (number : ℕ) (value : List ℕ) → Firm (λ r. r ≡ partNumbers (locateRadioText number value))
   pub ashlar-fresh : Firm (λ r. r ≡ freshTable)
   pub ashlar-push : (t : Table) (store out : List ℕ) (a : Arrival) (payload : List ℕ)

@@ -25,6 +25,7 @@ ghost use Rattle.framing.specs.Cmdu.{readHeader};
 ghost use Rattle.walking.specs.Walk.{walkOf, counted, listed, filled};
 ghost use Rattle.kinds.specs.Kinds.{readKind, locateTextIn};
 ghost use Rattle.finding.specs.Finding.{findFrom};
+ghost use Rattle.texts.specs.Texts.{inventoryCode};
 ghost use Rattle.texts.specs.Access.{locateRadio, locateRadioText};
 ghost use Rattle.table.specs.Rows.{freshTable};
 ghost use Rattle.pushing.specs.Push.{way};
@@ -93,7 +94,7 @@ pub extern "C" fn ashlar_text(code: u8, number: usize, value: &[u8]) -> AshlarPa
 // and its text.
 #[no_mangle]
 pub extern "C" fn ashlar_radio(number: usize, value: &[u8]) -> AshlarPart
-    ensures { λ r. ⌜ r ≡ partNumbers (locateRadio 0xD4 (number ∷ []) (now (value .entry))) ⌝ }
+    ensures { λ r. ⌜ r ≡ partNumbers (locateRadio inventoryCode (number ∷ []) (now (value .entry))) ⌝ }
 {
     let path = Path {
         depth: 1,
@@ -101,7 +102,7 @@ pub extern "C" fn ashlar_radio(number: usize, value: &[u8]) -> AshlarPart
         i1: 0,
         i2: 0,
     };
-    c_answers::part_numbers(texts::locate(0xD4, path, value))
+    c_answers::part_numbers(texts::locate(texts::DEVICE_INVENTORY, path, value))
 }
 
 // Where the text of the radio with this number lies in a value of kind 0xD4.

@@ -20,7 +20,7 @@ use Rattle.record_writing.specs.Writing.{readable, recordSize}
 use Rattle.layouts.specs.Layouts.{isList}
 use Rattle.layouts.specs.declared.Path.{Path}
 use Rattle.layouts.specs.Access.{numbersOf, locatedOf, countedOf, partOf, startIn}
-use Rattle.texts.specs.Texts.{isText}
+use Rattle.texts.specs.Texts.{inventoryCode, isText}
 use Rattle.texts.specs.Access.{locateRadioText}
 use Rattle.kinds.specs.Kinds.{Typed, one, isKind, kindReadOf, readKind, kindSizeOf, withoutRecord, locateKind, countKind, locateTextIn}
 use Rattle.kinds.specs.Writing.{writeKind, kindBytes}
@@ -58,8 +58,8 @@ pub record SameValue (code : ℕ) (t : Typed Record) (s v : List ℕ) : Type 0 w
   pub parts : (numbers : List ℕ) → partOf (locateKind code numbers v) v ≡ partOf (locateKind code numbers s) s
   pub texts : (i : ℕ) → locateTextIn code i v ≡ locateTextIn code i s
   pub text-parts : (i : ℕ) → partOf (locateTextIn code i v) v ≡ partOf (locateTextIn code i s) s
-  pub radio-texts : code ≡ 0xD4 → (i : ℕ) → locateRadioText i v ≡ locateRadioText i s
-  pub radio-text-parts : code ≡ 0xD4 → (i : ℕ) → partOf (locateRadioText i v) v ≡ partOf (locateRadioText i s) s
+  pub radio-texts : code ≡ inventoryCode → (i : ℕ) → locateRadioText i v ≡ locateRadioText i s
+  pub radio-text-parts : code ≡ inventoryCode → (i : ℕ) → partOf (locateRadioText i v) v ≡ partOf (locateRadioText i s) s
 
 -- what is written from a value reads back, whatever stands after it
 abbrev pub ReadsBack : Type 0

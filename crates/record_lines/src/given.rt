@@ -145,9 +145,9 @@ fn several_in(code: u8, line: &[u8]) -> Record
     ensures { λ r. ⌜ (codeOf (kindOf r) ≡ code) ⊎ (r ≡ Record.EndOfMessage) ⌝ }
 {
     match code {
-        8 => Record::LinkMetricQuery(query_in(line)),
-        0x92 => Record::ClientAssociation(association_in(line)),
-        0xB4 => Record::Profile2ApCapability(capability_in(line)),
+        records::LINK_METRIC_QUERY => Record::LinkMetricQuery(query_in(line)),
+        records::CLIENT_ASSOCIATION => Record::ClientAssociation(association_in(line)),
+        records::PROFILE2_AP_CAPABILITY => Record::Profile2ApCapability(capability_in(line)),
         _ => Record::EndOfMessage,
     }
 }
@@ -157,10 +157,16 @@ fn coded_in(code: u8, line: &[u8]) -> Record
     ensures { λ r. ⌜ (codeOf (kindOf r) ≡ code) ⊎ (r ≡ Record.EndOfMessage) ⌝ }
 {
     match code {
-        12 => Record::LinkMetricResultCode(result_of(code_in(line, 3))),
-        16 => Record::SupportedFreqBand(band_of(code_in(line, 3))),
-        26 => Record::Ieee1905ProfileVersion(version_of(code_in(line, 3))),
-        0xB3 => Record::MultiApProfile(profile_of(code_in(line, 3))),
+        records::LINK_METRIC_RESULT_CODE => Record::LinkMetricResultCode(result_of(code_in(
+            line,
+            3,
+        ))),
+        records::SUPPORTED_FREQ_BAND => Record::SupportedFreqBand(band_of(code_in(line, 3))),
+        records::IEEE1905_PROFILE_VERSION => Record::Ieee1905ProfileVersion(version_of(code_in(
+            line,
+            3,
+        ))),
+        records::MULTI_AP_PROFILE => Record::MultiApProfile(profile_of(code_in(line, 3))),
         _ => several_in(code, line),
     }
 }
@@ -170,10 +176,10 @@ pub fn record_in(code: u8, line: &[u8]) -> Record
     ensures { λ r. ⌜ (codeOf (kindOf r) ≡ code) ⊎ (r ≡ Record.EndOfMessage) ⌝ }
 {
     match code {
-        1 => Record::AlMacAddress(address_in(line, 3)),
-        2 => Record::MacAddress(address_in(line, 3)),
-        13 => Record::SearchedRole(command_lines::byte_in(line, 3)),
-        15 => Record::SupportedRole(command_lines::byte_in(line, 3)),
+        records::AL_MAC_ADDRESS => Record::AlMacAddress(address_in(line, 3)),
+        records::MAC_ADDRESS => Record::MacAddress(address_in(line, 3)),
+        records::SEARCHED_ROLE => Record::SearchedRole(command_lines::byte_in(line, 3)),
+        records::SUPPORTED_ROLE => Record::SupportedRole(command_lines::byte_in(line, 3)),
         _ => coded_in(code, line),
     }
 }

@@ -4,7 +4,7 @@ use mathlib.Core.List.{List, [], _∷_}
 use Prim.Native.Nat.{ℕ}
 use Rattle.numbers.specs.Numbers.{Answer, gives, refuses, andThen, mapped}
 use Rattle.layouts.specs.Access.{Span, nthOf}
-use Rattle.texts.specs.Texts.{TextKind, textKind, radio}
+use Rattle.texts.specs.Texts.{TextKind, inventoryCode, textKind, radio}
 use Rattle.texts.specs.Reading.{textSpan, Laid, wholeOf}
 
 -- what is asked of a value that reads
@@ -34,4 +34,4 @@ unfoldable pub locateText : ℕ → ℕ → List ℕ → Answer Span
 locateText code i s = ofText code (λ k v. mapped (textSpan (k .piece) s) (nthOf (v .texts .each) i)) s
 
 unfoldable pub locateRadioText : ℕ → List ℕ → Answer Span
-locateRadioText i s = mapped (textSpan radio s) (locateRadio 0xD4 (i ∷ []) s)
+locateRadioText i s = mapped (textSpan radio s) (locateRadio inventoryCode (i ∷ []) s)

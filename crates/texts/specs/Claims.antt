@@ -13,7 +13,7 @@ use Rattle.layouts.specs.Reading.{Consumed, readingOf}
 use Rattle.layouts.specs.Access.{numbersOf, Span, locatedOf, partOf, startIn, countedOf}
 use Rattle.layouts.specs.Claims.{Shown}
 use Rattle.utf8.specs.Utf8.{isUtf8}
-use Rattle.texts.specs.Texts.{TextKind, textKind, isText}
+use Rattle.texts.specs.Texts.{TextKind, inventoryCode, textKind, isText}
 use Rattle.texts.specs.Reading.{readText}
 use Rattle.texts.specs.Access.{locateRadio, countRadios, locateText, locateRadioText}
 
@@ -58,10 +58,10 @@ pub record TextValues : Type 0 where
   -- every radio can be asked for, and has a text; and no other entry can
   pub every-radio : (code : ℕ) (s : List ℕ) (r : Consumed) (i : ℕ) → readText code s ≡ gives r → i < r .entries →
       Shown (locateRadio code (i ∷ []) s) (r .consumed)
-  pub every-radio-text : (s : List ℕ) (r : Consumed) (i : ℕ) → readText 0xD4 s ≡ gives r → i < r .entries →
+  pub every-radio-text : (s : List ℕ) (r : Consumed) (i : ℕ) → readText inventoryCode s ≡ gives r → i < r .entries →
       ValidText (locateRadioText i s) s (r .consumed)
   pub no-other : (code i : ℕ) (s : List ℕ) (r : Consumed) → readText code s ≡ gives r → r .entries ≤ i →
-      (locateRadio code (i ∷ []) s ≡ refuses 6 []) × (code ≡ 0xD4 → locateRadioText i s ≡ refuses 6 [])
+      (locateRadio code (i ∷ []) s ≡ refuses 6 []) × (code ≡ inventoryCode → locateRadioText i s ≡ refuses 6 [])
   pub one-number : (code i j : ℕ) (is s : List ℕ) (r : Consumed) → readText code s ≡ gives r →
       (locateRadio code [] s ≡ refuses 6 []) × (locateRadio code (i ∷ j ∷ is) s ≡ refuses 6 [])
   -- the value's own texts: so many as the kind has, three, one and three; beyond the last, 6
@@ -82,8 +82,8 @@ pub record TextAlone (code : ℕ) (s : List ℕ) (r : Consumed) : Type 0 where
   pub texts : (i : ℕ) → locateText code i (take (r .consumed) s) ≡ locateText code i s
   pub text-parts : (i : ℕ) →
       partOf (locateText code i (take (r .consumed) s)) (take (r .consumed) s) ≡ partOf (locateText code i s) s
-  pub radio-texts : code ≡ 0xD4 → (i : ℕ) → locateRadioText i (take (r .consumed) s) ≡ locateRadioText i s
-  pub radio-text-parts : code ≡ 0xD4 → (i : ℕ) →
+  pub radio-texts : code ≡ inventoryCode → (i : ℕ) → locateRadioText i (take (r .consumed) s) ≡ locateRadioText i s
+  pub radio-text-parts : code ≡ inventoryCode → (i : ℕ) →
       partOf (locateRadioText i (take (r .consumed) s)) (take (r .consumed) s) ≡ partOf (locateRadioText i s) s
 
 abbrev pub TextsAlone : Type 0

@@ -19,6 +19,10 @@ withPieces n l r = record { many = n; piece = l; radios = r }
 abbrev pub string : Layout
 string = c1-of (bytes 1)
 
+-- the code of DeviceInventory, the one kind that has radios
+abbrev pub inventoryCode : ℕ
+inventoryCode = 0xD4
+
 -- "`DeviceIdentificationType` (21, three fields of 64 bytes), `ControlUrl` (22, the whole value) and `DeviceInventory`
 -- (0xD4): three strings each with a one-byte length, then c1 of a 6-byte radio id and one such string"; 16 for any
 -- other code
@@ -26,7 +30,7 @@ unfoldable pub textKind : ℕ → Answer TextKind
 textKind code =
     cond (eqb code 21) (gives (withPieces 3 (bytes 64) false))
     (cond (eqb code 22) (gives (withPieces 1 (to-end-of (bytes 1)) false))
-    (cond (eqb code 0xD4) (gives (withPieces 3 string true))
+    (cond (eqb code inventoryCode) (gives (withPieces 3 string true))
     (refuses 16 [])))
 
 abbrev pub radio : Layout

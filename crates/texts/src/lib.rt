@@ -19,6 +19,13 @@ ghost use Rattle.texts.specs.Texts.{isText};
 ghost use Rattle.texts.specs.Reading.{readText};
 ghost use Rattle.texts.specs.Access.{locateRadio, countRadios, locateText, locateRadioText};
 
+// The codes of these kinds.
+pub const DEVICE_IDENTIFICATION_TYPE: u8 = 21;
+
+pub const CONTROL_URL: u8 = 22;
+
+pub const DEVICE_INVENTORY: u8 = 0xD4;
+
 // Whether the kind with this code is one of these.
 pub fn is_text(code: u8) -> bool
     ensures { λ r. ⌜ r ≡ isText code ⌝ }
@@ -105,7 +112,7 @@ pub fn locate_radio_text(number: usize, s: &[u8]) -> Located
         i1: 0,
         i2: 0,
     };
-    pieces::text_of(rows::radio(), locate(0xD4, path, s), s)
+    pieces::text_of(rows::radio(), locate(DEVICE_INVENTORY, path, s), s)
 }
 
 // That text as its own part of s; the empty start of s where `locate_radio_text` refuses.

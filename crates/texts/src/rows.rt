@@ -1,4 +1,7 @@
 // The table of the kinds that hold text.
+use crate::CONTROL_URL;
+use crate::DEVICE_IDENTIFICATION_TYPE;
+use crate::DEVICE_INVENTORY;
 use layouts::LayoutRow;
 use numbers::Refusal;
 ghost use mathlib.Core.Path.{_≡_};
@@ -74,12 +77,9 @@ pub(crate) fn row_of(code: u8) -> TextKindRow
     ensures { λ r. ⌜ rowTold r ≡ textKind code ⌝ }
 {
     match code {
-        // DeviceIdentificationType
-        21 => text_row(3, piece(0, 64, 0), false),
-        // ControlUrl
-        22 => text_row(1, piece(1, 0, 0), false),
-        // DeviceInventory
-        0xD4 => text_row(3, piece(1, 0, 1), true),
+        DEVICE_IDENTIFICATION_TYPE => text_row(3, piece(0, 64, 0), false),
+        CONTROL_URL => text_row(1, piece(1, 0, 0), false),
+        DEVICE_INVENTORY => text_row(3, piece(1, 0, 1), true),
         _ => TextKindRow::Refused(Refusal::UnknownKind),
     }
 }
