@@ -1,5 +1,5 @@
--- For private functions alone; no contract of a public call cites this file. What a row of the code's table says, and
--- what the steps of reading answer.
+-- For private functions alone; no contract of a public call cites this file. It says what a row of the code's table
+-- holds, and what the steps of reading answer.
 use mathlib.Core.Bool.{Bool, false, cond}
 use mathlib.Core.List.{List, []}
 use Prim.Native.Nat.{ℕ, _≤_}

@@ -18,7 +18,7 @@ ghost use Rattle.texts.specs.Reading.{textSpan, wholeOf};
 ghost use Rattle.texts.specs.Access.{radioIn, radioCount};
 ghost use Rattle.texts.specs.PrivateSteps.{rowKind, InValue};
 
-// What was located in s as its own part of it; the empty start of s where it is refused.
+// What was located in s, as its own part of it; the empty start of s where it is refused (rule A5).
 pub(crate) fn part(located: Located, s: &[u8]) -> &[u8]
     requires { ⌜ InValue (locatedOf located) (now s) ⌝ }
     ensures { λ r. ⌜ now r ≡ partOf (locatedOf located) (now (s .entry)) ⌝ }
@@ -45,7 +45,7 @@ pub(crate) fn radio_in(row: TextRow, path: Path, s: &[u8]) -> Located
     }
 }
 
-// How many radios such a value has: none, of a kind without them.
+// How many radios such a value has; a kind without radios has none.
 pub(crate) fn count_in(row: TextRow, path: Path, s: &[u8]) -> Counted
     ensures { λ r. ⌜ countedOf r ≡ andThen (wholeOf (rowKind row) (now (s .entry))) (λ v. radioCount (numbersOf path) v) ⌝ }
 {
@@ -64,7 +64,7 @@ pub(crate) fn count_in(row: TextRow, path: Path, s: &[u8]) -> Counted
     }
 }
 
-// The text with this number of such a value's own.
+// The value's own text with this number.
 pub(crate) fn text_in(row: TextRow, number: usize, s: &[u8]) -> Located
     ensures { λ r. ⌜ locatedOf r ≡ andThen (wholeOf (rowKind row) (now (s .entry))) (λ v. mapped (textSpan (rowLayout (row .piece)) (now (s .entry))) (nthOf (v .texts .each) number)) ⌝ }
 {

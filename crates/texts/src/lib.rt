@@ -1,5 +1,5 @@
-// TextValues that hold text, names and addresses of devices: the pieces that a text stands in, each text UTF-8, and a
-// text and a radio asked for by its number.
+// Values that hold text (rules E5 to E8). The pieces in which a text stands are read, and each text has to be UTF-8. A
+// text and a radio are asked for by their numbers.
 mod access;
 mod pieces;
 mod reading;
@@ -36,7 +36,7 @@ pub fn is_text(code: u8) -> bool
     }
 }
 
-// The value of the kind with this code at the start of s. Its entries are its radios.
+// The value of the kind with this code at the start of s (rule K1). Its entries are its radios.
 pub fn read_value(code: u8, s: &[u8]) -> Reading
     ensures { λ r. ⌜ readingOf r ≡ readText code (now (s .entry)) ⌝ }
 {
@@ -53,7 +53,8 @@ pub fn read_value(code: u8, s: &[u8]) -> Reading
     }
 }
 
-// Where the radio with these numbers lies in the value s: it has one number. The whole value has to read.
+// Where the radio with these numbers lies in the value s: a radio has one number (rule E8). The whole value has to
+// read.
 pub fn locate(code: u8, path: Path, s: &[u8]) -> Located
     ensures { λ r. ⌜ locatedOf r ≡ locateRadio code (numbersOf path) (now (s .entry)) ⌝ }
 {
@@ -63,8 +64,8 @@ pub fn locate(code: u8, path: Path, s: &[u8]) -> Located
     }
 }
 
-// The radio with these numbers as its own part of s, its id and its string with the length; the empty start of s where
-// `locate` refuses.
+// The radio with these numbers as its own part of s: its id, its length and its text. The empty start of s where
+// `locate` refuses (rule A5).
 pub fn entry(code: u8, path: Path, s: &[u8]) -> &[u8]
     ensures { λ r. ⌜ now r ≡ partOf (locateRadio code (numbersOf path) (now (s .entry))) (now (s .entry)) ⌝ }
     ensures place { λ r. ⌜ r .ptr ≡ behind (startIn (locateRadio code (numbersOf path) (now (s .entry)))) (s .entry) ⌝ }
@@ -72,8 +73,8 @@ pub fn entry(code: u8, path: Path, s: &[u8]) -> &[u8]
     access::part(locate(code, path, s), s)
 }
 
-// How many radios the value s has, asked for without numbers; none, of a kind without them. A radio has no entries to
-// count.
+// How many radios the value s has, asked without numbers (rule E3). A kind without radios has none. A radio has no
+// entries to count.
 pub fn count(code: u8, path: Path, s: &[u8]) -> Counted
     ensures { λ r. ⌜ countedOf r ≡ countRadios code (numbersOf path) (now (s .entry)) ⌝ }
 {
@@ -83,8 +84,8 @@ pub fn count(code: u8, path: Path, s: &[u8]) -> Counted
     }
 }
 
-// Where the text with this number lies in the value s, which has three, one and three of them besides those of its
-// radios. The whole value has to read.
+// Where the text with this number lies in the value s (rule E7): kinds 21 and 0xD4 have three, 22 has one. The texts of
+// radios are not among them. The whole value has to read.
 pub fn locate_text(code: u8, number: usize, s: &[u8]) -> Located
     ensures { λ r. ⌜ locatedOf r ≡ locateText code number (now (s .entry)) ⌝ }
 {
@@ -94,7 +95,7 @@ pub fn locate_text(code: u8, number: usize, s: &[u8]) -> Located
     }
 }
 
-// That text as its own part of s; the empty start of s where `locate_text` refuses.
+// That text as its own part of s; the empty start of s where `locate_text` refuses (rule A5).
 pub fn text(code: u8, number: usize, s: &[u8]) -> &[u8]
     ensures { λ r. ⌜ now r ≡ partOf (locateText code number (now (s .entry))) (now (s .entry)) ⌝ }
     ensures place { λ r. ⌜ r .ptr ≡ behind (startIn (locateText code number (now (s .entry)))) (s .entry) ⌝ }
@@ -102,7 +103,8 @@ pub fn text(code: u8, number: usize, s: &[u8]) -> &[u8]
     access::part(locate_text(code, number, s), s)
 }
 
-// Where the text of the radio with this number lies in the value s of DeviceInventory. The whole value has to read.
+// Where the text of the radio with this number lies in the value s of DeviceInventory (rule E8). The whole value has to
+// read.
 pub fn locate_radio_text(number: usize, s: &[u8]) -> Located
     ensures { λ r. ⌜ locatedOf r ≡ locateRadioText number (now (s .entry)) ⌝ }
 {
@@ -115,7 +117,7 @@ pub fn locate_radio_text(number: usize, s: &[u8]) -> Located
     pieces::text_of(rows::radio(), locate(DEVICE_INVENTORY, path, s), s)
 }
 
-// That text as its own part of s; the empty start of s where `locate_radio_text` refuses.
+// That text as its own part of s; the empty start of s where `locate_radio_text` refuses (rule A5).
 pub fn radio_text(number: usize, s: &[u8]) -> &[u8]
     ensures { λ r. ⌜ now r ≡ partOf (locateRadioText number (now (s .entry))) (now (s .entry)) ⌝ }
     ensures place { λ r. ⌜ r .ptr ≡ behind (startIn (locateRadioText number (now (s .entry)))) (s .entry) ⌝ }

@@ -22,7 +22,7 @@ pub(crate) struct TextAt {
     pub end: usize,
 }
 
-// How many bytes stand before the first zero byte; all of them, without one.
+// How many bytes stand before the first zero byte; all of them, where there is none (rule E6).
 fn until_zero(s: &[u8]) -> usize
     ensures { λ r. ⌜ (r ≡ untilZero (now (s .entry))) × (r ≤ length (now (s .entry))) ⌝ }
 {
@@ -84,7 +84,7 @@ pub(crate) fn text_of(row: LayoutRow, located: Located, s: &[u8]) -> Located
     }
 }
 
-// Whether the texts of n entries that are there, the first of which starts at `at`, are UTF-8.
+// Whether the texts of n entries that are there, the first of which starts at `at`, are UTF-8 (rule E5).
 pub(crate) fn all_valid(row: LayoutRow, n: usize, s: &[u8], at: usize) -> bool
     ensures { λ r. ⌜ r ≡ validIn (rowLayout row) (now (s .entry)) (spansFrom (endOf (rowLayout row) (now (s .entry))) n at) ⌝ }
 {

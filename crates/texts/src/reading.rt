@@ -1,4 +1,4 @@
-// A value that holds text, read whole: its layout first, and then its texts.
+// A value that holds text, read whole: its layout first, and then its texts (rule K7).
 use crate::pieces::all_valid;
 use crate::rows::TextRow;
 use crate::rows::radio;

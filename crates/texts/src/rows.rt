@@ -1,4 +1,4 @@
-// The table of the kinds that hold text.
+// The table of the kinds that hold text (rule K2).
 use crate::CONTROL_URL;
 use crate::DEVICE_IDENTIFICATION_TYPE;
 use crate::DEVICE_INVENTORY;
@@ -10,7 +10,7 @@ ghost use Rattle.layouts.specs.Rows.{rowLayout};
 ghost use Rattle.texts.specs.Texts.{textKind, radio};
 ghost use Rattle.texts.specs.PrivateSteps.{rowTold};
 
-// A row of the table: so many pieces of this layout, and then the radios, where there are any.
+// A row of the table: the number of pieces, their layout, and whether radios follow.
 pub(crate) struct TextRow {
     pub many: usize,
     pub piece: LayoutRow,
@@ -22,8 +22,7 @@ pub(crate) enum TextKindRow {
     Refused(Refusal),
 }
 
-// A piece of so many bytes; and then, at level 1, a list of bytes whose count has w bytes, or that goes to the end
-// where w is 0.
+// A piece of h bytes. At level 1 a list of bytes follows, whose count has w bytes; it goes to the end where w is 0.
 fn piece(levels: u8, h: u8, w: u8) -> LayoutRow
     ensures { λ r. ⌜ r ≡ record { levels = levels; h0 = h; w0 = w; h1 = 1; w1 = 0; h2 = 0; w2 = 0; h3 = 0 } ⌝ }
 {
@@ -39,7 +38,7 @@ fn piece(levels: u8, h: u8, w: u8) -> LayoutRow
     }
 }
 
-// A radio: its id of 6 bytes, and a string.
+// A radio: an id of 6 bytes, and a text after its length (rule E8).
 pub(crate) fn radio() -> LayoutRow
     ensures { λ r. ⌜ rowLayout r ≡ radio ⌝ }
 {
