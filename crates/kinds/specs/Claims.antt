@@ -1,4 +1,4 @@
--- What is claimed of the kinds, beside what the calls promise; proofs/Claims.antt proves it.
+-- What is claimed of the kinds, besides what the calls promise; proofs/Claims.antt proves it.
 use mathlib.Core.Path.{_≡_}
 use mathlib.Core.Bool.{true, false}
 use mathlib.Core.List.{List, _++_}
@@ -25,7 +25,8 @@ use Rattle.texts.specs.Access.{locateRadioText}
 use Rattle.kinds.specs.Kinds.{Typed, one, isKind, kindReadOf, readKind, kindSizeOf, withoutRecord, locateKind, countKind, locateTextIn}
 use Rattle.kinds.specs.Writing.{writeKind, kindBytes}
 
--- each public call by its name: any two answers that its contract allows are one, with what the lent buffer holds afterwards. A part is its bytes and its place.
+-- Rule A4: for each public call, by its name, any two answers that its contract allows are one, with what the lent room
+-- holds afterwards. A part is its bytes and its place.
 pub record Firmness : Type 0 where
   pub is-kind : (code : ℕ) → Firm (λ r. r ≡ isKind code)
   pub read-kind : (code : ℕ) (s : List ℕ) → Firm (λ r. kindReadOf r ≡ readKind code s)
@@ -38,19 +39,20 @@ pub record Firmness : Type 0 where
   pub write-kind : (code : ℕ) (bytes out : List ℕ) → Firm {A = Written × List ℕ} (λ o.
       (writtenOf (o .0) ≡ writeKind code bytes (length out)) × (o .1 ≡ leaves (writeKind code bytes (length out)) (kindBytes code bytes) out))
 
--- no code is of two families: of a record, of a list, of a value that holds text
+-- Rule K2: no code is in two families (records, lists, values that hold text).
 abbrev pub Apart : Type 0
 Apart = (code : ℕ) → (isRecord code ≡ true → (isList code ≡ false) × (isText code ≡ false)) × (isText code ≡ true → isList code ≡ false)
 
--- "answer, consumed and rest": what was consumed lies in the value, and the rest is what is left of it
+-- Rule K1: what was consumed lies in the value, and the rest is what is left of it.
 abbrev pub AllOfIt : Type 0
 AllOfIt = (code : ℕ) (s : List ℕ) (t : Typed Record) → readKind code s ≡ gives t → (t .consumed ≤ length s) × (t .consumed + t .rest ≡ length s)
 
--- Round trips, for all 24 kinds. The value of the TLV at the start of s:
+-- Round trips, for all 24 kinds (rule A6). The value of the TLV at the start of s:
 abbrev pub valueAt : List ℕ → List ℕ
 valueAt s = valueIn (readTlv s) s
 
--- the value v reads as t did, with nothing after it, and its entries at every level, its texts and those of its radios are those of the value s: the whole answers, and byte for byte
+-- The value v reads as t did, with nothing after it. Its entries at every level, its texts and those of its radios are
+-- those of the value s: each answer is the same, and each byte.
 pub record SameValue (code : ℕ) (t : Typed Record) (s v : List ℕ) : Type 0 where
   pub reads : readKind code v ≡ gives (record { held = t .held; consumed = t .consumed; rest = 0 })
   pub counts : (numbers : List ℕ) → countKind code numbers v ≡ countKind code numbers s
@@ -61,29 +63,30 @@ pub record SameValue (code : ℕ) (t : Typed Record) (s v : List ℕ) : Type 0 w
   pub radio-texts : code ≡ inventoryCode → (i : ℕ) → locateRadioText i v ≡ locateRadioText i s
   pub radio-text-parts : code ≡ inventoryCode → (i : ℕ) → partOf (locateRadioText i v) v ≡ partOf (locateRadioText i s) s
 
--- what is written from a value reads back, whatever stands after it
+-- Rule A6: what is written from a value reads back, whatever stands after it.
 abbrev pub ReadsBack : Type 0
 ReadsBack = (code : ℕ) (s behind : List ℕ) (t : Typed Record) → AllBytes s → readKind code s ≡ gives t → t .consumed ≤ longestValue
     → (readTlv (kindBytes code s ++ behind) ≡ gives (asRead code (take (t .consumed) s)))
     × SameValue code t s (valueAt (kindBytes code s ++ behind))
 
--- what is written from a record reads back as that record; no reading gives a record that is not written so
+-- Rule A6: what is written from a record reads back as that record. No reading gives a record that is not written so.
 abbrev pub RecordReadsBack : Type 0
 RecordReadsBack = (r : Record) (behind : List ℕ) → readable r ≡ true
     → readKind (codeOf (kindOf r)) (valueAt (tlvBytes (codeOf (kindOf r)) (bytesOf r) ++ behind)) ≡ gives (record { held = one r; consumed = length (bytesOf r); rest = 0 })
 
--- Writing what was read as t from the value s gives these bytes: from the value bytes, unless 8 or 7 refuses them, and from the record, where it is one, by `write_record`
+-- Rule A6: writing what was read as t from the value s gives these bytes. They are written from the bytes of the value,
+-- unless 8 or 7 refuses them; and from the record, where it is one, by `write_record`.
 pub record WritesBack (code : ℕ) (s : List ℕ) (t : Typed Record) (tlv : List ℕ) : Type 0 where
   pub answer : (room : ℕ) → writeKind code s room ≡ writeSize (t .consumed) room
   pub bytes : kindBytes code s ≡ tlv
   pub record-answer : (r : Record) → t .held ≡ one r → (room : ℕ) → recordSize r room ≡ writeSize (t .consumed) room
   pub record-bytes : (r : Record) → t .held ≡ one r → tlvBytes (codeOf (kindOf r)) (bytesOf r) ≡ tlv
 
--- a value that was read: the TLV of the consumed bytes, and nothing of the rest
+-- Rule A6, for a value that was read: the TLV of the consumed bytes, and nothing of the rest.
 abbrev pub ValueWritesBack : Type 0
 ValueWritesBack = (code : ℕ) (s : List ℕ) (t : Typed Record) → AllBytes s → readKind code s ≡ gives t → WritesBack code s t (tlvBytes code (take (t .consumed) s))
 
--- a TLV that was read, whose value reads with no rest: the TLV's own bytes
+-- Rule A6, for a TLV that was read and whose value reads with no rest: the TLV's own bytes.
 abbrev pub TlvWritesBack : Type 0
 TlvWritesBack = (s : List ℕ) (t : TlvRead) (v : Typed Record) → AllBytes s → readTlv s ≡ gives t → readKind (t .tlv-type) (valueAt s) ≡ gives v → v .rest ≡ 0
     → WritesBack (t .tlv-type) (valueAt s) v (take (t .consumed) s)

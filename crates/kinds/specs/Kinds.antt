@@ -1,4 +1,5 @@
--- Reading a kind by its code (document 01, "The 21 kinds", and document 02, 2026-04): nine are lists, three hold text, twelve are records, and any other code gives 16.
+-- Reading a kind by its code (rules K1 and K2). Nine kinds are lists, three hold text, and twelve are records. Any
+-- other code: 16.
 use mathlib.Core.Bool.{Bool, true, cond}
 use mathlib.Core.List.{List, []}
 use Prim.Native.Nat.{ℕ, _-_}
@@ -19,11 +20,12 @@ use Rattle.kinds.specs.declared.KindRead.the-variants as KindRead
 use Rattle.kinds.specs.declared.KindSize.{KindSize}
 use Rattle.kinds.specs.declared.KindSize.the-variants as KindSize
 
--- the family of a code: no code is of two (`Apart`, in Claims), and what is no list's and no text's is left to the records, which have it or refuse it by 16
+-- The family of a code. No code is of two families (`Apart`, in Claims). A code that is no list's and no text's is left
+-- to the records, which have it or refuse it by 16.
 abbrev pub familyOf : ℕ → Family
 familyOf code = cond (isList code) Family.List (cond (isText code) Family.Text Family.Record)
 
--- a code among the 24
+-- Rule K2: a code that a kind has.
 abbrev pub isKindBy : Family → ℕ → Bool
 isKindBy Family.List code = true
 isKindBy Family.Text code = true
@@ -32,40 +34,41 @@ isKindBy Family.Record code = isRecord code
 abbrev pub isKind : ℕ → Bool
 isKind code = isKindBy (familyOf code) code
 
--- what a typed value holds: a record, told as an R, or so many entries
+-- What a typed value holds: a record, given as an R, or a number of entries.
 pub data Contents (R : Type 0) : Type 0 where
   one : R → Contents R
   list : ℕ → Contents R
 
--- what reading gives: "answer, consumed and rest"
+-- Rule K1: what reading gives. The rest is how many bytes follow those consumed.
 pub record Typed (R : Type 0) : Type 0 where
   pub held : Contents R
   pub consumed : ℕ
   pub rest : ℕ
 
--- what each answer of `read_kind` says
+-- What each answer of `read_kind` says.
 abbrev pub kindReadOf : KindRead → Answer (Typed Record)
 kindReadOf (KindRead.Record r c n) = gives (record { held = one r; consumed = c; rest = n })
 kindReadOf (KindRead.List n c m) = gives (record { held = list n; consumed = c; rest = m })
 kindReadOf (KindRead.Refused r) = told r
 
--- a record or entries that were read, of a value of so many bytes
+-- What was read of a value, a record or entries. For a record the length of the value says how long the rest is.
 abbrev pub oneRecord : ℕ → records.RecordRead → Typed Record
 oneRecord size r = record { held = one (r .value); consumed = r .consumed; rest = size - r .consumed }
 
 abbrev pub oneList : layouts.Consumed → Typed Record
 oneList c = record { held = list (c .entries); consumed = c .consumed; rest = c .rest }
 
--- each family's reading. A value that holds text is told as a list: "All three are written as list kinds are; the radios are entries"
+-- How each family is read. A value that holds text is given as a list: its entries are its radios (rule E8).
 abbrev pub readBy : Family → ℕ → List ℕ → Answer (Typed Record)
 readBy Family.List code s = mapped oneList (layouts.readValue code s)
 readBy Family.Text code s = mapped oneList (texts.readText code s)
 readBy Family.Record code s = mapped (oneRecord (length s)) (records.readRecord code s)
 
+-- Rule K1: the value s of the kind with this code.
 unfoldable pub readKind : ℕ → List ℕ → Answer (Typed Record)
 readKind code s = readBy (familyOf code) code s
 
--- measuring: the same without the record itself
+-- Measuring: what reading gives, without the record itself (rules K1 and C1).
 abbrev pub kindSizeOf : KindSize → Answer (Typed Unit)
 kindSizeOf (KindSize.Record c n) = gives (record { held = one tt; consumed = c; rest = n })
 kindSizeOf (KindSize.List n c m) = gives (record { held = list n; consumed = c; rest = m })
@@ -78,7 +81,8 @@ heldWithout (list n) = list n
 abbrev pub withoutRecord : Typed Record → Typed Unit
 withoutRecord t = record { held = heldWithout (t .held); consumed = t .consumed; rest = t .rest }
 
--- an entry of a record kind, or a text of a kind that holds none: 6, "no entry with these numbers", after the value has read
+-- Rules E2 and E7: an entry of a record kind, or a text of a kind that holds none. It is refused by 6, once the value
+-- has read.
 abbrev pub noEntryIn : {A : Type 0} → ℕ → List ℕ → Answer A
 noEntryIn code s = andThen (readKind code s) (λ t. refuses 6 [])
 
@@ -87,6 +91,7 @@ locateBy Family.List code numbers s = access.locateEntry code numbers s
 locateBy Family.Text code numbers s = locateRadio code numbers s
 locateBy Family.Record code numbers s = noEntryIn code s
 
+-- Rules E1 and E2: where the entry with these numbers lies in the value s.
 unfoldable pub locateKind : ℕ → List ℕ → List ℕ → Answer access.Span
 locateKind code numbers s = locateBy (familyOf code) code numbers s
 
@@ -95,10 +100,11 @@ countBy Family.List code numbers s = access.countEntries code numbers s
 countBy Family.Text code numbers s = countRadios code numbers s
 countBy Family.Record code numbers s = noEntryIn code s
 
+-- Rule E3: the number of entries of the list that these numbers name.
 unfoldable pub countKind : ℕ → List ℕ → List ℕ → Answer ℕ
 countKind code numbers s = countBy (familyOf code) code numbers s
 
--- the value's own text with this number
+-- Rule E7: the value's own text with this number.
 abbrev pub textBy : Family → ℕ → ℕ → List ℕ → Answer access.Span
 textBy Family.List code number s = noEntryIn code s
 textBy Family.Text code number s = locateText code number s

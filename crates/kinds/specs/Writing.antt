@@ -1,5 +1,5 @@
--- Writing from value bytes: "List kinds are written from lent value bytes that pass the same reading; the rest is not written." Value bytes of a record
--- kind are written in the same way. "on writing 16, 9, 3, 4, 5, 8, 7", of which 9 is a record's alone; 18 comes "after 3, on writing too" (2026-04).
+-- Writing from the bytes of a value (rules O2 and O3). They are read first, with the refusals of reading; 8 and 7 come
+-- last. 9 is given for a record alone.
 use mathlib.Core.List.{List, []}
 use Prim.Native.Nat.{ℕ}
 use lib.ListN.{take}
@@ -8,10 +8,11 @@ use Rattle.framing.specs.Tlv.{writeSize, tlvBytes}
 use Rattle.records.specs.declared.Record.{Record}
 use Rattle.kinds.specs.Kinds.{Typed, readKind}
 
+-- Rules O2 and O3: the number of bytes written, or the refusal.
 unfoldable pub writeKind : ℕ → List ℕ → ℕ → Answer ℕ
 writeKind code s room = andThen (readKind code s) (λ t. writeSize (t .consumed) room)
 
--- the TLV with the consumed bytes as its value
+-- Rule O2: the TLV whose value is the bytes consumed, without the rest.
 abbrev pub tlvFor : ℕ → List ℕ → Answer (Typed Record) → List ℕ
 tlvFor code s (gives t) = tlvBytes code (take (t .consumed) s)
 tlvFor code s (refuses n vs) = []

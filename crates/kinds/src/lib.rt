@@ -1,4 +1,5 @@
-// The 24 kinds by their codes: a value is read as a list, as text or as a record, its entries and texts are asked for, and value bytes that read are written as a TLV.
+// The 24 kinds by their codes (rule K2). A value is read as a list, as text or as a record. Its entries and texts are
+// asked for. The bytes of a value that reads are written as a TLV.
 use framing::Written;
 use layouts::Counted;
 use layouts::Located;
@@ -20,8 +21,8 @@ ghost use Rattle.records.specs.Reading.{readRecord};
 ghost use Rattle.kinds.specs.Kinds.{familyOf, isKind, kindReadOf, oneRecord, oneList, readKind, kindSizeOf, withoutRecord, noEntryIn, locateKind, countKind, locateTextIn};
 ghost use Rattle.kinds.specs.Writing.{writeKind, kindBytes};
 
-// What reading a typed value finds: a record, or how many entries a list kind's own list or a value that holds text has; with the bytes that were consumed, and how many are left
-// after them.
+// What reading a typed value finds (rule K1): a record, or how many entries a list kind's own list or a value that
+// holds text has. The bytes consumed and the number of bytes after them come with it.
 pub enum KindRead {
     Record {
         record: Record,
@@ -57,8 +58,9 @@ pub(crate) enum Family {
     Record,
 }
 
-// A code is classed here, by the tables of the crates below; whoever has its family asks that family's crate. What is no list's and no text's is left to the
-// records, whose reader knows it or refuses it: a test for them here would be made twice.
+// A code is classed here, by the tables of the crates below; whoever has its family asks that family's crate. A code
+// that is no list's and no text's is left to the records, whose reader knows it or refuses it: a test for them here
+// would be made twice.
 fn family_of(code: u8) -> Family
     ensures { λ r. ⌜ r ≡ familyOf code ⌝ }
 {
@@ -71,7 +73,7 @@ fn family_of(code: u8) -> Family
     Family::Record
 }
 
-// Is the code among the 24?
+// Does a kind have this code (rule K2)?
 pub fn is_kind(code: u8) -> bool
     ensures { λ r. ⌜ r ≡ isKind code ⌝ }
 {
@@ -114,7 +116,7 @@ fn read_record(code: u8, s: &[u8]) -> KindRead
     }
 }
 
-// The value s of the kind with this code.
+// The value s of the kind with this code (rule K1).
 pub fn read_kind(code: u8, s: &[u8]) -> KindRead
     ensures { λ r. ⌜ kindReadOf r ≡ readKind code (now (s .entry)) ⌝ }
 {
@@ -125,7 +127,7 @@ pub fn read_kind(code: u8, s: &[u8]) -> KindRead
     }
 }
 
-// The same of a list that is measured.
+// The same for a list that is measured.
 fn list_size(list: Reading) -> KindSize
     ensures { λ r. ⌜ kindSizeOf r ≡ mapped withoutRecord (mapped oneList (readingOf list)) ⌝ }
 {
@@ -156,7 +158,7 @@ fn record_size(code: u8, s: &[u8]) -> KindSize
     }
 }
 
-// The value s of the kind with this code measured alone, for a caller that needs no record.
+// The value s of the kind with this code, measured alone, for a caller that needs no record.
 pub fn measure(code: u8, s: &[u8]) -> KindSize
     ensures { λ r. ⌜ kindSizeOf r ≡ mapped withoutRecord (readKind code (now (s .entry))) ⌝ }
 {
@@ -167,7 +169,8 @@ pub fn measure(code: u8, s: &[u8]) -> KindSize
     }
 }
 
-// What is refused where an entry of a record kind is asked for, or a text of a kind that holds none: the value's own refusal, and then that there is none.
+// What is refused where an entry of a record kind is asked for, or a text of a kind that holds none: the value's own
+// refusal, and then 6 (rules E2 and E7).
 fn no_entry_in(code: u8, s: &[u8]) -> Refusal
     ensures { λ r. ⌜ told {A = ℕ} r ≡ noEntryIn code (now (s .entry)) ⌝ }
 {
@@ -185,7 +188,7 @@ fn no_entry_in(code: u8, s: &[u8]) -> Refusal
     }
 }
 
-// Where the entry with these numbers lies in the value s, which has to read whole.
+// Where the entry with these numbers lies in the value s, which has to read whole (rules E1 and E2).
 pub fn locate(code: u8, path: Path, s: &[u8]) -> Located
     ensures { λ r. ⌜ locatedOf r ≡ locateKind code (numbersOf path) (now (s .entry)) ⌝ }
 {
@@ -196,7 +199,8 @@ pub fn locate(code: u8, path: Path, s: &[u8]) -> Located
     }
 }
 
-// The entry with these numbers as its own part of s, the lists under it included; the empty start of s where `locate` refuses.
+// The entry with these numbers as its own part of s, with the lists that it holds (rule E1). The empty start of s where
+// `locate` refuses (rule A5).
 pub fn entry(code: u8, path: Path, s: &[u8]) -> &[u8]
     ensures { λ r. ⌜ now r ≡ partOf (locateKind code (numbersOf path) (now (s .entry))) (now (s .entry)) ⌝ }
     ensures place { λ r. ⌜ r .ptr ≡ behind (startIn (locateKind code (numbersOf path) (now (s .entry)))) (s .entry) ⌝ }
@@ -208,7 +212,7 @@ pub fn entry(code: u8, path: Path, s: &[u8]) -> &[u8]
     }
 }
 
-// How many entries the list of the entry with these numbers has; without numbers, the value's own list.
+// How many entries the list of the entry with these numbers has; without numbers, the value's own list (rule E3).
 pub fn count(code: u8, path: Path, s: &[u8]) -> Counted
     ensures { λ r. ⌜ countedOf r ≡ countKind code (numbersOf path) (now (s .entry)) ⌝ }
 {
@@ -219,7 +223,8 @@ pub fn count(code: u8, path: Path, s: &[u8]) -> Counted
     }
 }
 
-// Where the text with this number lies in the value s, which has to read whole: three kinds hold texts of their own, the others have none with any number.
+// Where the text with this number lies in the value s, which has to read whole (rule E7). Three kinds have texts of
+// their own, the others none.
 pub fn locate_text(code: u8, number: usize, s: &[u8]) -> Located
     ensures { λ r. ⌜ locatedOf r ≡ locateTextIn code number (now (s .entry)) ⌝ }
 {
@@ -230,7 +235,7 @@ pub fn locate_text(code: u8, number: usize, s: &[u8]) -> Located
     }
 }
 
-// The TLV of the kind with this code, from value bytes that read; the bytes after those consumed are not written.
+// The TLV of the kind with this code, from the bytes of a value that reads. The rest is not written (rule O2).
 pub fn write_kind(code: u8, bytes: &[u8], out: &mut [u8]) -> Written
     ensures answer { λ r. ⌜ writtenOf r ≡ writeKind code (now (bytes .entry)) (length (now (out .entry))) ⌝ }
     ensures bytes { λ _. ⌜ now (out .exit) ≡ leaves (writeKind code (now (bytes .entry)) (length (now (out .entry)))) (kindBytes code (now (bytes .entry))) (now (out .entry)) ⌝ }
