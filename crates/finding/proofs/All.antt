@@ -1,4 +1,4 @@
--- Going on behind each answer gives every readable record of the kind once, in the list's order.
+-- Going on after each answer gives every readable record of the kind once, in the list's order.
 use mathlib.Core.Path.{_≡_, refl, sym, ap, _∙_}
 use mathlib.Core.Bool.{true}
 use mathlib.Core.List.{List, [], _∷_}
@@ -25,7 +25,7 @@ module _ (code : ℕ) (payload : List ℕ) where
           omega (arith, ap (λ (x : Hit). x .place) p)
       by-reading (refuses n vs) e on = omega (arith, on e)
 
-  -- the first that reads, and those behind it
+  -- the first that reads, and those after it
   split-first : (place : ℕ) (ts : List Tlv) → allThatRead code payload place ts ≡ andOn (firstOf code payload place ts) (λ h. allThatRead code payload (h .place + 1) (drop (h .place + 1 - place) ts))
   split-first place [] = sym (ap (λ (x : Answer Hit). andOn x (λ h. allThatRead code payload (h .place + 1) (drop (h .place + 1 - place) []))) (first-nil code payload place))
   split-first place (t ∷ ts) =

@@ -1,4 +1,5 @@
--- What is found is the first that reads, and where none is found none reads: said by places, without the definition's recursion.
+-- What is found is the first that reads, and where none is found none reads: said by places, without the definition's
+-- recursion.
 use mathlib.Core.Path.{_≡_, refl, sym, ap, _∙_}
 use mathlib.Core.Bool.{Bool, true, false, cond}
 use mathlib.Core.List.{List, [], _∷_, _++_}
@@ -67,7 +68,7 @@ module _ (code : ℕ) (payload : List ℕ) where
       by-reading (refuses m us) f e on zero l = ap isGiven (sym f)
       by-reading (refuses m us) f e on (suc j) l = on e j (omega arith)
 
-  -- what stands behind the list's records plays no part, once one of them reads
+  -- what stands after the list's records plays no part, once one of them reads
   pub unchanged : (place : ℕ) (ts us : List Tlv) (h : Hit) → gives h ≡ firstOf code payload place ts → gives h ≡ firstOf code payload place (ts ++ us)
   unfolding firstOf
   unchanged place [] us h e = let z : _≡_ {A = ℕ} 0 1 = cc in absurd (omega arith)

@@ -1,5 +1,5 @@
--- Over the list that a walk made of a payload, what a record reads as is what the TLV that stands there reads as: so `find` gives the first TLV of the
--- payload of the kind that reads, in the words of framing alone.
+-- Over the list that a walk made of a payload, what a record reads as is what the TLV that stands there reads as: so
+-- `find` gives the first TLV of the payload of the kind that reads, in the words of framing alone.
 use mathlib.Core.Path.{_≡_, refl, sym, ap, _∙_}
 use mathlib.Core.Bool.{Bool, true, false, cond}
 use mathlib.Core.List.{List, [], _++_}

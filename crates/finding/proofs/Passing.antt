@@ -35,7 +35,7 @@ module _ (code : ℕ) (payload : List ℕ) (ys : List Tlv) (from : ℕ) where
   begins h = record { same = refl; fits = h }
 
   module _ (i : ℕ) (f : Passed code payload ys from i) where
-    -- one turn: the record at i, or what is behind it
+    -- one turn: the record at i, or what is after it
     turn : i < length ys → thereOr (readsAs code payload (getD ys i noTlv)) i (getD ys i noTlv) (firstOf code payload (i + 1) (drop (i + 1) ys)) ≡ firstOf code payload from (drop from ys)
     turn l =
         let e : drop i ys ≡ getD ys i noTlv ∷ drop (i + 1) ys = rw (add-one, drop-cons ys i noTlv) in

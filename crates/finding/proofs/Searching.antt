@@ -1,5 +1,6 @@
--- How a search through a payload goes on, answers, or ends: what is found among the TLVs from `at` on, of which the first has this place, is what is to be
--- found among all. Of those, as many are skipped as their places come before `from`.
+-- How a search through a payload goes on, answers, or ends: what is found among the TLVs from `at` on, of which the
+-- first has this place, is what is to be found among all. Of those, as many are skipped as their places come before
+-- `from`.
 use mathlib.Core.Path.{_≡_, refl, sym, ap, _∙_}
 use mathlib.Core.Bool.{Bool, true, false, cond}
 use mathlib.Core.List.{List, [], _∷_}

@@ -1,4 +1,4 @@
--- What is claimed of finding, beside what the calls promise; proofs/Claims.antt proves it.
+-- What is claimed of finding, besides what the calls promise; proofs/Claims.antt proves it.
 use mathlib.Core.Path.{_≡_}
 use mathlib.Core.Bool.{Bool, true, false, cond}
 use mathlib.Core.List.{List, [], _∷_, _++_}
@@ -14,13 +14,14 @@ use Rattle.walking.specs.declared.Tlv.{Tlv}
 use Rattle.walking.specs.Walk.{isMarker, WalkCount, walkOf, filled, noTlv, offsetAt}
 use Rattle.finding.specs.Finding.{Hit, foundOf, placedOf, searchedOf, readsAs, findFrom, findInPayload}
 
--- each public call by its name: any two answers that its contract allows are one
+-- Rule A4: for each public call, by its name, any two answers that its contract allows are one.
 pub record Firmness : Type 0 where
   pub find : (list : List Tlv) (payload : List ℕ) (code from : ℕ) → Firm (λ r. foundOf r ≡ findFrom code list payload from)
   pub find-place : (list : List Tlv) (payload : List ℕ) (code from : ℕ) → Firm (λ r. placedOf r ≡ mapped (λ h. h .place) (findFrom code list payload from))
   pub find-in-payload : (payload : List ℕ) (code from : ℕ) → Firm (λ r. searchedOf r ≡ findInPayload code payload from)
 
--- What is found is the first that reads, and where none is found none reads: said by places, without the definition's recursion
+-- Rule F1: what is found is the first that reads, and where none is found none reads. This is said by places, without
+-- the definition's recursion.
 abbrev pub readsAt : ℕ → List ℕ → List Tlv → ℕ → Bool
 readsAt code payload tlvs k = isGiven (readsAs code payload (getD tlvs k noTlv))
 
@@ -38,7 +39,8 @@ abbrev pub FindsNone : Type 0
 FindsNone = (code : ℕ) (payload : List ℕ) (tlvs : List Tlv) (from : ℕ) → refuses 15 [] ≡ findFrom code tlvs payload from
     → (k : ℕ) → from ≤ k → k < length tlvs → readsAt code payload tlvs k ≡ false
 
--- Going on after each answer gives every readable record of the kind once, in the list's order. A record, if it reads as said, before these:
+-- Rule F3: going on after each answer gives every readable record of the kind once, in the list's order. A record, if
+-- it reads as said, before these:
 abbrev pub hitThen : Answer (Typed Record) → ℕ → Tlv → List Hit → List Hit
 hitThen (gives r) place t hits = record { place = place; tlv = t; reading = r } ∷ hits
 hitThen (refuses n vs) place t hits = hits
@@ -53,7 +55,8 @@ abbrev pub andOn : Answer Hit → (Hit → List Hit) → List Hit
 andOn (gives h) on = h ∷ on h
 andOn (refuses n vs) on = []
 
--- the answers of one search after the other, so many at most, each from the place after the last answer
+-- The answers of one search after the other, each from the place after the last answer; at most as many as the first
+-- number says.
 abbrev pub collected : ℕ → ℕ → List Tlv → List ℕ → ℕ → List Hit
 collected zero code tlvs payload from = []
 collected (suc most) code tlvs payload from = andOn (findFrom code tlvs payload from) (λ h. collected most code tlvs payload (h .place + 1))
@@ -62,32 +65,34 @@ abbrev pub GoingOn : Type 0
 GoingOn = (code : ℕ) (payload : List ℕ) (tlvs : List Tlv) → isKind code ≡ true → (most from : ℕ) → length tlvs ≤ from + most
     → collected most code tlvs payload from ≡ allThatRead code payload from (drop from tlvs)
 
--- Over the list that a walk made of a payload, what is found is the first TLV of the payload of that kind that reads, in the words of framing alone.
--- What the TLV at the start of s reads as, if it is of the kind:
+-- Rule F4: over the list that a walk made of a payload, what is found is the payload's first TLV of that kind that
+-- reads, in the words of framing alone. What the TLV at the start of s reads as, if it is of the kind:
 abbrev pub tlvAs : ℕ → List ℕ → Answer (Typed Record)
 tlvAs code s = andThen (readTlv s) (λ t. cond (eqb (t .tlv-type) code) (readKind code (valueIn (gives t) s)) (refuses 15 []))
 
--- whether TLV number k of the payload reads as one of the kind, where it stands
+-- Whether TLV number k of the payload reads as one of the kind, where it stands.
 abbrev pub readsThere : ℕ → List ℕ → ℕ → Bool
 readsThere code payload k = isGiven (tlvAs code (drop (offsetAt (walkOf payload .items) k) payload))
 
--- the TLV at the place that was found reads so, and none before it does, from the place asked for on
+-- The TLV at the place that was found reads so. None before it does, from the place asked for on.
 pub record IsFirstTlv (payload : List ℕ) (code from : ℕ) (h : Hit) : Type 0 where
   pub reads : gives (h .reading) ≡ tlvAs code (drop (h .tlv .offset) payload)
   pub first : (k : ℕ) → from ≤ k → k < h .place → readsThere code payload k ≡ false
 
 pub record OverAWalk : Type 0 where
   pub found-is-tlv : (payload : List ℕ) (code from : ℕ) (h : Hit) → gives h ≡ findFrom code (walkOf payload .items) payload from → IsFirstTlv payload code from h
-  -- 15: none of the payload's TLVs does, from that place on
+  -- Rule F4, 15: none of the payload's TLVs does, from that place on.
   pub none-is-tlv : (payload : List ℕ) (code from : ℕ) → refuses 15 [] ≡ findFrom code (walkOf payload .items) payload from
       → (k : ℕ) → from ≤ k → k < length (walkOf payload .items) → readsThere code payload k ≡ false
-  -- a list that is longer than the walk's, as `walk_into` leaves it, gives the same, if the payload has one
+  -- Rules W5 and F3: in a list longer than the walk's, as `walk_into` leaves it, the same is found, if the payload has
+  -- one.
   pub in-filled-list : (payload : List ℕ) (code : ℕ) (c : WalkCount) (lent : List Tlv) (h : Hit) → gives h ≡ findFrom code (walkOf payload .items) payload 0
       → gives h ≡ findFrom code (filled (gives c) (walkOf payload .items) lent) payload 0
-  -- without a list the answer is the one over the walk's list, if a walk gets through the payload
+  -- Rule F4: without a list the answer is the one over the walk's list, if a walk gets through the payload.
   pub without-list : (payload : List ℕ) (code from padding : ℕ) → walkOf payload .end ≡ gives padding
       → findInPayload code payload from ≡ findFrom code (walkOf payload .items) payload from
-  -- 2026-03: padding "is not looked at": whatever else follows the marker, TLV number k of the walk, the answer is the same
+  -- Rule W3: padding is not looked at. Whatever else follows the marker, TLV number k of the walk, the answer is the
+  -- same.
   pub not-in-padding : (payload : List ℕ) (k : ℕ) → k < length (walkOf payload .items) → isMarker (getD (walkOf payload .items) k noTlv) ≡ true → (other : List ℕ) (code from : ℕ)
       → findInPayload code (take (offsetAt (walkOf payload .items) k + 3) payload ++ other) from ≡ findInPayload code payload from
 

@@ -1,4 +1,4 @@
-// Finding: the first readable record of a kind, in a lent list of TLV records or in a payload.
+// Finding (rules F1 to F4): the first readable record of a kind, in a lent list of TLV records or in a payload.
 use kinds::KindRead;
 use kinds::KindSize;
 use numbers::Refusal;
@@ -16,7 +16,8 @@ ghost use Rattle.walking.specs.Walk.{walkOf};
 ghost use Rattle.finding.specs.Finding.{foundOf, placedOf, searchedOf, isCandidate, valueOf, readsAs, thereOr, firstOf, findFrom, findInPayload};
 ghost use Rattle.finding.specs.Private.{noneOf, placeOr, hitAt};
 
-// The record that was found, its place in the list, from 0, and what its value reads as: a record, or a list of so many entries.
+// The record that was found, its place in the list, from 0, and what its value reads as: a record, or a number of
+// entries (rule F1).
 pub enum Found {
     Record {
         place: usize,
@@ -41,7 +42,8 @@ pub enum Placed {
     Refused(Refusal),
 }
 
-// The same as `Found` of a payload's TLVs. A payload that no walk gets through is told as the walk tells it, with the offset of the TLV that failed.
+// The same as `Found`, for a payload's TLVs (rule F4). Where a walk refuses the payload, its refusal is returned with
+// the offset of the TLV that failed.
 pub enum Searched {
     Unwalked { refusal: Refusal, at: usize },
     Answered(Found),
@@ -53,9 +55,10 @@ pub(crate) enum Spot {
     Nowhere,
 }
 
-// Has the record the code, and does it lie inside a payload of this size? Its type is looked at first and its offset last, so that a record of another kind
-// costs no more than its type: the compiler makes one test of the type's and the offset's where little stands between them. No sum can wrap: what is left of
-// the payload is compared, never an end that the record claims.
+// Has the record the code, and does it lie inside a payload of this size (rule F2)? Its type is looked at first and its
+// offset last, so that a record of another kind costs no more than its type: the compiler makes one test of the type's
+// and the offset's where little stands between them. No sum can wrap: what is left of the payload is compared, never an
+// end that the record claims.
 fn is_candidate(t: Tlv, size: usize, code: u8) -> bool
     ensures { λ r. ⌜ r ≡ isCandidate code size t ⌝ }
 {
@@ -70,7 +73,7 @@ fn is_candidate(t: Tlv, size: usize, code: u8) -> bool
     t.offset <= size - length - 3
 }
 
-// The value of a record inside the payload: 3 bytes after its offset, without another look at the header.
+// The value of a record inside the payload, from its offset plus 3 on. The header is not looked at again (rule F2).
 fn value_in(t: Tlv, payload: &[u8]) -> &[u8]
     requires { ⌜ t .offset + 3 + t .length ≤ length (now payload) ⌝ }
     ensures { λ r. ⌜ now r ≡ valueOf (now (payload .entry)) t ⌝ }
@@ -80,7 +83,8 @@ fn value_in(t: Tlv, payload: &[u8]) -> &[u8]
     &payload[start..end]
 }
 
-// Is the record a readable one of the kind? Its value is measured alone: what it reads as is asked of the record that is found, and of no other.
+// Is the record a readable one of the kind? Its value is only measured here: what it reads as is asked for the record
+// that is found, and for no other.
 fn reads(t: Tlv, payload: &[u8], code: u8) -> bool
     ensures { λ r. ⌜ r ≡ isGiven (readsAs code (now (payload .entry)) t) ⌝ }
 {
@@ -101,7 +105,7 @@ fn reads(t: Tlv, payload: &[u8], code: u8) -> bool
     false
 }
 
-// What is refused where nothing was found.
+// What is refused where nothing was found: 15, or 16 for a code that no kind has.
 fn nothing(code: u8) -> Refusal
     ensures { λ r. ⌜ told {A = ℕ} r ≡ noneOf code ⌝ }
 {
@@ -111,7 +115,7 @@ fn nothing(code: u8) -> Refusal
     Refusal::UnknownKind
 }
 
-// What a search through a list of this size says that ended at this place: the place, if it is one of the list's.
+// What a search says that ended at this place, in a list of this size: the place, if the list has it.
 fn outcome(place: usize, size: usize, code: u8) -> Placed
     ensures { λ r. ⌜ placedOf r ≡ cond (ltb place size) (gives place) (noneOf code) ⌝ }
 {
@@ -121,8 +125,8 @@ fn outcome(place: usize, size: usize, code: u8) -> Placed
     Placed::Refused(nothing(code))
 }
 
-// The place of the first readable record of the kind, at place `from` of the list or after it: from 0 the first of all, and from the place of an answer plus
-// 1 the next one. The list is any list, its records need not be of this payload.
+// The place of the first record of the kind that reads, at place `from` of the list or after it (rule F3). From 0 it is
+// the first of all, and from the place of an answer plus 1 the next one. Nothing in the list has to fit the payload.
 pub fn find_place(list: &[Tlv], payload: &[u8], code: u8, from: usize) -> Placed
     ensures { λ r. ⌜ placedOf r ≡ mapped (λ h. h .place) (findFrom code (now (list .entry)) (now (payload .entry)) from) ⌝ }
 {
@@ -208,7 +212,8 @@ fn is_sought(t: Tlv, payload: &[u8], code: u8, place: usize, from: usize) -> boo
     reads(t, payload, code)
 }
 
-// The first readable TLV of the kind among those that a walk of the payload reads, from so many on. The marker is looked at like any other, and nothing after it.
+// The first readable TLV of the kind among those that a walk of the payload goes over, from number `from` on. The
+// marker is looked at like any other, and nothing after it (rule F4).
 fn search(payload: &[u8], code: u8, from: usize) -> Spot
     ensures { λ r. ⌜ hitAt code (now (payload .entry)) r ≡ firstOf code (now (payload .entry)) from (drop from (walkOf (now (payload .entry)) .items)) ⌝ }
 {
@@ -239,7 +244,8 @@ fn search(payload: &[u8], code: u8, from: usize) -> Spot
     }
 }
 
-// The same without a list: the first readable TLV of the kind in a payload, by its number among the payload's TLVs, from 0, at `from` or after it.
+// The same without a list (rule F4): the first readable TLV of the kind in a payload. It has a number among the
+// payload's TLVs, from 0; the search starts at `from`.
 pub fn find_in_payload(payload: &[u8], code: u8, from: usize) -> Searched
     ensures { λ r. ⌜ searchedOf r ≡ findInPayload code (now (payload .entry)) from ⌝ }
 {

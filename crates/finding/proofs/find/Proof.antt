@@ -1,4 +1,6 @@
--- `finding::find` meets its contract: a walk of its MIR, by hand: a call of `find_place`, to which copies of the two shared slices go; one of `place_or`; and where the place lies in the list, one of `look` at the record there, else one of `none_found`.
+-- `finding::find` meets its contract: a walk of its MIR, by hand: a call of `find_place`, to which copies of the two
+-- shared slices go; one of `place_or`; and where the place lies in the list, one of `look` at the record there, else
+-- one of `none_found`.
 -- Assumes nothing.
 use mathlib.Core.Path.{_≡_, refl, sym, _∙_, ap, subst}
 use Prim.Native.Nat.{ℕ, _<_, _^_}
@@ -218,7 +220,8 @@ module _ {M : Type 1} (𝓤 : URA M) (H : Heap 𝓤) (A : Atoms 𝓤) (W : Given
         use1 W (‵ Own ⊛ ‵ Own) (shr-slice-copy 𝓤 H A W (named 0) κ R .twice list (s ∷ [])) $ split ! $
         -- [list; list; payload; payload; token′; token; _11 (6); …]
         move ! (5 ∷ 4 ∷ 0 ∷ 2 ∷ []) $ join ! $ use3 W (raw (PlaceC 𝓤 H A mem run .pre to-place)) asked-place $
-        -- [pre; list; payload; _11 (3); _10 (5); _9 (7); _8 (9); _7 (11); _6 (13); _5 (15); _4 (17); _3 (19); _2 (21); _1 (23); _0 (25); …]
+        -- [pre; list; payload; _11 (3); _10 (5); _9 (7); _8 (9); _7 (11); _6 (13); _5 (15); _4 (17); _3 (19); _2 (21);
+        -- _1 (23); _0 (25); …]
         calls-at ! (fmOf 𝓤 H (W .laws) 𝓣) (PlaceC 𝓤 H A mem run) known to-place (and-then ! (load ! (from ! (stop !)) (look ! 23 refl)) (and-then ! (load ! (from ! (stop !)) (look ! 21 refl)) (and-then ! (load ! (from ! (stop !)) (look ! 19 refl)) (and-then ! (load ! (from ! (stop !)) (look ! 17 refl)) (no-more !))))) (λ u.
         use1 W (later (some (λ (z : Placed). ((‵ (flft κ q) ⊛ (‵ (flft κ′ q′) ⊛ ‵ ftrue)) ⊛ ‵ (P.the-row .own z (u ∷ []))) ⊛ raw (ensured 𝓤 H A place.ended (place.clauses 𝓤 H A mem run) κs x tt z)))) (id⊢ 𝓤 _) $ await ! tt $ pick ! (λ z.
         split ! $ move ! (1 ∷ []) $ use1 W (raw (fact 𝓤 (Places z))) (said-place z) $ heard ! (Places z) (λ e. split ! $ move ! (1 ∷ []) $

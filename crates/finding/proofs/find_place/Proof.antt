@@ -1,4 +1,6 @@
--- `finding::find_place` meets its contract: a walk of its MIR, by hand, with a loop. At the loop's head the records from `from` up to i are passed. A turn leaves the loop where i is the list's length, or where `reads` says that the record at i is a readable one; then `outcome` says what was found.
+-- `finding::find_place` meets its contract: a walk of its MIR, by hand, with a loop. At the loop's head the records
+-- from `from` up to i are passed. A turn leaves the loop where i is the list's length, or where `reads` says that the
+-- record at i is a readable one; then `outcome` says what was found.
 -- Assumes nothing.
 use mathlib.Core.Path.{_≡_, refl, sym, _∙_, ap, subst}
 use mathlib.Core.Bool.{Bool, true, cond}
@@ -258,7 +260,8 @@ module _ {M : Type 1} (𝓤 : URA M) (H : Heap 𝓤) (A : Atoms 𝓤) (W : Given
         move ! (11 ∷ 12 ∷ []) $
         looks-slice ! tt R (Is R) (shows 𝓤 H A R) vals tells (copies 𝓤 H A W) ys b o (λ q″. elem-out ! R (Is R) (shows 𝓤 H A R) vals tells q″ ys i noTlv b o l (λ g.
         let ok = LL.lawful T.the-type T′.the-laws 𝓤 H A W .typed t (mach t ∷ []) g .0 in
-        -- [list[i]; what it owns; the others; what shuts; the borrow; _5; _10; _9; _8; _7; _6; _4; _3; _2; _1; _0; token′; payload; res; …]
+        -- [list[i]; what it owns; the others; what shuts; the borrow; _5; _10; _9; _8; _7; _6; _4; _3; _2; _1; _0;
+        -- token′; payload; res; …]
         assigns ! (of-opd ! (load ! (from ! (hop ! (look ! 7 refl) (stop !))) (look-raw ! 0 refl))) (from ! (stop !)) (init ! 6 refl ok) $
         elem-back ! R q″ ys i noTlv (vals t) b o l $ shuts-slice ! tt R q″ ys b o $
         -- [token; the borrow; _5; _10; _9; _8; _7; _6; _4; _3; _2; _1; _0; token′; payload; res; …]
