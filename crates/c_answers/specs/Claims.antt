@@ -25,7 +25,7 @@ use Rattle.c_answers.specs.declared.AshlarPushed.{AshlarPushed}
 use Rattle.c_answers.specs.declared.AshlarShown.{AshlarShown}
 use Rattle.c_answers.specs.Numbers.{headerNumbers, walkNumbers, kindNumbers, foundNumbers, partNumbers, pushNumbers, shownIn}
 
--- each public call by its name: any two answers that its contract allows are one
+-- Rule A4: for each public call, by its name, any two answers that its contract allows are one.
 pub record Firmness : Type 0 where
   pub header-numbers : (read : HeaderRead) → Firm (λ r. r ≡ headerNumbers (headerOf read))
   pub walk-numbers : (walked : Walked) → Firm (λ r. r ≡ walkNumbers (walkedOf walked))
@@ -36,18 +36,18 @@ pub record Firmness : Type 0 where
   pub shown-in : (pushed : AshlarPushed) (payload-size out-size : ℕ)
       → Firm (λ r. r ≡ shownIn pushed payload-size out-size)
 
--- A value that was measured crosses as the value that was read does.
+-- Rule C1: a value that was measured crosses as the value that was read does.
 abbrev pub MeasuredAsRead : Type 0
 MeasuredAsRead = (x : Answer (Typed Record)) → kindNumbers (mapped withoutRecord x) ≡ kindNumbers x
 
--- The part that an answer of `part_numbers` names is the one that the layer's own call returns.
+-- Rules E7 and E8: the part that an answer of `part_numbers` names is the one that the layer's own call returns.
 abbrev pub partIn : AshlarPart → List ℕ → List ℕ
 partIn p value = take (p .length) (drop (p .start) value)
 
 abbrev pub NamesThePart : Type 0
 NamesThePart = (x : Answer Span) (value : List ℕ) → partIn (partNumbers x) value ≡ partOf x value
 
--- The part that an answer of `shown_in` names is the one that the table's own showing call returns.
+-- Rule T10: the part that an answer of `shown_in` names is the one that the table's own showing call returns.
 abbrev pub messageIn : AshlarShown → List ℕ → List ℕ → List ℕ
 messageIn s payload out = take (s .length) (cond (s .«in_output») out payload)
 

@@ -1,5 +1,5 @@
--- Document 01's answers as the numbers that cross to C: `refusal` is the refusal's number, and 0 where nothing is
--- refused.
+-- Rule C1: the answers of the calls about TLVs, kinds and fragments, in the numbers that cross to C. `refusal` is the
+-- refusal's number of part N, and 0 where nothing is refused. A field that a refusal doesn't carry is 0.
 use mathlib.Core.Path.{_≡_}
 use mathlib.Core.Bool.{true, false, cond}
 use mathlib.Core.List.{List}
@@ -23,8 +23,7 @@ use Rattle.c_answers.specs.declared.AshlarPart.{AshlarPart}
 use Rattle.c_answers.specs.declared.AshlarPushed.{AshlarPushed}
 use Rattle.c_answers.specs.declared.AshlarShown.{AshlarShown}
 
--- 2026-01: "The walk, the CMDU header reader and tlvlist pass [the shortfall] through". It is the one value of a
--- header's refusal.
+-- Rule B6: the fields of a CMDU header. A refusal carries one value, the shortfall.
 abbrev pub headerNumbers : Answer CmduHeader → AshlarHeader
 headerNumbers (gives h) = record {
   shortfall = 0;
@@ -49,13 +48,14 @@ headerNumbers (refuses n vs) = record {
   refusal = n;
 }
 
--- a walk's refusal gives the offset of the TLV that failed, first of its values, and of 1 and 2 the shortfall, the
--- second; 14 has none
+-- Rules W3 to W5 and N3: a walk's refusal has the offset of a TLV as its first value. For 1 and 2 the second value is
+-- the shortfall; 14 has none.
 abbrev pub walkNumbers : Answer WalkCount → AshlarWalk
 walkNumbers (gives c) = record { count = c .count; padding = c .padding; at = 0; shortfall = 0; refusal = 0 }
 walkNumbers (refuses n vs) = record { count = 0; padding = 0; at = getD vs 0 0; shortfall = getD vs 1 0; refusal = n }
 
--- a record is the first bytes of its value, as many as were consumed; of a list, how many entries its own level has
+-- Rules K1 and C1: a record doesn't cross; it is the first bytes of its value, as many as were consumed. For a list,
+-- how many entries its outermost level has.
 abbrev pub contentsNumbers : {R : Type 0} → Contents R → ℕ → ℕ → AshlarKind
 contentsNumbers (one r) consumed rest =
     record { entries = 0; consumed = consumed; rest = rest; «is_list» = false; refusal = 0 }
@@ -66,17 +66,18 @@ abbrev pub kindNumbers : {R : Type 0} → Answer (Typed R) → AshlarKind
 kindNumbers (gives t) = contentsNumbers (t .held) (t .consumed) (t .rest)
 kindNumbers (refuses n vs) = record { entries = 0; consumed = 0; rest = 0; «is_list» = false; refusal = n }
 
--- a find says where; what the value there reads as is read_kind's to say
+-- Rule F1: finding answers the place alone. What the value there reads as is for `read_kind` to say.
 abbrev pub foundNumbers : Answer ℕ → AshlarFound
 foundNumbers (gives i) = record { place = i; refusal = 0 }
 foundNumbers (refuses n vs) = record { place = 0; refusal = n }
 
--- 2026-04: a text or a radio is a part of the value, given by its first byte's place and its length
+-- Rules E7 and E8: a text or a radio is a part of the value, given by where its first byte stands and by its length.
 abbrev pub partNumbers : Answer Span → AshlarPart
 partNumbers (gives r) = record { start = r .start; length = r .end - r .start; refusal = 0 }
 partNumbers (refuses n vs) = record { start = 0; length = 0; refusal = n }
 
--- push's named answers from 1 on, 0 for a refusal; the length is the message's, or the one that 13 gives
+-- Push's named answers (rules T5 to T9) are numbers from 1 on, and 0 for a refusal. The length is the message's, or the
+-- one that 13 carries.
 abbrev pub namedAs : ℕ → ℕ → AshlarPushed
 namedAs answer length = record { length = length; answer = answer; refusal = 0 }
 
@@ -93,15 +94,15 @@ abbrev pub pushNumbers : Answer PushAnswer → AshlarPushed
 pushNumbers (gives h) = answerNumbers h
 pushNumbers (refuses n vs) = record { length = getD vs 0 0; answer = 0; refusal = n }
 
--- a push goes the way w, and answer′ is what it answers, in numbers
+-- A push goes the way w (rules T4 to T9), and answer′ is what it answers, in numbers.
 pub record Numbered (w : Way) (t : Table) (store out : List ℕ) (a : Arrival) (payload : List ℕ)
     (answer′ : AshlarPushed) (table′ : Table) (store′ out′ : List ℕ) : Type 0 where
   pub pushed : Pushed
   pub crosses : answer′ ≡ pushNumbers (pushedOf pushed)
   pub goes : Goes w t store out a payload pushed table′ store′ out′
 
--- the message of an answer in numbers lies in the output, or in the payload: "A stated length beyond that slice shows
--- its empty start"
+-- Rule T10: the message of an answer lies in the output or in the payload. Where the answer states more bytes than that
+-- slice has, none is shown.
 abbrev pub withinOf : ℕ → ℕ → ℕ
 withinOf n size = cond (leb n size) n 0
 

@@ -1,5 +1,5 @@
-// What the calls about TLVs, kinds and fragments answer, as it crosses to C: plain structs, in document 01's numbers.
-// `refusal` is 0 where nothing is refused.
+// What the calls about TLVs, kinds and fragments answer, as it crosses to C (rule C1): plain structs, in the numbers of
+// part N. `refusal` is 0 where nothing is refused.
 use finding::Placed;
 use framing::HeaderRead;
 use kinds::KindSize;
@@ -15,8 +15,8 @@ ghost use Rattle.layouts.specs.Access.{locatedOf};
 ghost use Rattle.pushing.specs.Push.{pushedOf};
 ghost use Rattle.c_answers.specs.Numbers.{headerNumbers, walkNumbers, kindNumbers, foundNumbers, partNumbers, namedAs, pushNumbers, withinOf, shownIn};
 
-// The header of a CMDU, its fields in their order, but for the shortfall: how many bytes are missing, where it is
-// refused. `last` is bit 7 of `flags`.
+// The header of a CMDU (rule B6). Its fields stand in their order, after the shortfall: how many bytes are missing
+// where it is refused. `last` is bit 7 of `flags`.
 #[repr(C)]
 pub struct AshlarHeader {
     pub shortfall: usize,
@@ -30,8 +30,8 @@ pub struct AshlarHeader {
     pub refusal: u8,
 }
 
-// How many TLVs a payload has, and how many bytes of padding follow them; where one is refused, its offset, and how
-// many bytes are missing.
+// How many TLVs a payload has, and how many bytes of padding follow them (rule W3). Where the walk refuses, the offset
+// of the TLV, and how many bytes are missing (rule W4).
 #[repr(C)]
 pub struct AshlarWalk {
     pub count: usize,
@@ -41,8 +41,8 @@ pub struct AshlarWalk {
     pub refusal: u8,
 }
 
-// How many entries the value's own list has, if its kind is a list's or holds text, whose radios are its list; a record
-// is the first `consumed` bytes of its value.
+// How many entries the value's own list has, if its kind is a list kind or holds text (rule K1); the radios are the
+// list of such a value. A record is the first `consumed` bytes of its value.
 #[repr(C)]
 pub struct AshlarKind {
     pub entries: usize,
@@ -52,15 +52,15 @@ pub struct AshlarKind {
     pub refusal: u8,
 }
 
-// The place of the record that was found. What its value reads as is `ashlar_read_kind`'s to say, so that this answer
-// fits two registers.
+// The place of the record that was found (rule F1). What its value reads as is for `ashlar_read_kind` to say, so that
+// this answer fits two registers.
 #[repr(C)]
 pub struct AshlarFound {
     pub place: usize,
     pub refusal: u8,
 }
 
-// Where a part of a value lies, a text or a radio: the bytes from `start` on, so many.
+// Where a part of a value lies, a text or a radio (rules E7 and E8): `length` bytes from `start` on.
 #[repr(C)]
 pub struct AshlarPart {
     pub start: usize,
@@ -68,9 +68,9 @@ pub struct AshlarPart {
     pub refusal: u8,
 }
 
-// What push answers: 1 waiting, 2 duplicated, 3 inconsistent metadata, 4 missing fragments, 5 missing last fragment, 6
-// a message that is the payload itself, 7 a message in the output; 0 where it is refused. `length` is the message's, or
-// the one that refusal 13 gives.
+// What push answers (rules T4 to T9): 1 waiting, 2 duplicated, 3 inconsistent, 4 missing, 5 missing its last, 6 a
+// message that is the payload itself, 7 a message in the output; 0 where it is refused. `length` is the message's, or
+// the one that refusal 13 carries.
 #[repr(C)]
 pub struct AshlarPushed {
     pub length: usize,
@@ -78,7 +78,7 @@ pub struct AshlarPushed {
     pub refusal: u8,
 }
 
-// Where a message lies: in the output, or in the payload that was pushed; its first bytes, so many.
+// Where a message lies (rule T10): in the output, or in the payload that was pushed. It is the first `length` bytes.
 #[repr(C)]
 pub struct AshlarShown {
     pub length: usize,
@@ -232,14 +232,14 @@ pub fn push_numbers(pushed: Pushed) -> AshlarPushed
     }
 }
 
-// So many bytes of a slice that has at least these, none of a shorter one.
+// n, if a slice of `room` bytes has that many; otherwise 0.
 fn within(n: usize, room: usize) -> usize
     ensures { λ r. ⌜ r ≡ withinOf n room ⌝ }
 {
     if n <= room { n } else { 0 }
 }
 
-// Where the message of an answer lies, in one of the two slices that push was given: they have so many bytes.
+// Where the message of an answer lies (rule T10), in one of the two slices that push was lent, whose sizes these are.
 pub fn shown_in(pushed: AshlarPushed, payload_size: usize, out_size: usize) -> AshlarShown
     ensures { λ r. ⌜ r ≡ shownIn pushed «payload_size» «out_size» ⌝ }
 {
