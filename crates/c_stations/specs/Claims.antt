@@ -11,7 +11,7 @@ use Rattle.stations.specs.declared.Listed.{Listed}
 use Rattle.stations.specs.Events.{answeredOf, appliedOf}
 use Rattle.c_stations.specs.Numbers.{associationWith, eventNumbers, appliedNumbers, whereNumbers, rowNumbers}
 
--- each public call by its name: any two answers that its contract allows are one
+-- Rule A4: for each public call, by its name, any two answers that its contract allows are one.
 pub record Firmness : Type 0 where
   pub association-with : (station point : MacAddr) (joined : Bool)
       → Firm (λ r. r ≡ associationWith station point joined)

@@ -1,4 +1,5 @@
--- Request 2026-02's answers as the numbers that cross to C. An address crosses as it is, six bytes in their order.
+-- Rule C1: the answers of the station table (part P), in the numbers that cross to C. An address crosses as it is, six
+-- bytes in their order.
 use mathlib.Core.Bool.{Bool, true, false, cond}
 use Prim.Native.Nat.{ℕ, _-_}
 use Rattle.numbers.specs.Numbers.{Answer, gives, refuses}
@@ -14,7 +15,7 @@ use Rattle.c_stations.specs.declared.AshlarApplied.{AshlarApplied}
 use Rattle.c_stations.specs.declared.AshlarAt.{AshlarAt}
 use Rattle.c_stations.specs.declared.AshlarRow.{AshlarRow}
 
--- the event that a C caller reports: this station joined that access point, or left it
+-- Rule P6: the event that a C caller reports. This station joined that access point, or left it.
 abbrev pub associationWith : (station point : MacAddr) → (joined : Bool) → ClientAssociation
 associationWith station point joined =
     let state = cond joined AssociationState.JoinedBss AssociationState.LeftBss in
@@ -24,7 +25,8 @@ associationWith station point joined =
 abbrev pub noAddress : MacAddr
 noAddress = record { b0 = 0; b1 = 0; b2 = 0; b3 = 0; b4 = 0; b5 = 0 }
 
--- an event's answers from 1 on, 0 for a refusal; with "moved" goes the access point that the station was at
+-- Rules P2 and P3: an event's answers are numbers from 1 on, and 0 for a refusal. "Moved" comes with the access point
+-- where the station was.
 abbrev pub heardAs : ℕ → AshlarHeard
 heardAs answer = record { from = noAddress; answer = answer; refusal = 0 }
 
@@ -42,16 +44,18 @@ abbrev pub eventNumbers : Answer Heard → AshlarHeard
 eventNumbers (gives h) = heardNumbers h
 eventNumbers (refuses n vs) = refusedAs n
 
--- an event from a value of so many bytes; those after the event are the rest
+-- Rule P6: an event from a value of this size. The bytes after the event are the rest.
 abbrev pub appliedNumbers : (size : ℕ) → Answer Taken → AshlarApplied
 appliedNumbers size (gives x) =
     record { consumed = x .consumed; rest = size - x .consumed; heard = heardNumbers (x .heard) }
 appliedNumbers size (refuses n vs) = record { consumed = 0; rest = 0; heard = refusedAs n }
 
+-- Rule P7: where a station is.
 abbrev pub whereNumbers : Where → AshlarAt
 whereNumbers Where.Nowhere = record { point = noAddress; held = false }
 whereNumbers (Where.At point) = record { point = point; held = true }
 
+-- Rule P7: what a row holds.
 abbrev pub rowNumbers : Listed → AshlarRow
 rowNumbers Listed.Free = record { station = noAddress; point = noAddress; held = false }
 rowNumbers (Listed.Occupied station point) = record { station = station; point = point; held = true }

@@ -1,5 +1,5 @@
-// What the calls of the station table answer, as it crosses to C: plain structs, in numbers. An address crosses as it
-// is: in C it is an array of its six bytes.
+// What the calls of the station table answer (part P), as it crosses to C (rule C1): plain structs, in numbers. An
+// address crosses as it is: in C it is an array of its six bytes.
 use records::AssociationState;
 use records::ClientAssociation;
 use records::MacAddr;
@@ -12,8 +12,8 @@ ghost use mathlib.Core.Path.{_≡_};
 ghost use Rattle.stations.specs.Events.{answeredOf, appliedOf};
 ghost use Rattle.c_stations.specs.Numbers.{associationWith, noAddress, heardAs, heardNumbers, refusedAs, eventNumbers, appliedNumbers, whereNumbers, rowNumbers};
 
-// What an event did: 1 placed, 2 moved, 3 the same, 4 removed, 5 stale; 0 where it is refused. With 2 goes the access
-// point at which the station was.
+// What an event did (rules P2 and P3): 1 placed, 2 moved, 3 the same, 4 removed, 5 stale; 0 where it is refused. With 2
+// comes the access point where the station was.
 #[repr(C)]
 pub struct AshlarHeard {
     pub from: MacAddr,
@@ -21,7 +21,7 @@ pub struct AshlarHeard {
     pub refusal: u8,
 }
 
-// The same for an event that was read from a value: how many bytes of it the event took, and how many come after these.
+// The same for an event that was read from a value (rule P6): how many bytes the event took, and how many follow.
 #[repr(C)]
 pub struct AshlarApplied {
     pub consumed: usize,
@@ -29,14 +29,14 @@ pub struct AshlarApplied {
     pub heard: AshlarHeard,
 }
 
-// The access point at which a station is, if it is held.
+// The access point at which a station is, if it is held (rule P7).
 #[repr(C)]
 pub struct AshlarAt {
     pub point: MacAddr,
     pub held: bool,
 }
 
-// A row of the table, if it holds a station.
+// A row of the table, if it holds a station (rule P7).
 #[repr(C)]
 pub struct AshlarRow {
     pub station: MacAddr,
@@ -44,7 +44,7 @@ pub struct AshlarRow {
     pub held: bool,
 }
 
-// The event that a C caller reports: this station joined that access point, or left it.
+// The event that a C caller reports: this station joined that access point, or left it (rule P6).
 pub fn association_with(station: MacAddr, point: MacAddr, joined: bool) -> ClientAssociation
     ensures { λ r. ⌜ r ≡ associationWith station point joined ⌝ }
 {
@@ -73,7 +73,7 @@ fn no_address() -> MacAddr
     }
 }
 
-// An answer that gives no access point.
+// An answer without an access point.
 fn heard_as(answer: u8) -> AshlarHeard
     ensures { λ r. ⌜ r ≡ heardAs answer ⌝ }
 {
@@ -120,8 +120,8 @@ pub fn event_numbers(answered: EventAnswer) -> AshlarHeard
     }
 }
 
-// The same for an event that was read from a value of so many bytes. One that took more than these would leave no rest:
-// no call gives such an answer.
+// The same for an event that was read from a value of this size. One that took more bytes would leave no rest: no call
+// gives such an answer.
 pub fn applied_numbers(size: usize, applied: Applied) -> AshlarApplied
     ensures { λ r. ⌜ r ≡ appliedNumbers size (appliedOf applied) ⌝ }
 {
