@@ -30,8 +30,8 @@ use Rattle.c_stations.specs.declared.AshlarHeard.{AshlarHeard}
 use Rattle.c_stations.specs.declared.AshlarApplied.{AshlarApplied}
 use Rattle.c_stations.specs.Numbers.{associationWith, eventNumbers, appliedNumbers, whereNumbers, rowNumbers}
 
--- each call by its name: any two answers that its contract allows, with what the call leaves in the list, the tables,
--- the store and the output, are one
+-- Rule A4: for each call, by its name, any two answers that its contract allows are one. What the call leaves in the
+-- list, the tables, the store and the output is part of the answer.
 pub record Firmness : Type 0 where
   pub ashlar-read-header : (bytes : List ℕ) → Firm (λ r. r ≡ headerNumbers (readHeader bytes))
   pub ashlar-walk : (payload : List ℕ) → Firm (λ r. r ≡ walkNumbers (counted (walkOf payload)))

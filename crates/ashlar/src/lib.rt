@@ -1,5 +1,5 @@
-// The hot calls for C: each is a thin shell over the layer's own call, whose answer crosses as `c_answers` or
-// `c_stations` says it in numbers.
+// The hot calls for C (rule C1): each is a thin shell over the layer's own call. Its answer crosses in numbers, as
+// `c_answers` or `c_stations` says.
 use c_answers::AshlarFound;
 use c_answers::AshlarHeader;
 use c_answers::AshlarKind;
@@ -38,7 +38,7 @@ ghost use Rattle.stations.specs.Events.{answerFrom, tableFrom};
 ghost use Rattle.c_answers.specs.Numbers.{headerNumbers, walkNumbers, kindNumbers, foundNumbers, partNumbers, Numbered, shownIn};
 ghost use Rattle.c_stations.specs.Numbers.{associationWith, eventNumbers, appliedNumbers, whereNumbers, rowNumbers};
 
-// The header of the CMDU at the start of the bytes.
+// The header of the CMDU at the start of the bytes (rule B6).
 #[no_mangle]
 pub extern "C" fn ashlar_read_header(bytes: &[u8]) -> AshlarHeader
     ensures { λ r. ⌜ r ≡ headerNumbers (readHeader (now (bytes .entry))) ⌝ }
@@ -46,7 +46,7 @@ pub extern "C" fn ashlar_read_header(bytes: &[u8]) -> AshlarHeader
     c_answers::header_numbers(framing::read_cmdu_header(bytes))
 }
 
-// The TLVs of a payload up to its end marker, counted, and the length of the padding after them.
+// The TLVs of a payload up to its end marker, counted, and the length of the padding after them (rules W1 to W4).
 #[no_mangle]
 pub extern "C" fn ashlar_walk(payload: &[u8]) -> AshlarWalk
     ensures { λ r. ⌜ r ≡ walkNumbers (counted (walkOf (now (payload .entry)))) ⌝ }
@@ -54,7 +54,7 @@ pub extern "C" fn ashlar_walk(payload: &[u8]) -> AshlarWalk
     c_answers::walk_numbers(walking::walk(payload))
 }
 
-// The TLVs of a payload, counted and listed. On a refusal the list stays as lent.
+// The TLVs of a payload, counted and listed (rule W5). A refusal leaves the list as it was (rule A3).
 #[no_mangle]
 pub extern "C" fn ashlar_walk_into(list: &mut [Tlv], payload: &[u8]) -> AshlarWalk
     ensures { λ r. ⌜ (r ≡ walkNumbers (listed (length (now (list .entry))) (walkOf (now (payload .entry)))))
@@ -64,7 +64,7 @@ pub extern "C" fn ashlar_walk_into(list: &mut [Tlv], payload: &[u8]) -> AshlarWa
     c_answers::walk_numbers(walking::walk_into(list, payload))
 }
 
-// The typed value of the kind with this code: measured alone, for a record doesn't cross to C.
+// The typed value of the kind with this code (rule K1). It is measured alone, for a record doesn't cross to C.
 #[no_mangle]
 pub extern "C" fn ashlar_read_kind(code: u8, value: &[u8]) -> AshlarKind
     ensures { λ r. ⌜ r ≡ kindNumbers (readKind code (now (value .entry))) ⌝ }
@@ -72,7 +72,8 @@ pub extern "C" fn ashlar_read_kind(code: u8, value: &[u8]) -> AshlarKind
     c_answers::kind_numbers(kinds::measure(code, value))
 }
 
-// The place of the first readable record of the kind with this code, at the place `from` of the list or after it.
+// The place of the first record of the kind with this code that reads, at the place `from` of the list or after it
+// (rules F1 to F3).
 #[no_mangle]
 pub extern "C" fn ashlar_find(list: &[Tlv], payload: &[u8], code: u8, from: usize) -> AshlarFound
     ensures { λ r. ⌜ r ≡ foundNumbers (mapped (λ h. h .place)
@@ -81,8 +82,8 @@ pub extern "C" fn ashlar_find(list: &[Tlv], payload: &[u8], code: u8, from: usiz
     c_answers::found_numbers(finding::find_place(list, payload, code, from))
 }
 
-// Where the text with this number lies in a value of the kind with this code: kinds 21 and 0xD4 have three, 22 has one,
-// any other kind none. The whole value has to read.
+// Where the text with this number lies in a value of the kind with this code (rule E7): kinds 21 and 0xD4 have three,
+// 22 has one, any other kind none. The whole value has to read.
 #[no_mangle]
 pub extern "C" fn ashlar_text(code: u8, number: usize, value: &[u8]) -> AshlarPart
     ensures { λ r. ⌜ r ≡ partNumbers (locateTextIn code number (now (value .entry))) ⌝ }
@@ -90,8 +91,8 @@ pub extern "C" fn ashlar_text(code: u8, number: usize, value: &[u8]) -> AshlarPa
     c_answers::part_numbers(kinds::locate_text(code, number, value))
 }
 
-// Where the radio with this number lies in a value of kind 0xD4: its id of six bytes, the length of its text in one,
-// and its text.
+// Where the radio with this number lies in a value of kind 0xD4 (rule E8): its id of six bytes, the length of its text
+// in one, and its text.
 #[no_mangle]
 pub extern "C" fn ashlar_radio(number: usize, value: &[u8]) -> AshlarPart
     ensures { λ r. ⌜ r ≡ partNumbers (locateRadio inventoryCode (number ∷ []) (now (value .entry))) ⌝ }
@@ -105,7 +106,7 @@ pub extern "C" fn ashlar_radio(number: usize, value: &[u8]) -> AshlarPart
     c_answers::part_numbers(texts::locate(texts::DEVICE_INVENTORY, path, value))
 }
 
-// Where the text of the radio with this number lies in a value of kind 0xD4.
+// Where the text of the radio with this number lies in a value of kind 0xD4 (rule E8).
 #[no_mangle]
 pub extern "C" fn ashlar_radio_text(number: usize, value: &[u8]) -> AshlarPart
     ensures { λ r. ⌜ r ≡ partNumbers (locateRadioText number (now (value .entry))) ⌝ }
@@ -113,7 +114,7 @@ pub extern "C" fn ashlar_radio_text(number: usize, value: &[u8]) -> AshlarPart
     c_answers::part_numbers(texts::locate_radio_text(number, value))
 }
 
-// A table that holds nothing.
+// A table that holds nothing (rule T14).
 #[no_mangle]
 pub extern "C" fn ashlar_fresh() -> Table
     ensures { λ r. ⌜ r ≡ freshTable ⌝ }
@@ -121,7 +122,7 @@ pub extern "C" fn ashlar_fresh() -> Table
     table::fresh()
 }
 
-// A fragment comes in, to a table that these calls made.
+// A fragment comes in, to a table that these calls made (rules T4 to T9).
 #[no_mangle]
 pub extern "C" fn ashlar_push(
     t: &mut Table,
@@ -139,7 +140,7 @@ pub extern "C" fn ashlar_push(
     c_answers::push_numbers(reassembler::push(t, store, out, a, payload))
 }
 
-// The message of an answer that push gave: a part of one of the two slices that push was given.
+// The message of an answer that push returned: a part of one of the two slices that push was lent (rule T10).
 #[no_mangle]
 pub extern "C" fn ashlar_show(pushed: AshlarPushed, payload: &[u8], out: &[u8]) -> AshlarShown
     ensures { λ r. ⌜ r ≡ shownIn pushed (length (now (payload .entry))) (length (now (out .entry))) ⌝ }
@@ -147,7 +148,7 @@ pub extern "C" fn ashlar_show(pushed: AshlarPushed, payload: &[u8], out: &[u8]) 
     c_answers::shown_in(pushed, payload.len(), out.len())
 }
 
-// The keys that are 3,000 milliseconds old are dropped; how many they were.
+// Drops the keys that are 3,000 milliseconds old or older, and returns how many they were (rules S1 and S2).
 #[no_mangle]
 pub extern "C" fn ashlar_sweep(t: &mut Table, time: u64) -> usize
     ensures { λ r. ⌜ sweptAs (now (t .exit)) r ≡ swept (now (t .entry)) time ⌝ }
@@ -155,8 +156,8 @@ pub extern "C" fn ashlar_sweep(t: &mut Table, time: u64) -> usize
     reassembler::sweep(t, time)
 }
 
-// The table holds no station any more, whatever it held: made in place, since 2,048 bytes by value would lie on a
-// caller's stack.
+// The table holds no station any more, whatever it held (rule P1). It is made in place, since 2,048 bytes by value
+// would lie on a caller's stack.
 #[no_mangle]
 pub extern "C" fn ashlar_stations_fresh(t: &mut Stations)
     ensures { λ r. ⌜ now (t .exit) ≡ freshStations ⌝ }
@@ -164,7 +165,7 @@ pub extern "C" fn ashlar_stations_fresh(t: &mut Stations)
     *t = stations::fresh();
 }
 
-// A station joined an access point, or left it.
+// A station joined an access point, or left it (rules P2 to P4).
 #[no_mangle]
 pub extern "C" fn ashlar_station_event(
     t: &mut Stations,
@@ -179,7 +180,7 @@ pub extern "C" fn ashlar_station_event(
     c_stations::event_numbers(stations::event(t, e))
 }
 
-// The same, read from a TLV's value of kind 0x92. A value that does not read alters nothing.
+// The same, read from the value of a TLV of kind 0x92 (rule P6). A value that does not read changes nothing.
 #[no_mangle]
 pub extern "C" fn ashlar_station_event_from(t: &mut Stations, value: &[u8]) -> AshlarApplied
     ensures { λ r. ⌜ (r ≡ appliedNumbers (length (now (value .entry)))
@@ -189,7 +190,7 @@ pub extern "C" fn ashlar_station_event_from(t: &mut Stations, value: &[u8]) -> A
     c_stations::applied_numbers(value.len(), stations::event_from(t, value))
 }
 
-// Where a station is.
+// Where a station is (rule P7).
 #[no_mangle]
 pub extern "C" fn ashlar_station_at(t: &Stations, station: MacAddr) -> AshlarAt
     ensures { λ r. ⌜ r ≡ whereNumbers (whereShown (whereOf (now (t .entry)) (addressNumber station))) ⌝ }
@@ -197,7 +198,7 @@ pub extern "C" fn ashlar_station_at(t: &Stations, station: MacAddr) -> AshlarAt
     c_stations::where_numbers(stations::where_is(t, station))
 }
 
-// How many stations are held.
+// How many stations are held (rule P7).
 #[no_mangle]
 pub extern "C" fn ashlar_station_count(t: &Stations) -> usize
     ensures { λ r. ⌜ r ≡ countOf (now (t .entry)) ⌝ }
@@ -205,7 +206,7 @@ pub extern "C" fn ashlar_station_count(t: &Stations) -> usize
     stations::count(t)
 }
 
-// The station in row n and its access point. With each n below 128 a caller lists them all.
+// The station in row n and its access point (rule P7). With each n below 128 a caller lists them all.
 #[no_mangle]
 pub extern "C" fn ashlar_station_row(t: &Stations, n: usize) -> AshlarRow
     ensures { λ r. ⌜ r ≡ rowNumbers (rowShown (rowAt (now (t .entry)) n)) ⌝ }

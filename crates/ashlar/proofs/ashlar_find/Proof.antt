@@ -1,4 +1,5 @@
--- `ashlar_find` meets its contract: a walk of its MIR, by hand: a call of `find_place`, to which all parameters go, and one of `found_numbers`. Assumes nothing.
+-- `ashlar_find` meets its contract: a walk of its MIR, by hand: a call of `find_place`, to which all parameters go, and
+-- one of `found_numbers`. Assumes nothing.
 use mathlib.Core.Path.{_≡_, refl, _∙_, ap}
 use Prim.Native.Nat.{ℕ, _<_, _^_}
 use mathlib.Core.List.{List, [], _∷_}

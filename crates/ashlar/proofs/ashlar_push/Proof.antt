@@ -1,4 +1,5 @@
--- `ashlar_push` meets its contract: a walk of its MIR. Table, store and output are lent on to `push` for good (`gave-ref`, `gave-slice`); its answer goes to `push_numbers`.
+-- `ashlar_push` meets its contract: a walk of its MIR. Table, store and output are lent on to `push` for good
+-- (`gave-ref`, `gave-slice`); its answer goes to `push_numbers`.
 -- Assumes nothing.
 use mathlib.Core.Path.{_≡_, refl}
 use Prim.Native.Nat.{ℕ}
@@ -157,14 +158,16 @@ module _ {M : Type 1} (𝓤 : URA M) (H : Heap 𝓤) (A : Atoms 𝓤) (W : Given
         -- [the store's last list; the others'; the table's last value; the tokens and the result; …]
         move ! (1 ∷ []) $ fsplit ! $ fsplit ! $ move ! (1 ∷ []) $ feqL ! (λ m.
         move ! (4 ∷ []) $ split ! $ move ! (1 ∷ []) $ peeks ! S.the-row (Is S.the-row) (shows 𝓤 H A S.the-row) r (u ∷ []) (λ is.
-        -- [the result; the tokens; the output's last list; true; the store's; the table's; _11 (6); …; _6 (16); …; _0 (28); …]
+        -- [the result; the tokens; the output's last list; true; the store's; the table's; _11 (6); …; _6 (16); …; _0
+        -- (28); …]
         land ! (from ! (stop !)) (init ! 16 refl (EL.lawful S.the-type S′.the-laws 𝓤 H A W tt .typed r _ is .0)) $ drop ! $
         use0 W (raw (Num 𝓤 H A mem run .pre (to-num r u))) (handed-on r u is) $
         calls-at ! fm (Num 𝓤 H A mem run) known′ (to-num r u) (and-then ! (load ! (from ! (stop !)) (look ! 16 refl)) (no-more !)) (λ w.
         use1 W (later (some (λ (z : AshlarPushed). (‵ ftrue ⊛ ‵ (N.the-row .own z (w ∷ []))) ⊛ raw (ensured 𝓤 H A num.ended (num.clauses 𝓤 H A mem run) tt (r, tt) tt z)))) (id⊢ 𝓤 _) $ await ! tt $ pick ! (λ z.
         split ! $ move ! (1 ∷ []) $ use1 W (some (λ (vs : Unit {0} × Unit {0}). ‵ (lasts num.ended tt (r, tt) vs) ⊛ raw (fact 𝓤 (InNumbers r z)))) (id⊢ 𝓤 _) $ pick ! (λ vs.
         split ! $ move ! (1 ∷ []) $ heard ! (InNumbers r z) (λ e′. drop ! $ split ! $ move ! (1 ∷ []) $ peeks ! N.the-row (Is N.the-row) (shows 𝓤 H A N.the-row) z (w ∷ []) (λ is′.
-        -- [the result; true; the tokens; the output's last list; true; the store's; the table's; _11 (7); …; _0 (29); …]
+        -- [the result; true; the tokens; the output's last list; true; the store's; the table's; _11 (7); …; _0 (29);
+        -- …]
         land ! (from ! (stop !)) (init ! 29 refl (LL.lawful N.the-type N′.the-laws 𝓤 H A W .typed z _ is′ .0)) $
         returns ! (look ! 29 refl) $ forget ! 7 refl $ forget ! 9 refl $ forget ! 11 refl $ forget ! 13 refl $ forget ! 15 refl $ forget ! 17 refl $ forget ! 19 refl $ forget ! 21 refl $ forget ! 23 refl $ forget ! 25 refl $ forget ! 27 refl $ forget ! 29 refl $
         move ! (29 ∷ 30 ∷ []) $ free1 ! $ move ! (27 ∷ 28 ∷ []) $ free1 ! $ move ! (25 ∷ 26 ∷ []) $ free1 ! $ move ! (23 ∷ 24 ∷ []) $ free1 ! $ move ! (21 ∷ 22 ∷ []) $ free1 ! $ move ! (19 ∷ 20 ∷ []) $ free1 ! $ move ! (17 ∷ 18 ∷ []) $ free1 ! $ move ! (15 ∷ 16 ∷ []) $ free1 ! $ move ! (13 ∷ 14 ∷ []) $ free1 ! $ move ! (11 ∷ 12 ∷ []) $ free1 ! $ move ! (9 ∷ 10 ∷ []) $ free1 ! $ move ! (7 ∷ 8 ∷ []) $ free1 ! $ free0 ! $

@@ -1,4 +1,5 @@
--- `ashlar_read_kind` meets its contract: the numbers of what `measure` answers, which are those of the value as it reads.
+-- `ashlar_read_kind` meets its contract: the numbers of what `measure` answers, which are those of the value as it
+-- reads.
 use mathlib.Core.Path.{ap, _∙_}
 use denote.Ref.{now}
 use borrow.Author.Needs.{needs}

@@ -1,4 +1,5 @@
--- `ashlar_sweep` meets its contract: a walk of its MIR. The table is lent on to `sweep` for good (`gave-ref`), whose number is returned. Assumes nothing.
+-- `ashlar_sweep` meets its contract: a walk of its MIR. The table is lent on to `sweep` for good (`gave-ref`), whose
+-- number is returned. Assumes nothing.
 use mathlib.Core.Path.{_≡_, refl}
 use Prim.Native.Nat.{ℕ, _<_, _^_}
 use mathlib.Core.List.{[], _∷_, List}

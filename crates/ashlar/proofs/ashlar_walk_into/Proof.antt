@@ -1,4 +1,5 @@
--- `ashlar_walk_into` meets its contract: a walk of its MIR, by hand: a call of `walk_into`, to which the list is lent on for good (`gave-slice`), and one of `walk_numbers`. Assumes nothing.
+-- `ashlar_walk_into` meets its contract: a walk of its MIR, by hand: a call of `walk_into`, to which the list is lent
+-- on for good (`gave-slice`), and one of `walk_numbers`. Assumes nothing.
 use mathlib.Core.Path.{_≡_, refl, _∙_, ap}
 use Prim.Native.Nat.{ℕ}
 use mathlib.Core.List.{List, [], _∷_}
