@@ -1,4 +1,5 @@
--- Every row of the table holds: both sides compute to the same. Four rows on the table of fragments are theorems about runs.
+-- Every row of the table holds: both sides compute to the same. Four rows on the table of fragments are theorems about
+-- runs.
 use mathlib.Core.Path.{refl}
 use Rattle.searching.specs.Search.{lowest}
 use Rattle.machines.specs.Machine.{those}

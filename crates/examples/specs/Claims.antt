@@ -1,5 +1,6 @@
--- The worked examples of documents 01 and 02, proved together as one table, and a row for each choice that code and definition could get wrong alike: where both are wrong
--- in the same way no contract notices, and these do. A row is an equation between what a definition gives and what the document says.
+-- Worked examples of the rules, proved as one table. There is a row for each choice that code and definition could get
+-- wrong alike: where both are wrong in the same way no contract notices, and these rows do. A row is an equation
+-- between what a definition gives and what the rule says.
 use mathlib.Core.Path.{_≡_}
 use mathlib.Core.Bool.{true, false}
 use mathlib.Core.List.{List, [], _∷_, _++_}
@@ -37,52 +38,56 @@ use Rattle.c_stations.specs.Numbers.{noAddress, eventNumbers, appliedNumbers, w
 use Rattle.examples.specs.Given.{association, associated, padded, able, codesBelow, one-record, a-list, and-more, entry-of, mac, kept-mac, home, guest, services, plain-neighbours, neighbours, by-dhcp, static, ipv4, by-itself, ipv6, bridges, operational, configured, beyond, e-acute, identification, inventory, text-of, on-the-edge, past-the-edge, with-a-byte, with-none, two-tlvs, join-of, leave-of, with-7, with-128, rows-below, LetIn, ZeroThenLastOne}
 
 pub record OfFraming : Type 0 where
-  -- "empty gives 1; `01 00` gives 1"
+  -- Rule B3: no byte, and two bytes, are fewer than three: 1 with the shortfall.
   pub empty : readTlv [] ≡ refuses 1 (3 ∷ [])
   pub two-bytes : readTlv (0x01 ∷ 0x00 ∷ []) ≡ refuses 1 (1 ∷ [])
-  -- "`00 00 00` is type 0, consumed 3"
+  -- Rule B3: an empty value; the three bytes are consumed.
   pub end-marker : readTlv (0x00 ∷ 0x00 ∷ 0x00 ∷ []) ≡ gives (record { tlv-type = 0; value-length = 0; consumed = 3 })
-  -- "`01 00 02 AA` gives 2"
+  -- Rule B3: a value of two bytes of which one is there: 2 with the shortfall.
   pub runs-past : readTlv (0x01 ∷ 0x00 ∷ 0x02 ∷ 0xAA ∷ []) ≡ refuses 2 (1 ∷ [])
-  -- "`01 00 02 AA BB CC` has value `AA BB`, rest 1": five of the six bytes are consumed
+  -- Rule B3: of six bytes five are consumed, and the value is the last two of these.
   pub read : readTlv (0x01 ∷ 0x00 ∷ 0x02 ∷ 0xAA ∷ 0xBB ∷ 0xCC ∷ []) ≡ gives (record { tlv-type = 1; value-length = 2; consumed = 5 })
   pub value : valueIn (readTlv (0x01 ∷ 0x00 ∷ 0x02 ∷ 0xAA ∷ 0xBB ∷ 0xCC ∷ [])) (0x01 ∷ 0x00 ∷ 0x02 ∷ 0xAA ∷ 0xBB ∷ 0xCC ∷ []) ≡ 0xAA ∷ 0xBB ∷ []
-  -- 2 goes before any look at the value, and 1 before the declared length: a length that can't be read is not looked at
+  -- Rule B3: the largest length, and no byte of the value: all of it is missing.
   pub runs-far-past : readTlv (0x01 ∷ 0xFF ∷ 0xFF ∷ []) ≡ refuses 2 (65535 ∷ [])
-  -- the CMDU header: "version, reserved byte, type in 2 bytes, message id in 2, fragment number, flags; bit 7 of flags marks the last fragment"
+  -- Rule B6: the fields of a CMDU header in their order. Bit 7 alone of the flags is the last mark.
   pub header-of : readHeader (0x01 ∷ 0x02 ∷ 0x80 ∷ 0x03 ∷ 0x12 ∷ 0x34 ∷ 0x05 ∷ 0x80 ∷ [])
       ≡ gives (record { «message_version» = 1; reserved = 2; «message_type» = 0x8003; «message_id» = 0x1234; fragment = 5; flags = 0x80; «last_fragment» = true })
   pub not-the-last : readHeader (replicate 7 0x00 ++ (0x7F ∷ []))
       ≡ gives (record { «message_version» = 0; reserved = 0; «message_type» = 0; «message_id» = 0; fragment = 0; flags = 0x7F; «last_fragment» = false })
+  -- Rule B6: fewer than 8 bytes: 1 with the shortfall.
   pub no-header : readHeader [] ≡ refuses 1 (8 ∷ [])
   pub seven-bytes : readHeader (replicate 7 0x80) ≡ refuses 1 (1 ∷ [])
-  -- "65,535 bytes written, 65,536 refused"; 8 before 7, and the room that is just enough
+  -- Rule B5: the longest value in room that is just enough; 8 comes before 7.
   pub longest : writeSize 65535 65538 ≡ gives 65538
   pub a-byte-too-long : writeSize 65536 0 ≡ refuses 8 []
   pub a-byte-of-room-too-few : writeSize 65535 65537 ≡ refuses 7 []
+  -- Rules B1 and B2: the type, and then the length with its higher byte first.
   pub header-bytes : header 0x92 0x1234 ≡ 0x92 ∷ 0x12 ∷ 0x34 ∷ []
-  -- "Bytes past the TLV stay as lent"
+  -- Rule B5: room past the TLV keeps what it held. Rule A3: a refusal changes nothing.
   pub past-it : leaves (writeSize 0 5) (header 2 0) (1 ∷ 2 ∷ 3 ∷ 4 ∷ 5 ∷ []) ≡ 2 ∷ 0 ∷ 0 ∷ 4 ∷ 5 ∷ []
   pub as-lent : leaves (writeSize 0 2) (header 2 0) (1 ∷ 2 ∷ []) ≡ 1 ∷ 2 ∷ []
 
 pub record OfWalks : Type 0 where
-  -- "An empty payload has none."
+  -- Rule W3: no byte, no TLV.
   pub no-tlvs : counted (walkOf []) ≡ gives (record { count = 0; padding = 0 })
-  -- document 02, 2026-03: "8 header bytes and a 3-byte end marker [..] padded by an Ethernet bridge to 46, and 35 zero bytes": one TLV, and its padding
+  -- Rule W3: a topology query has a header of 8 bytes and the end marker. With 35 zero bytes after it, it has the 46
+  -- that Ethernet asks for: one TLV, and 35 bytes of padding.
   pub padded-to : length (padded 35) ≡ 46
   pub padded-walk : counted (walkOf (drop 8 (padded 35))) ≡ gives (record { count = 1; padding = 35 })
   pub unpadded-walk : counted (walkOf (drop 8 (padded 0))) ≡ gives (record { count = 1; padding = 0 })
-  -- "the `end 7` example stands": the marker is the last of seven bytes; and a TLV of type 0 with a length is none
+  -- Rule W2: the marker is the last three of seven bytes; and a TLV of type 0 with a value is no marker.
   pub end-7 : counted (walkOf (0x01 ∷ 0x00 ∷ 0x01 ∷ 0x7F ∷ 0x00 ∷ 0x00 ∷ 0x00 ∷ [])) ≡ gives (record { count = 2; padding = 0 })
   pub type-0-with-a-length : counted (walkOf (0x00 ∷ 0x00 ∷ 0x01 ∷ 0x7F ∷ 0x01 ∷ 0x00 ∷ 0x00 ∷ [])) ≡ gives (record { count = 2; padding = 0 })
-  -- a step, over a TLV, over the marker, and at the end
+  -- Rule W6: a step over a TLV, over the marker, and at the end.
   pub step-over : stepAt two-tlvs 0 ≡ gives (passed with-a-byte 4)
   pub step-at-the-marker : stepAt (0x00 ∷ 0x00 ∷ 0x00 ∷ 0x01 ∷ []) 0 ≡ gives (last (record { «tlv_type» = 0; length = 0; offset = 0 }) 3)
   pub step-at-the-end : stepAt two-tlvs 7 ≡ gives ended
-  -- "Walk refusals give the offset of the failing TLV", and since 2026-01 the shortfall after it
+  -- Rule W4: the offset of the TLV that can't be read, and then the shortfall.
   pub cut-header : counted (walkOf (two-tlvs ++ (0x03 ∷ 0x00 ∷ []))) ≡ refuses 1 (7 ∷ 1 ∷ [])
   pub cut-value : counted (walkOf (two-tlvs ++ (0x03 ∷ 0x00 ∷ 0x05 ∷ 0x09 ∷ []))) ≡ refuses 2 (7 ∷ 4 ∷ [])
-  -- "for 14 the first without a place"; "1 or 2 wherever it occurs before 14"; a list that is just long enough
+  -- Rule W5: 14 with the offset of the first TLV that has no element; 1 and 2 come before 14; a list that is just long
+  -- enough; and an element that keeps what it held.
   pub list-too-short : listed 1 (walkOf two-tlvs) ≡ refuses 14 (4 ∷ [])
   pub no-list : listed 0 (walkOf two-tlvs) ≡ refuses 14 (0 ∷ [])
   pub fault-before-14 : listed 0 (walkOf (two-tlvs ++ (0x03 ∷ 0x00 ∷ []))) ≡ refuses 1 (7 ∷ 1 ∷ [])
@@ -90,22 +95,23 @@ pub record OfWalks : Type 0 where
   pub list-filled : filled (listed 3 (walkOf two-tlvs)) (walkOf two-tlvs .items) (with-none ∷ with-none ∷ with-a-byte ∷ []) ≡ with-a-byte ∷ with-none ∷ with-a-byte ∷ []
 
 pub record OfKinds : Type 0 where
-  -- "The 21 kinds", and three that hold text: there are so many, and these they are
+  -- Rule K2: all codes that a kind has.
   pub the-24 : codesBelow 256 ≡ 0xD4 ∷ 0xB7 ∷ 0xB4 ∷ 0xB3 ∷ 0x92 ∷ 0x83 ∷ 0x80 ∷ 30 ∷ 26 ∷ 24 ∷ 23 ∷ 22 ∷ 21 ∷ 16 ∷ 15 ∷ 13 ∷ 12 ∷ 8 ∷ 7 ∷ 6 ∷ 4 ∷ 2 ∷ 1 ∷ 0 ∷ []
-  -- "association byte 80, 00, and 81 (refused)"
+  -- Rules K2 and K5: 0x80 says joined, 0x00 left, and any other byte is refused by 5.
   pub joined : readKind 0x92 (association 0x80) ≡ one-record (associated AssociationState.JoinedBss) 13 0
   pub left : readKind 0x92 (association 0x00) ≡ one-record (associated AssociationState.LeftBss) 13 0
   pub neither : readKind 0x92 (association 0x81) ≡ refuses 5 []
-  -- "profile 00 (5) and 04"
+  -- Rules K2 and K5: profile 0 is refused by 5, and 4 is kept as reserved.
   pub no-profile : readKind 0xB3 (0x00 ∷ []) ≡ refuses 5 []
   pub reserved-profile : readKind 0xB3 (0x04 ∷ []) ≡ one-record (Record.MultiApProfile (MultiApProfile.Reserved 4)) 1 0
-  -- "capability `00 00 A8 02` is MiB, prioritization, no onboarding, separation, 2 VIDs"
+  -- Rule K6: in the third byte 0xA8, the units are MiB, and prioritization and traffic separation are set.
   pub capability : readKind 0xB4 (0x00 ∷ 0x00 ∷ 0xA8 ∷ 0x02 ∷ []) ≡ one-record able 4 0
-  -- "kind 6 with 11 bytes gives 4"
+  -- Rule K4: an address and five bytes of an entry, which count as left over.
   pub cut-entry : readKind 6 (replicate 11 0x02) ≡ refuses 4 []
-  -- "kind 1 with 7 bytes leaves 1"
+  -- Rule K1: seven bytes are an address and a rest of one.
   pub al-mac-address : readKind 1 (and-more (mac 1)) ≡ one-record (Record.AlMacAddress (kept-mac 1)) 6 1
-  -- The other kinds, each by a value and a byte more, which is left or refused, and of a list the last entry of the deepest level
+  -- Rules K2 and K4: each other kind by a value and a byte more, which is the rest or is refused. For a list also the
+  -- last entry of the deepest level (rule E1).
   pub end-of-message : readKind 0 [] ≡ one-record Record.EndOfMessage 0 0
   pub no-end-of-message : readKind 0 (0x78 ∷ []) ≡ refuses 4 []
   pub mac-address : readKind 2 (and-more (mac 2)) ≡ one-record (Record.MacAddress (kept-mac 2)) 6 1
@@ -140,7 +146,7 @@ pub record OfKinds : Type 0 where
   pub l2-neighbours : readKind 30 beyond ≡ a-list 1 29 0
   pub l2-left-over : readKind 30 (and-more beyond) ≡ refuses 4 []
   pub last-beyond : entry-of 30 (0 ∷ 0 ∷ 1 ∷ []) beyond ≡ mac 4
-  -- "16, then .. 3, 4, 5, 6": an unknown code, a value cut short, and entries that no list has
+  -- Rules K1, K4 and E2: a code that no kind has, a value cut short, and entries that no list has.
   pub unknown-kind : readKind 3 [] ≡ refuses 16 []
   pub cut-record : readKind 1 (0x02 ∷ []) ≡ refuses 3 []
   pub cut-list : readKind 23 (0x01 ∷ mac 1) ≡ refuses 3 []
@@ -151,10 +157,11 @@ pub record OfKinds : Type 0 where
   pub entry-of-a-record : locateKind 1 (0 ∷ []) (mac 1) ≡ refuses 6 []
   pub entry-of-a-cut-record : locateKind 1 (0 ∷ []) (0x02 ∷ []) ≡ refuses 3 []
   pub entry-of-no-kind : locateKind 3 (0 ∷ []) [] ≡ refuses 16 []
+  -- Rule E3: how many entries the list in an entry has; a record kind has no list.
   pub entries-counted : countKind 0x83 (0 ∷ []) operational ≡ gives 2
   pub letters-counted : countKind 0x83 (0 ∷ 1 ∷ []) operational ≡ gives 5
   pub none-counted-in-a-record : countKind 1 [] (mac 1) ≡ refuses 6 []
-  -- "on writing 16, 9, 3, 4, 5, 8, 7", 18 after 3; the rest is not written
+  -- Rules O1 to O3: each refusal on writing, but for 8; the rest is not written.
   pub written-without-its-rest : kindBytes 0x80 (and-more services) ≡ 0x80 ∷ 0x00 ∷ 0x03 ∷ services
   pub size-written : writeKind 0x80 (and-more services) 6 ≡ gives 6
   pub no-room-for-it : writeKind 0x80 services 5 ≡ refuses 7 []
@@ -170,7 +177,7 @@ pub record OfKinds : Type 0 where
   pub stray-address : recordSize (Record.LinkMetricQuery (record { «neighbor_type» = 0; «neighbor_mac» = NeighborMac.Address (kept-mac 2); «requested_metrics» = 2 })) 0 ≡ refuses 9 []
 
 pub record OfTexts : Type 0 where
-  -- The kinds that hold text (document 02, 2026-04)
+  -- Rules K2 and E6 to E8: the kinds that hold text, and their texts.
   pub device-identification : readKind 21 (and-more identification) ≡ a-list 0 192 1
   pub model-name : text-of 21 0 identification ≡ e-acute
   pub no-name : text-of 21 1 identification ≡ []
@@ -182,16 +189,17 @@ pub record OfTexts : Type 0 where
   pub last-radio : entry-of 0xD4 (1 ∷ []) inventory ≡ mac 2 ++ home
   pub no-byte-of-it : locateKind 0xD4 (1 ∷ 0 ∷ []) inventory ≡ refuses 6 []
   pub last-chip : partOf (locateRadioText 1 inventory) inventory ≡ 0x68 ∷ 0x6F ∷ 0x6D ∷ 0x65 ∷ []
-  -- every character on the edge of a line of RFC 3629's grammar is UTF-8, and none of its neighbours outside
+  -- Rule E5: every character on the edge of a line of RFC 3629's grammar is UTF-8, and none of its neighbours outside.
   pub accepted : those isUtf8 on-the-edge ≡ on-the-edge
   pub refused : those isUtf8 past-the-edge ≡ []
   pub no-text : readKind 22 (0xC0 ∷ 0x80 ∷ []) ≡ refuses 18 []
-  -- 3 wins over 18: a bad first string, and no second one
+  -- Rule K7: 3 comes before 18, where the first text is bad and there is no second one.
   pub cut-wins : readKind 0xD4 (0x01 ∷ 0xFF ∷ []) ≡ refuses 3 []
-  -- a text that is not there, and a text of a kind that holds none: 6, once the value has read
+  -- Rules E7 and E8: no such text, and a text of a kind that is no text kind: 6, once the value has read.
   pub no-fourth-text : locateTextIn 21 3 identification ≡ refuses 6 []
   pub text-of-a-record : locateTextIn 1 0 (mac 1) ≡ refuses 6 []
   pub no-third-radio : locateRadioText 2 inventory ≡ refuses 6 []
+  -- Rule E3: the radios are counted; kinds 21 and 22 have no entries; a radio has no list.
   pub radios-counted : countKind 0xD4 [] inventory ≡ gives 2
   pub no-radios-counted : countKind 21 [] identification ≡ gives 0
   pub no-entries-of-a-url : countKind 22 [] e-acute ≡ gives 0
@@ -199,70 +207,72 @@ pub record OfTexts : Type 0 where
   pub no-list-in-a-url : countKind 22 (0 ∷ []) e-acute ≡ refuses 6 []
 
 pub record OfFinding : Type 0 where
-  -- "the first record with the kind's code whose value reads": the record at place 0 doesn't read as kind 2, a TLV of kind 1 stands between
+  -- Rule F1: of three records, the one at place 0 doesn't read as kind 2, and the next one is of kind 1.
   pub found-at : findFrom 2 (with-none ∷ with-a-byte ∷ record { «tlv_type» = 2; length = 6; offset = 4 } ∷ []) (two-tlvs ++ mac 3) 0
       ≡ gives (record { place = 2; tlv = record { «tlv_type» = 2; length = 6; offset = 4 }; reading = record { held = one (Record.MacAddress (kept-mac 3)); consumed = 6; rest = 0 } })
   pub none-found : findFrom 2 (with-none ∷ with-a-byte ∷ []) two-tlvs 0 ≡ refuses 15 []
   pub no-kind-to-find : findFrom 3 (with-none ∷ []) two-tlvs 0 ≡ refuses 16 []
-  -- over a payload 16 comes first, then the walk's own refusal
+  -- Rule F4: in a payload 16 comes first, then the walk's own refusal, then 15.
   pub none-in-a-payload : findInPayload 2 two-tlvs 0 ≡ refuses 15 []
   pub unwalked : findInPayload 2 (0x02 ∷ []) 0 ≡ refuses 1 (0 ∷ 2 ∷ [])
   pub no-kind-in-a-payload : findInPayload 3 (0x02 ∷ []) 0 ≡ refuses 16 []
 
 pub record OfTheTable : Type 0 where
-  -- the steps of push in their order: 11, then 12, then a number that is held, then the last mark
+  -- Rules T4 to T7: push's steps in their order. 11, then 12, then a number that is held, then the last mark.
   pub store-too-small : (keeps joins : Way) → wayBy 47743 1493 0 false keeps joins ≡ refuse 11 []
   pub payload-too-long : (keeps joins : Way) → wayBy 47744 1493 0 false keeps joins ≡ refuse 12 []
   pub held-already : (keeps joins : Way) → wayBy 47744 1492 31 true keeps joins ≡ duplicate
   pub kept-if-not-last : (keeps joins : Way) → wayBy 47744 1492 32 false keeps joins ≡ keeps
   pub joined-if-last : (keeps joins : Way) → wayBy 47744 1492 32 true keeps joins ≡ joins
-  -- 10: no place is free, or no row for a new key; a key that has a row needs none
+  -- Rule T6: 10 where no place is free, or no row for a new key. A key that has a row needs none.
   pub no-place-free : keepWay (record { row = 0; place = 32; free = 32; spare = 0 }) ≡ refuse 10 []
   pub no-row-free : keepWay (record { row = 16; place = 32; free = 31; spare = 16 }) ≡ refuse 10 []
   pub row-of-its-own : keepWay (record { row = 15; place = 32; free = 31; spare = 16 }) ≡ keepAt 31
   pub new-row : keepWay (record { row = 16; place = 32; free = 0; spare = 15 }) ≡ openAt 0 15
-  -- 13, of two fragments or more, gives the message's length; a single one needs no output
+  -- Rule T9: 13 carries the length of a message of two fragments or more. A message of one needs no output.
   pub output-too-small : messageWay 2 (1 ∷ 2 ∷ 3 ∷ []) 2 ≡ refuse 13 (3 ∷ [])
   pub output-just-enough : messageWay 2 (1 ∷ 2 ∷ 3 ∷ []) 3 ≡ end (joinedAs 3) (1 ∷ 2 ∷ 3 ∷ [])
   pub single-needs-none : messageWay 1 (1 ∷ 2 ∷ 3 ∷ []) 0 ≡ end (single 3) []
-  -- "elapsed 2,999 stays, 3,000 goes": one fragment, not marked last, and a sweep so many milliseconds later
+  -- Rule S1: a fragment that is not marked last is pushed. A sweep 2,999 milliseconds later drops nothing, and one
+  -- 3,000 milliseconds later drops its key.
   pub stays : (store : List ℕ) (p : Push) → LetIn store p → p .arrival .fragment .last ≡ false
       → (replyTo (after (start store) (push p)) (sweep (p .arrival .time + 2999)) ≡ dropped 0)
       × (holding (p .arrival .key) (after (after (start store) (push p)) (sweep (p .arrival .time + 2999))) ≡ holding (p .arrival .key) (after (start store) (push p)))
   pub goes : (store : List ℕ) (p : Push) → LetIn store p → p .arrival .fragment .last ≡ false
       → (replyTo (after (start store) (push p)) (sweep (p .arrival .time + 3000)) ≡ dropped 1)
       × (holding (p .arrival .key) (after (after (start store) (push p)) (sweep (p .arrival .time + 3000))) ≡ holdsNothing)
-  -- "number 0 then last 1 completes"
+  -- Rules T6 and T9: fragment 0, and then fragment 1 with the last mark, are a whole message.
   pub completes : (store : List ℕ) (p q : Push) → LetIn store p → LetIn store q → ZeroThenLastOne p q
       → repliesTo (q .arrival .key) (start store) (push p ∷ push q ∷ [])
       ≡ pushed (gives waiting) [] ∷ pushed (gives (joinedAs (length (p .payload ++ q .payload)))) (p .payload ++ q .payload) ∷ []
-  -- "last 1 alone gives `MissingFragments`"
+  -- Rule T8: fragment 1 with the last mark, without fragment 0, is answered by "missing".
   pub alone : (store : List ℕ) (p : Push) → LetIn store p → p .arrival .fragment .number ≡ 1 → p .arrival .fragment .last ≡ true
       → replyTo (start store) (push p) ≡ pushed (gives missing) []
 
--- Request 2026-02: each answer of an event, with the stations that the table holds after it
+-- Rules P2 to P6: each answer of an event, with the stations that the table holds after it.
 pub record OfStations : Type 0 where
   pub placed : (answerTo freshStations (join-of 7 1) ≡ gives Heard.New) × (rows-below 128 with-7 ≡ heldRow 7 1 ∷ [])
-  -- a move says where the station was
+  -- Rule P2: a move says where the station was.
   pub moved : (answerTo with-7 (join-of 7 2) ≡ gives (Heard.Moved (record { b0 = 0; b1 = 0; b2 = 0; b3 = 0; b4 = 0; b5 = 1 })))
       × (rows-below 128 (tableAfter with-7 (join-of 7 2)) ≡ heldRow 7 2 ∷ [])
   pub same : (answerTo with-7 (join-of 7 1) ≡ gives Heard.There) × (rows-below 128 (tableAfter with-7 (join-of 7 1)) ≡ heldRow 7 1 ∷ [])
   pub second : (answerTo with-7 (join-of 0 1) ≡ gives Heard.New) × (rows-below 128 (tableAfter with-7 (join-of 0 1)) ≡ heldRow 0 1 ∷ heldRow 7 1 ∷ [])
   pub removed : (answerTo with-7 (leave-of 7 1) ≡ gives Heard.Removed) × (rows-below 128 (tableAfter with-7 (leave-of 7 1)) ≡ [])
-  -- a late leave, and a leave of a station that is not held
+  -- Rule P3: a late leave, and a leave of a station that is not held.
   pub late : (answerTo with-7 (leave-of 7 2) ≡ gives Heard.Stale) × (rows-below 128 (tableAfter with-7 (leave-of 7 2)) ≡ heldRow 7 1 ∷ [])
   pub not-held : (answerTo with-7 (leave-of 8 1) ≡ gives Heard.Stale) × (rows-below 128 (tableAfter with-7 (leave-of 8 1)) ≡ heldRow 7 1 ∷ [])
-  -- 17, "a join of an unknown station with 128 held"; a known one moves, and a leave makes room
+  -- Rule P4: with 128 held, another station's join is refused by 17, and a station that is held moves. Rule P7: a leave
+  -- makes room.
   pub held-128 : countOf with-128 ≡ 128
   pub unknown-refused : (answerTo with-128 (join-of 128 1) ≡ refuses 17 []) × (rows-below 128 (tableAfter with-128 (join-of 128 1)) ≡ rows-below 128 with-128)
   pub known-moves : (answerTo with-128 (join-of 5 2) ≡ gives (Heard.Moved (record { b0 = 0; b1 = 0; b2 = 0; b3 = 0; b4 = 0; b5 = 1 }))) × (countOf (tableAfter with-128 (join-of 5 2)) ≡ 128)
   pub leave-frees : (answerTo with-128 (leave-of 5 1) ≡ gives Heard.Removed) × (answerTo (tableAfter with-128 (leave-of 5 1)) (join-of 128 1) ≡ gives Heard.New)
-  -- an event in a value of kind 0x92: its bytes that were taken, or the reader's refusal, which alters nothing
+  -- Rule P6: an event in a value of kind 0x92. The bytes consumed, or the reader's refusal, which changes nothing.
   pub event-read : answerFrom freshStations (and-more (association 0x80)) ≡ gives (record { heard = Heard.New; consumed = 13 })
   pub event-cut : (answerFrom with-7 (0x02 ∷ []) ≡ refuses 3 []) × (rows-below 128 (tableFrom with-7 (0x02 ∷ [])) ≡ heldRow 7 1 ∷ [])
   pub event-unreadable : (answerFrom with-7 (association 0x81) ≡ refuses 5 []) × (rows-below 128 (tableFrom with-7 (association 0x81)) ≡ heldRow 7 1 ∷ [])
 
--- Each answer as C gets it: the fields of the structs of include/ashlar.h
+-- Rule C1: each answer as C gets it, in the fields of the structs of include/ashlar.h.
 pub record OfC : Type 0 where
   pub c-header : headerNumbers (gives (record { «message_version» = 1; reserved = 2; «message_type» = 3; «message_id» = 4; fragment = 5; flags = 0x86; «last_fragment» = true }))
       ≡ record { shortfall = 0; version = 1; reserved = 2; «message_type» = 3; «message_id» = 4; number = 5; flags = 0x86; last = true; refusal = 0 }
@@ -286,7 +296,8 @@ pub record OfC : Type 0 where
   pub c-single : pushNumbers (gives (single 9)) ≡ record { length = 9; answer = 6; refusal = 0 }
   pub c-joined : pushNumbers (gives (joinedAs 9)) ≡ record { length = 9; answer = 7; refusal = 0 }
   pub c-output-too-small : pushNumbers (refuses 13 (9 ∷ [])) ≡ record { length = 9; answer = 0; refusal = 13 }
-  -- where the message lies: in a payload of 9 bytes, or in an output of 10; a length beyond either shows nothing
+  -- Rule T10: where the message lies, in a payload of 9 bytes or in an output of 10. A length beyond either shows
+  -- nothing.
   pub c-shown-in-payload : shownIn (record { length = 9; answer = 6; refusal = 0 }) 9 0 ≡ record { length = 9; «in_output» = false }
   pub c-shown-in-output : shownIn (record { length = 10; answer = 7; refusal = 0 }) 0 10 ≡ record { length = 10; «in_output» = true }
   pub c-shown-beyond : shownIn (record { length = 10; answer = 7; refusal = 0 }) 99 9 ≡ record { length = 0; «in_output» = true }
@@ -297,7 +308,7 @@ pub record OfC : Type 0 where
   pub c-removed : eventNumbers (gives Heard.Removed) ≡ record { from = noAddress; answer = 4; refusal = 0 }
   pub c-stale : eventNumbers (gives Heard.Stale) ≡ record { from = noAddress; answer = 5; refusal = 0 }
   pub c-no-station-room : eventNumbers (refuses 17 []) ≡ record { from = noAddress; answer = 0; refusal = 17 }
-  -- an event from a value of 20 bytes, of which it took 13
+  -- Rule P6: an event from a value of 20 bytes, of which it took 13.
   pub c-applied : appliedNumbers 20 (gives (record { heard = Heard.Stale; consumed = 13 })) ≡ record { consumed = 13; rest = 7; heard = record { from = noAddress; answer = 5; refusal = 0 } }
   pub c-not-applied : appliedNumbers 20 (refuses 5 []) ≡ record { consumed = 0; rest = 0; heard = record { from = noAddress; answer = 0; refusal = 5 } }
   pub c-at : whereNumbers (Where.At (kept-mac 1)) ≡ record { point = kept-mac 1; held = true }

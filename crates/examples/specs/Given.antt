@@ -1,4 +1,5 @@
--- What the examples are made of: bytes as they come off the wire, field by field, and the records and tables that they stand for.
+-- What the examples are made of: bytes as they come off the wire, field by field, and the records and tables that they
+-- stand for.
 use mathlib.Core.Path.{_≡_}
 use mathlib.Core.Bool.{Bool, true, false, cond}
 use mathlib.Core.List.{List, [], _∷_, _++_}
@@ -28,11 +29,12 @@ association last = replicate 6 0x02 ++ (replicate 6 0x0A ++ (last ∷ []))
 abbrev pub associated : AssociationState → Record
 associated state = Record.ClientAssociation (record { «sta_mac» = address 0x02; «ap_mac» = address 0x0A; «association_state» = state })
 
--- a topology query as it leaves an Ethernet bridge: version 0, type 2, id 1, fragment number 0, marked last; the end marker; and so many zero bytes
+-- A topology query as it leaves an Ethernet bridge: version 0, type 2, id 1, fragment number 0, marked last; the end
+-- marker; and then zero bytes, as many as the number says.
 abbrev pub padded : ℕ → List ℕ
 padded zeros = (0x00 ∷ 0x00 ∷ 0x00 ∷ 0x02 ∷ 0x00 ∷ 0x01 ∷ 0x00 ∷ 0x80 ∷ []) ++ ((0x00 ∷ 0x00 ∷ 0x00 ∷ []) ++ replicate zeros 0x00)
 
--- "MiB, prioritization, no onboarding, separation, 2 VIDs"
+-- Rule K6: the units MiB, prioritization without DPP onboarding, traffic separation, and at most 2 VLAN ids.
 abbrev pub able : Record
 able = Record.Profile2ApCapability (record {
   «max_prioritization_rules» = 0;
@@ -50,14 +52,14 @@ abbrev pub codesBelow : ℕ → List ℕ
 codesBelow zero = []
 codesBelow (suc n) = cond (isKind n) (n ∷ codesBelow n) (codesBelow n)
 
--- a record or a list that was read, with so many bytes consumed and so many behind them
+-- A record or a list that was read, with the number of bytes consumed and the number of bytes after them.
 abbrev pub one-record : Record → ℕ → ℕ → Answer (Typed Record)
 one-record r n m = gives (record { held = one r; consumed = n; rest = m })
 
 abbrev pub a-list : ℕ → ℕ → ℕ → Answer (Typed Record)
 a-list entries n m = gives (record { held = list entries; consumed = n; rest = m })
 
--- a value with a byte behind it
+-- A value with a byte after it.
 abbrev pub and-more : List ℕ → List ℕ
 and-more value = value ++ (0x78 ∷ [])
 
@@ -65,14 +67,15 @@ and-more value = value ++ (0x78 ∷ [])
 abbrev pub entry-of : ℕ → List ℕ → List ℕ → List ℕ
 entry-of code numbers value = partOf (locateKind code numbers value) value
 
--- The values of the kinds, field by field, by the layouts of the standards. The address 02:00:5E:10:20:n, in bytes and as it is kept:
+-- The values of the kinds, field by field, by the layouts of the standards (rule K2). The address 02:00:5E:10:20:n, in
+-- bytes and as it is kept:
 abbrev pub mac : ℕ → List ℕ
 mac n = 0x02 ∷ 0x00 ∷ 0x5E ∷ 0x10 ∷ 0x20 ∷ n ∷ []
 
 abbrev pub kept-mac : ℕ → MacAddr
 kept-mac n = record { b0 = 0x02; b1 = 0x00; b2 = 0x5E; b3 = 0x10; b4 = 0x20; b5 = n }
 
--- the names of networks "home" and "guest": a length, and so many bytes
+-- The names of the networks "home" and "guest": a length, and as many bytes (rule E4).
 abbrev pub home : List ℕ
 home = 0x04 ∷ 0x68 ∷ 0x6F ∷ 0x6D ∷ 0x65 ∷ []
 
@@ -87,7 +90,8 @@ services = 0x02 ∷ 0x00 ∷ 0x01 ∷ []
 abbrev pub plain-neighbours : List ℕ
 plain-neighbours = mac 1 ++ (mac 2 ++ mac 3)
 
--- IEEE 1905.1: the address of the own interface, and two neighbours, each with a byte whose bit 7 says that bridges stand between
+-- IEEE 1905.1: the address of the own interface, and two neighbours, each with a byte whose bit 7 says that bridges
+-- stand between.
 abbrev pub neighbours : List ℕ
 neighbours = mac 1 ++ (mac 2 ++ (0x00 ∷ (mac 3 ++ (0x80 ∷ []))))
 
@@ -125,11 +129,13 @@ operational = 0x01 ∷ (mac 1 ++ (0x02 ∷ (mac 2 ++ (home ++ (mac 3 ++ guest)))
 abbrev pub configured : List ℕ
 configured = 0x01 ∷ (mac 1 ++ (0x02 ∷ (mac 2 ++ (0x40 ∷ 0x00 ∷ (home ++ (mac 3 ++ (0x80 ∷ 0x00 ∷ guest)))))))
 
--- IEEE 1905.1a: one interface by its address, with one neighbour by its own, with two addresses behind it; the two inner counts have two bytes
+-- IEEE 1905.1a: one interface by its address, with one neighbour by its own, with the two addresses that it reaches.
+-- The two inner counts have two bytes (rule K2).
 abbrev pub beyond : List ℕ
 beyond = 0x01 ∷ (mac 1 ++ (0x00 ∷ 0x01 ∷ (mac 2 ++ (0x00 ∷ 0x02 ∷ (mac 3 ++ mac 4)))))
 
--- Text, by document 02: a field of 64 bytes with a text, then a zero byte, and then what is not looked at; "é" in two bytes
+-- Rule E6: a field of 64 bytes with a text, then a zero byte, and then what is not looked at. The letter é in two
+-- bytes.
 abbrev pub in-field : List ℕ → List ℕ
 in-field text = text ++ (0x00 ∷ replicate (63 - length text) 0xFF)
 
@@ -140,7 +146,7 @@ e-acute = 0xC3 ∷ 0xA9 ∷ []
 abbrev pub identification : List ℕ
 identification = in-field e-acute ++ (in-field [] ++ replicate 64 0x61)
 
--- three strings and two radios, each its id and a string: here the names from above
+-- Three texts and two radios, each its id and a text (rule E8): here the names from above.
 abbrev pub inventory : List ℕ
 inventory = home ++ (guest ++ (0x00 ∷ (0x02 ∷ (mac 1 ++ (guest ++ (mac 2 ++ home))))))
 
@@ -161,7 +167,8 @@ on-the-edge =
     (0xF4 ∷ 0x80 ∷ 0x80 ∷ 0x80 ∷ []) ∷ (0xF4 ∷ 0x8F ∷ 0xBF ∷ 0xBF ∷ []) ∷
     []
 
--- and its neighbours outside: a first byte that begins none, a second byte one below or one above its range, a last byte that is no tail, a character cut short
+-- and its neighbours outside: a first byte that begins none, a second byte one below or one above its range, a last
+-- byte that is no tail, a character cut short
 abbrev pub past-the-edge : List (List ℕ)
 past-the-edge =
     (0x80 ∷ []) ∷ (0xBF ∷ []) ∷ (0xC0 ∷ 0x80 ∷ []) ∷ (0xC1 ∷ 0xBF ∷ []) ∷ (0xF5 ∷ 0x80 ∷ 0x80 ∷ 0x80 ∷ []) ∷ (0xFF ∷ []) ∷
@@ -193,7 +200,8 @@ join-of s p = record { station = s; point = p; is-join = true }
 abbrev pub leave-of : ℕ → ℕ → Event
 leave-of s p = record { station = s; point = p; is-join = false }
 
--- a table with station 7 at access point 1, and one with the 128 stations 0 to 127 there: row n has the mark of station n, which is n + 1
+-- A table with station 7 at access point 1, and one with the 128 stations 0 to 127 there: row n has the mark of station
+-- n, which is n + 1.
 abbrev pub with-7 : Stations
 with-7 = tableAfter freshStations (join-of 7 1)
 
@@ -213,13 +221,14 @@ abbrev pub rows-below : ℕ → Stations → List StationRow
 rows-below zero t = []
 rows-below (suc n) t = heldOr (rowAt t n) (rows-below n t)
 
--- a push that is let in: with a large enough store and a payload that fits a place
+-- Rule T4: a push that is let in, with a long enough store and a payload that fits a place.
 pub record LetIn (store : List ℕ) (p : Push) : Type 0 where
   pub long : storeSize ≤ length store
   pub lent : storeSize ≤ p .lent
   pub small : length (p .payload) ≤ placeSize
 
--- two pushes under one key with equal version and type: number 0, not marked last, and number 1, marked last, with room for both payloads
+-- Two pushes under one key with equal version and type: number 0, not marked last, and number 1, marked last, with room
+-- for both payloads.
 pub record ZeroThenLastOne (p q : Push) : Type 0 where
   pub key : p .arrival .key ≡ q .arrival .key
   pub version : p .arrival .fragment .version ≡ q .arrival .fragment .version

@@ -1,1 +1,1 @@
-// Document 01, "Examples to check", as one proved table: specs/Examples.antt says each row, proofs/Examples.antt proves them together.
+// Worked examples of the rules as one proved table: specs/Claims.antt states each row, proofs/Claims.antt proves them.
