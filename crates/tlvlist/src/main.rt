@@ -1,5 +1,7 @@
-// Lists the TLVs of the payload on standard input, a line for each: its type and the length of its value. Then `end` and where the message
-// ends, behind its end marker or at the payload's end, or `bad`, the number of the refusal, the offset of the TLV that failed and how many bytes are missing.
+// Rules L1 to L3: lists the TLVs of the payload on standard input, a line for each, with its type and the length of its
+// value. Then comes `end` and where the message ends, after its end marker or at the payload's end. Where the walk
+// refuses, `bad` comes instead, with the refusal's number, the offset of the TLV that failed, and how many bytes are
+// missing.
 use libc::STDIN_FILENO;
 use libc::STDOUT_FILENO;
 use walking::Stepped;
@@ -10,7 +12,8 @@ ghost use lib.ListN.{length};
 // A line is at most 70 bytes long: "bad ", three numbers of at most 20 digits, " at ", a space and the line's end.
 const LINE: usize = 80;
 
-// The bytes go into the text at `used`; where the text then ends. Bytes that have no room are left out: `with_room` sees to it that a line has.
+// The bytes go into the text at `used`; returns where the text then ends. Bytes that have no room are left out:
+// `with_room` sees to it that a line has room.
 fn put(text: &mut [u8], used: usize, bytes: &[u8]) -> usize
     requires { ⌜ used ≤ length (now text) ⌝ }
     ensures { λ r. ⌜ r ≤ length (now (text .entry)) ⌝ }
@@ -74,7 +77,8 @@ fn flush(text: &[u8], used: usize) {
     }
 }
 
-// Room for one more line: a text that is nearly full is written out first, so that there is a call for each large piece and not for each number.
+// Room for one more line: a text that is nearly full is written out first, so that there is a call for each large piece
+// and not for each number.
 fn with_room(text: &[u8], used: usize) -> usize
     requires { ⌜ used ≤ length (now text) ⌝ }
     ensures { λ r. ⌜ r ≤ length (now (text .entry)) ⌝ }
@@ -86,7 +90,7 @@ fn with_room(text: &[u8], used: usize) -> usize
     0
 }
 
-// The lines of a payload. Answers how many bytes of the text are still to be written out.
+// The lines of a payload (rules L1 and L2). Returns how many bytes of the text are still to be written out.
 fn list(payload: &[u8], text: &mut [u8]) -> usize
     ensures { λ r. ⌜ r ≤ length (now (text .entry)) ⌝ }
 {
@@ -115,7 +119,7 @@ fn list(payload: &[u8], text: &mut [u8]) -> usize
     }
 }
 
-// 12: program input above 47,744. One byte more is asked for, to see that there is more.
+// Rule L3: longer input is refused by 12. One byte more is asked for, to see that there is more.
 const MOST_INPUT: usize = 47744;
 
 fn main() {
