@@ -116,14 +116,14 @@ ends-led calls t h station =
     ∙ led-view (whereOf freshStations station) _
     ∙ (λ i. led (fresh-place station i) (own-those station (remains calls t h i) i))
 
--- the sentence of the request
+-- rule P5
 pub exactly-when : (calls : List StationCall) (t : Stations) → Happened stationContract freshStations calls t → (station point : ℕ) → ExactlyWhen station point calls t
 exactly-when calls t h station point = record {
   only = λ is. led-only point _ (sym (ends-led calls t h station) ∙ is);
   if = λ l. ends-led calls t h station ∙ leads point nowhere _ l;
 }
 
--- demand 3
+-- rule D4
 module _ (calls : List StationCall) (t : Stations) (h : Happened stationContract freshStations calls t) (calls′ : List StationCall) (t′ : Stations) (h′ : Happened stationContract freshStations calls′ t′) where
   pub order-across-stations : EventsReordered (eventsOf calls) (eventsOf calls′) → NoneRefused calls → NoneRefused calls′ → SameStations calls calls′ t t′
   order-across-stations same none none′ =

@@ -1,11 +1,11 @@
--- An address as a number, and back: its six octets in their order, the first one highest.
+-- An address (rule P1) as a number, and back: its six octets in their order, the first one highest.
 use Prim.Native.Nat.{ℕ, _+_, _*_, _/_, _%_}
 use Rattle.records.specs.declared.MacAddr.{MacAddr}
 
 abbrev pub addressNumber : MacAddr → ℕ
 addressNumber m = ((((m .b0 * 256 + m .b1) * 256 + m .b2) * 256 + m .b3) * 256 + m .b4) * 256 + m .b5
 
--- of a number of 48 bits; of a greater one, its lower 48
+-- for a number of 48 bits; for a greater one, its lower 48
 unfoldable pub addressOf : ℕ → MacAddr
 addressOf n = record {
   b0 = n / 1099511627776 % 256;

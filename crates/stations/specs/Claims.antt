@@ -1,4 +1,4 @@
--- What is claimed of this crate's calls, and of calls that happened: the records Firmness and Claims, which
+-- What is claimed about this crate's calls, and about calls that happened: the records Firmness and Claims, which
 -- proofs/Claims.antt proves.
 use mathlib.Core.Path.{_≡_}
 use mathlib.Core.Bool.{true, false}
@@ -25,7 +25,8 @@ use Rattle.stations.specs.Rows.{Stations, freshStations, rows, pointAt, 
 use Rattle.stations.specs.Events.{answeredOf, appliedOf, associationCode, answerFrom, tableFrom}
 use Rattle.stations.specs.Runs.{StationCall, stationContract, of-value, eventBy, eventsOf, heardBy, wasHeard, NoneRefused, isOfStation, broughtFor, takesEvent, LatestJoin}
 
--- each public call by its name: any two answers, with the table that was lent, that its contract allows are one
+-- Rule A4, for each public call by its name: any two answers, with the table that was lent, that its contract allows
+-- are one.
 pub record Firmness : Type 0 where
   pub fresh : Firm {A = Stations} (λ r. r ≡ freshStations)
   pub event : (t : Stations) (e : ClientAssociation) → Firm {A = EventAnswer × Stations} (λ o. (answeredOf (o .0) ≡ answerTo t (eventOf e)) × (o .1 ≡ tableAfter t (eventOf e)))
@@ -34,17 +35,17 @@ pub record Firmness : Type 0 where
   pub count : (t : Stations) → Firm (λ r. r ≡ countOf t)
   pub row : (t : Stations) (n : ℕ) → Firm {A = Listed} (λ r. r ≡ rowShown (rowAt t n))
 
--- a table that calls made of a fresh one
+-- a table that calls made from a fresh one
 pub record StationsMade (t : Stations) : Type 0 where
   pub calls : List StationCall
   pub happened : Happened stationContract freshStations calls t
 
--- What one event does: its own station goes where the event says, and every other one stays where it was.
+-- Rules P2 and P3: an event's own station goes where the event says. Every other one stays where it was.
 pub record Moves (t : Stations) (e : Event) : Type 0 where
   pub own : takesEvent t e ≡ true → whereOf (tableAfter t e) (e .station) ≡ whereAfter e (whereOf t (e .station))
   pub others : (station : ℕ) → (station ≡ e .station → ⊥) → whereOf (tableAfter t e) station ≡ whereOf t station
 
--- Refused, with 17, is a join of a station that is not held, with 128 held, and nothing else; it alters nothing.
+-- Rule P4: the one refusal is 17, for a join of a station that is not held while 128 are. It changes nothing (rule A3).
 pub record WhyRefused (t : Stations) (e : Event) : Type 0 where
   pub number : answerTo t e ≡ refuses 17 []
   pub join : e .is-join ≡ true
@@ -52,10 +53,9 @@ pub record WhyRefused (t : Stations) (e : Event) : Type 0 where
   pub full : countOf t ≡ 128
   pub unaltered : tableAfter t e ≡ t
 
--- When each answer is given to an event whose station was somewhere: a join says if the station is new, has moved and
--- from where, or was there already; a leave removes it
--- from the access point that it names, and "such a late leave, or a leave of a station not held, changes nothing and
--- answers "stale""
+-- Rules P2 and P3: when each answer is given, by where the event's station was. A join says whether the station is new,
+-- has moved and from where, or was there already. A leave removes the station if it names the access point where the
+-- station is. Every other leave is stale.
 pub record MovedFrom (from : MacAddr) (point : ℕ) (was : Whereabouts) : Type 0 where
   pub came-from : ℕ
   pub there : was ≡ at came-from
@@ -73,7 +73,7 @@ pub record AnsweredWhen (t : Stations) (e : Event) (h : Heard) : Type 0 where
   pub only : answerTo t e ≡ gives h → HeardWhen e (whereOf t (e .station)) h
   pub if : takesEvent t e ≡ true → HeardWhen e (whereOf t (e .station)) h → answerTo t e ≡ gives h
 
--- a table is full where 128 are held
+-- Rule P4: a table is full where 128 stations are held.
 pub record FullIs128 (t : Stations) : Type 0 where
   pub only : allHeld t ≡ true → countOf t ≡ 128
   pub if : countOf t ≡ 128 → allHeld t ≡ true
@@ -83,8 +83,8 @@ pub record InRow (t : Stations) (station point : ℕ) : Type 0 where
   pub row : ℕ
   pub is : rowAt t row ≡ heldRow station point
 
--- A table that calls made: at most 128 stations, none of them twice; a free row is as a fresh one; and the rows list
--- the stations where they are.
+-- Rules P1 and P7, for a table that calls made. It holds at most 128 stations, none of them twice. A free row is as a
+-- fresh one. The rows list the stations where they are.
 pub record SoundStations (t : Stations) : Type 0 where
   pub at-most : countOf t ≤ 128
   pub once : (station i p j q : ℕ) → rowAt t i ≡ heldRow station p → rowAt t j ≡ heldRow station q → i ≡ j
@@ -92,17 +92,17 @@ pub record SoundStations (t : Stations) : Type 0 where
   pub rows-list : (station point i : ℕ) → rowAt t i ≡ heldRow station point → whereOf t station ≡ at point
   pub in-a-row : (station point : ℕ) → whereOf t station ≡ at point → InRow t station point
 
--- "A station is at A exactly when its latest accepted join named A and no later leave named A": over any calls that
--- happened from a fresh table to the table t, with no premise about room
+-- Rule P5, both ways: a station is at an access point if its accepted events say so, and only then. Any calls may have
+-- led from a fresh table to the table t, and room for all is not asked for.
 pub record ExactlyWhen (station point : ℕ) (calls : List StationCall) (t : Stations) : Type 0 where
   pub only : whereOf t station ≡ at point → LatestJoin point (those (isOfStation station) (eventsOf (those wasHeard calls)))
   pub if : LatestJoin point (those (isOfStation station) (eventsOf (those wasHeard calls))) → whereOf t station ≡ at point
 
--- "events of different stations, if no event is refused: those of one station keep their order"
+-- Rule D4: events of different stations may change places. For each station, its own events are the same list in both.
 abbrev pub EventsReordered : List Event → List Event → Type 0
 EventsReordered events events′ = (station : ℕ) → those (isOfStation station) events ≡ those (isOfStation station) events′
 
--- each call gets the same answer, "and both tables end with the same stations at the same access points"
+-- Rule D4: each call gets the same answer, and afterwards every station is at the same access point in both tables.
 pub record SameStations (calls calls′ : List StationCall) (t t′ : Stations) : Type 0 where
   pub heard : (station : ℕ) → map heardBy (those (broughtFor station) calls) ≡ map heardBy (those (broughtFor station) calls′)
   pub whereabouts : (station : ℕ) → whereOf t station ≡ whereOf t′ station
@@ -112,16 +112,17 @@ pub record Claims : Type 0 where
   pub moves : (t : Stations) → StationsMade t → (e : Event) → Moves t e
   pub why-refused : (t : Stations) (e : Event) → takesEvent t e ≡ false → WhyRefused t e
   pub answered-when : (t : Stations) (e : Event) (h : Heard) → AnsweredWhen t e h
+  -- rule P3: a stale leave changes nothing
   pub stale-unaltered : (t : Stations) (e : Event) → answerTo t e ≡ gives Heard.Stale → tableAfter t e ≡ t
   pub full-is-128 : (t : Stations) → FullIs128 t
   pub sound : (t : Stations) → StationsMade t → SoundStations t
   pub exactly-when : (calls : List StationCall) (t : Stations) → Happened stationContract freshStations calls t → (station point : ℕ) → ExactlyWhen station point calls t
-  -- demand 3; two neighbouring events of different stations that change places are such an order
+  -- rule D4; two neighbouring events of different stations that change places are such an order
   pub order-across-stations : (calls : List StationCall) (t : Stations) → Happened stationContract freshStations calls t → (calls′ : List StationCall) (t′ : Stations) → Happened stationContract freshStations calls′ t′
       → EventsReordered (eventsOf calls) (eventsOf calls′) → NoneRefused calls → NoneRefused calls′ → SameStations calls calls′ t t′
   pub swapped : (before behind : List Event) (e f : Event) → (e .station ≡ f .station → ⊥) → EventsReordered (before ++ e ∷ f ∷ behind) (before ++ f ∷ e ∷ behind)
-  -- a value of kind 0x92 that reads gives an association; an event in it is that event, and none where the value
-  -- doesn't read; refused, by whatever number, it alters nothing
+  -- Rule P6: a value of kind 0x92 that reads gives an association, and the event in it is that event. A value that
+  -- doesn't read has none. Whatever the number, a refusal changes nothing.
   pub reads-association : (value : List ℕ) (x : RecordRead) → readRecord associationCode value ≡ gives x → x .value ≡ Record.ClientAssociation (associationIn value)
   pub value-refused : (t : Stations) (value : List ℕ) → isGiven (answerFrom t value) ≡ false → tableFrom t value ≡ t
   pub event-in-value : (t : Stations) (value : List ℕ) → tableFrom t value ≡ run tableAfter t (andSteps (eventBy (of-value value)) [])

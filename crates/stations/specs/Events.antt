@@ -1,4 +1,4 @@
--- What the calls answer to an event, and to an event in a value.
+-- What the calls answer to an event (rules P2 to P4), and to an event in a value (rule P6).
 use mathlib.Core.List.{List, []}
 use Prim.Native.Nat.{ℕ}
 use Rattle.numbers.specs.Numbers.{Answer, gives, refuses, told, andThen, mapped}
@@ -17,7 +17,7 @@ abbrev pub answeredOf : EventAnswer → Answer Heard
 answeredOf (EventAnswer.Heard h) = gives h
 answeredOf (EventAnswer.Refused r) = told r
 
--- an event that was read: what it did, and how many bytes of the value it took
+-- Rule P6: what an event did that was read, and how many bytes of the value it took.
 pub record Taken : Type 0 where
   pub heard : Heard
   pub consumed : ℕ
@@ -26,8 +26,8 @@ abbrev pub appliedOf : Applied → Answer Taken
 appliedOf (Applied.Heard h n) = gives (record { heard = h; consumed = n })
 appliedOf (Applied.Refused r) = told r
 
--- the association in a record that was read; any other record is of a kind that is not asked for, 16, and reading 0x92
--- gives none (see `reads-association`)
+-- The association in a record that was read. Any other record is of a kind that isn't asked for, 16. Reading 0x92 gives
+-- no such record (see `reads-association`).
 abbrev pub associationOf : Record → Answer ClientAssociation
 associationOf (Record.ClientAssociation a) = gives a
 associationOf Record.EndOfMessage = refuses 16 []
@@ -45,7 +45,7 @@ associationOf (Record.Profile2ApCapability c) = refuses 16 []
 abbrev pub associationCode : ℕ
 associationCode = codeOf RecordKind.ClientAssociation
 
--- the association in a value of kind 0x92, as the existing reader gives it: its 3 and 5; and how many bytes it took
+-- Rule P6: the association in a value of kind 0x92, or reading's own 3 or 5 (rule K7), and how many bytes it took.
 pub record AssociationRead : Type 0 where
   pub client : ClientAssociation
   pub consumed : ℕ
@@ -53,7 +53,7 @@ pub record AssociationRead : Type 0 where
 abbrev pub associationRead : List ℕ → Answer AssociationRead
 associationRead value = andThen (readRecord associationCode value) (λ x. mapped (λ a. record { client = a; consumed = x .consumed }) (associationOf (x .value)))
 
--- the event that was read, then 17
+-- Rule P6: what the event that was read is answered, 17 too. A value that doesn't read leaves the table as it is.
 abbrev pub answerToRead : Stations → Answer AssociationRead → Answer Taken
 answerToRead t read = andThen read (λ x. mapped (λ h. record { heard = h; consumed = x .consumed }) (answerTo t (eventOf (x .client))))
 

@@ -10,6 +10,6 @@ abbrev pub associationGot : Association → Answer AssociationRead
 associationGot (Association.Event e n) = gives (record { client = e; consumed = n })
 associationGot (Association.Refused r) = told r
 
--- 1 where a row's mark is a station's
+-- 1 if a row's mark is that of a station
 abbrev pub oneIf : (mark : ℕ) → ℕ
 oneIf mark = cond (eqb mark 0) 0 1

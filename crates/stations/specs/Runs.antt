@@ -15,7 +15,7 @@ use Rattle.stations.specs.Whereabouts.{Event, eventOf}
 use Rattle.stations.specs.Rows.{Stations, answerTo, tableAfter}
 use Rattle.stations.specs.Events.{answeredOf, appliedOf, AssociationRead, associationRead, answerFrom, tableFrom}
 
--- what is asked: an event, or an event in a value; and what is got
+-- Rule P6: an event is asked as a record or in a value. And what is got.
 pub data EventAsked : Type 0 where
   of-record : ClientAssociation → EventAsked
   of-value : List ℕ → EventAsked
@@ -27,7 +27,7 @@ pub data EventGot : Type 0 where
 abbrev pub StationCall : Type 0
 StationCall = Outcome Stations EventAsked EventGot
 
--- the contracts of the two calls
+-- the contracts of the two calls, as src/lib.rt has them
 abbrev pub eventMeets : Stations → EventAsked → EventGot → Stations → Type 0
 eventMeets t (of-record e) (from-event r) t′ = (answeredOf r ≡ answerTo t (eventOf e)) × (t′ ≡ tableAfter t (eventOf e))
 eventMeets t (of-value value) (from-value r) t′ = (appliedOf r ≡ answerFrom t value) × (t′ ≡ tableFrom t value)
@@ -74,11 +74,11 @@ asksOfStation station asks-nothing = false
 abbrev pub broughtFor : ℕ → StationCall → Bool
 broughtFor station o = asksOfStation station (eventBy (o .asked))
 
--- a table takes an event
+-- a table accepts an event
 abbrev pub takesEvent : Stations → Event → Bool
 takesEvent t e = isGiven (answerTo t e)
 
--- of one station's events: "its latest accepted join named A and no later leave named A"
+-- Rule P5, for one station's accepted events: the latest join named this access point, and no leave after it did.
 pub record LatestJoin (point : ℕ) (events : List Event) : Type 0 where
   pub before : List Event
   pub join : Event

@@ -1,4 +1,4 @@
--- Where a station is (request 2026-02), in stations and access points alone: each is the number of its address.
+-- Where a station is (rules P2 to P4), in stations and access points alone: each is the number of its address.
 use mathlib.Core.Bool.{Bool, true, false, cond, _&&_}
 use mathlib.Core.List.{[]}
 use Prim.Native.Nat.{ℕ}
@@ -13,7 +13,7 @@ pub data Whereabouts : Type 0 where
   nowhere : Whereabouts
   at : ℕ → Whereabouts
 
--- an event: a station joined an access point, or left it
+-- Rule P6: an event says that a station joined an access point, or left it.
 pub record Event : Type 0 where
   pub station : ℕ
   pub point : ℕ
@@ -34,13 +34,13 @@ abbrev pub isNowhere : Whereabouts → Bool
 isNowhere nowhere = true
 isNowhere (at p) = false
 
--- where the station of an event that is not refused is after it: "A joined event puts the station at that access point;
--- a left event removes it only if it names the access point the table holds."
+-- Rules P2 and P3: where a station is after an accepted event of its own. A join puts it where the join names. A leave
+-- from the access point where the station is takes it away. Any other leave changes nothing.
 abbrev pub whereAfter : Event → Whereabouts → Whereabouts
 whereAfter e was = cond (e .is-join) (at (e .point)) (cond (isAt (e .point) was) nowhere was)
 
--- what is answered: a join says if the station is new, has moved, or was there already; "such a late leave, or a leave
--- of a station not held, changes nothing and answers "stale""
+-- Rules P2 and P3, the answers: a join says whether the station is new, has moved, or was there already. A leave says
+-- whether it removed the station or was stale.
 abbrev pub heardOfJoin : ℕ → Whereabouts → Heard
 heardOfJoin point nowhere = Heard.New
 heardOfJoin point (at p) = cond (eqb p point) Heard.There (Heard.Moved (addressOf p))
@@ -48,6 +48,6 @@ heardOfJoin point (at p) = cond (eqb p point) Heard.There (Heard.Moved (addressO
 abbrev pub heardOf : Event → Whereabouts → Heard
 heardOf e was = cond (e .is-join) (heardOfJoin (e .point) was) (cond (isAt (e .point) was) Heard.Removed Heard.Stale)
 
--- "Refusals: 17, a join of an unknown station with 128 held"
+-- Rule P4: 17 for a join of a station that is nowhere while the table is full. No other event is refused.
 abbrev pub answerAt : (full : Bool) → Event → Whereabouts → Answer Heard
 answerAt full e was = cond (e .is-join && (isNowhere was && full)) (refuses 17 []) (gives (heardOf e was))

@@ -1,5 +1,5 @@
-// Which access point each station is on (request 2026-02): a table of up to 128 stations, which events of Multi-AP
-// (client associations) alter.
+// Which access point a station is at (part P of docs/RULES.md). The table holds up to 128 stations, and the client
+// association events of Multi-AP change it.
 
 mod reading;
 mod rows;
@@ -23,16 +23,16 @@ ghost use Rattle.stations.specs.Whereabouts.{eventOf};
 ghost use Rattle.stations.specs.Rows.{freshStations, whereOf, answerTo, tableAfter, rowAt, countOf, whereShown, rowShown};
 ghost use Rattle.stations.specs.Events.{answeredOf, appliedOf, answerFrom, tableFrom};
 
-// How many stations a table holds, at most.
+// How many stations a table holds, at most (rule P1).
 pub const STATIONS: usize = 128;
 
 // The table: row n has a station in element n, as the number of its address plus 1, and its access point in element
 // STATIONS + n, as the number of its address. A free row has 0 in both.
-// Both lists are one array, which a caller lends and the calls alter in place: 2,048 bytes are too many to copy on a
+// Both lists are one array, which a caller lends and the calls change in place: 2,048 bytes are too many to copy on a
 // small stack.
 pub type Stations = [u64; 2 * STATIONS];
 
-// What an event did that was not refused.
+// What an accepted event did (rules P2 and P3). New is "placed" there, and There is "same".
 pub enum Heard {
     // a join: the station was nowhere
     New,
@@ -42,18 +42,18 @@ pub enum Heard {
     There,
     // a leave: it named the access point at which the station was
     Removed,
-    // a leave: it named another one, or the station was nowhere; nothing is altered
+    // a leave: it named another one, or the station was nowhere; nothing changes
     Stale,
 }
 
-// What an event is answered.
+// The answer to an event.
 pub enum EventAnswer {
     Heard(Heard),
     Refused(Refusal),
 }
 
-// The same for an event that was read from a value: how many bytes of it the event took, and those behind them are the
-// rest.
+// The same for an event that was read from a value (rule P6), with how many bytes of the value it took. The bytes after
+// these are the rest.
 pub enum Applied {
     Heard { heard: Heard, consumed: usize },
     Refused(Refusal),
@@ -65,20 +65,20 @@ pub enum Where {
     Nowhere,
 }
 
-// What a row of the table holds.
+// What a row of the table holds (rule P7).
 pub enum Listed {
     Occupied { station: MacAddr, point: MacAddr },
     Free,
 }
 
-// A table that holds no station.
+// A table that holds no station (rule P1).
 pub fn fresh() -> Stations
     ensures { λ r. ⌜ r ≡ freshStations ⌝ }
 {
     [0u64; 2 * STATIONS]
 }
 
-// A station joined an access point, or left it.
+// A station joined an access point, or left it (rules P2 to P4).
 pub fn event(t: &mut Stations, e: ClientAssociation) -> EventAnswer
     ensures { λ r. ⌜ (answeredOf r ≡ answerTo (now (t .entry)) (eventOf e)) × (now (t .exit) ≡ tableAfter (now (t .entry)) (eventOf e)) ⌝ }
 {
@@ -91,7 +91,7 @@ pub fn event(t: &mut Stations, e: ClientAssociation) -> EventAnswer
     }
 }
 
-// The same, read from the value of a TLV of kind 0x92. A value that doesn't read alters nothing.
+// The same, read from the value of a TLV of kind 0x92 (rule P6). A value that doesn't read changes nothing.
 pub fn event_from(t: &mut Stations, value: &[u8]) -> Applied
     ensures { λ r. ⌜ (appliedOf r ≡ answerFrom (now (t .entry)) (now (value .entry))) × (now (t .exit) ≡ tableFrom (now (t .entry)) (now (value .entry))) ⌝ }
 {
@@ -104,7 +104,7 @@ pub fn event_from(t: &mut Stations, value: &[u8]) -> Applied
     }
 }
 
-// Where a station is.
+// Where a station is (rule P7).
 pub fn where_is(t: &Stations, station: MacAddr) -> Where
     ensures { λ r. ⌜ r ≡ whereShown (whereOf (now (t .entry)) (addressNumber station)) ⌝ }
 {
@@ -115,7 +115,7 @@ pub fn where_is(t: &Stations, station: MacAddr) -> Where
     Where::Nowhere
 }
 
-// How many stations are held.
+// How many stations are held (rule P7).
 pub fn count(t: &Stations) -> usize
     ensures { λ r. ⌜ r ≡ countOf (now (t .entry)) ⌝ }
 {
@@ -128,7 +128,7 @@ pub fn count(t: &Stations) -> usize
     many
 }
 
-// The station in row n and its access point. With each n below STATIONS a caller lists them all.
+// The station in row n and its access point (rule P7). With each n below STATIONS a caller lists them all.
 pub fn row(t: &Stations, n: usize) -> Listed
     ensures { λ r. ⌜ r ≡ rowShown (rowAt (now (t .entry)) n) ⌝ }
 {

@@ -1,4 +1,4 @@
-// An event in the value of a TLV, and the answer to it.
+// An event in the value of a TLV (rule P6), and the answer to it.
 use crate::Applied;
 use crate::EventAnswer;
 use numbers::Refusal;
@@ -24,7 +24,7 @@ pub(crate) fn association_in(value: &[u8]) -> Association
 {
     match records::read_client_association(value) {
         RecordAnswer::Got { record, consumed } => {
-            // Of this kind reading gives no other record.
+            // Reading this kind gives no other record.
             let Record::ClientAssociation(e) = record else {
                 return Association::Refused(Refusal::UnknownKind);
             };

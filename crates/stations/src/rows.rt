@@ -51,7 +51,7 @@ pub(crate) fn row_with(t: &Stations, mark: u64) -> usize
     row
 }
 
-// What a join says of a station that was at an access point.
+// What a join says about a station that was at an access point (rule P2).
 fn heard_of_held(from: u64, point: u64) -> Heard
     ensures { λ r. ⌜ r ≡ heardOfJoin «point» (at «from») ⌝ }
 {
@@ -63,7 +63,7 @@ fn heard_of_held(from: u64, point: u64) -> Heard
     }
 }
 
-// A join: a station that is held changes its access point, another one takes the lowest free row.
+// A join: a station that is held changes its access point, another one takes the lowest free row (rules P2, P4, P7).
 pub(crate) fn join(t: &mut Stations, station: u64, point: u64) -> EventAnswer
     requires { ⌜ station < 2 ^ 48 ⌝ }
     ensures { λ r. ⌜ (answeredOf r ≡ answerTo (now (t .entry)) (record { station = station; point = point; is-join = true }))
@@ -84,7 +84,7 @@ pub(crate) fn join(t: &mut Stations, station: u64, point: u64) -> EventAnswer
     EventAnswer::Refused(Refusal::NoStationRoom)
 }
 
-// A leave: a row whose access point it names is freed.
+// A leave frees the station's row, if it names the access point there (rule P3).
 pub(crate) fn leave(t: &mut Stations, station: u64, point: u64) -> Heard
     requires { ⌜ station < 2 ^ 48 ⌝ }
     ensures { λ r. ⌜ (gives r ≡ answerTo (now (t .entry)) (record { station = station; point = point; is-join = false }))
