@@ -1,5 +1,5 @@
--- A message cut into fragments, pushed in any order that ends with the last one, completes: each push adds its piece to
--- what the key holds, and the last joins them all.
+-- A message completes when its last fragment comes after all the others (rule D6): each push adds its piece to what the
+-- key holds, and the last joins them all.
 use mathlib.Core.Path.{_≡_, refl, sym, ap, _∙_, subst}
 use mathlib.Core.List.{List, []}
 use mathlib.Core.Bool.{Bool, true, false, cond, _||_, or-true, or-false}

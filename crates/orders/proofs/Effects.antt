@@ -80,7 +80,7 @@ module _ (z : State) (p : Push) (s : Sound (z .table)) where
   first-by (went-open i r h₁ h₂ h₃ l e h k e₂ h₄) = ap (λ (f : Since). sinceOr f (a .time)) (sym (absent-since t s (a .key) k))
   first-by (went-end h bytes h₁ h₂ h₃ l e) = refl
 
-  -- the table's promises are of the part of the store that is lent: what is behind it does not matter
+  -- the table's promises are about the part of the store that is lent: what comes after it makes no difference
   abbrev t′ : Table
   t′ = tableBy (wayOf z p) t a (length (p .payload))
 

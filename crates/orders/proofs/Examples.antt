@@ -1,5 +1,5 @@
--- Document 01, "Examples to check", the rows on the table: elapsed 2,999 stays, 3,000 goes; number 0 then last 1
--- completes; last 1 alone gives MissingFragments.
+-- Examples of rules S1, T8 and T9: a key stays after 2,999 milliseconds and is dropped after 3,000. Fragment 0 and then
+-- fragment 1, marked last, make a message. Fragment 1 marked last, without fragment 0, is answered "missing".
 use mathlib.Core.Path.{_≡_, refl, sym, ap, _∙_}
 use mathlib.Core.List.{List, [], _∷_, _++_}
 use mathlib.Core.Bool.{Bool, true, false, cond, _||_, true≢false}
@@ -51,7 +51,7 @@ module _ (store : List ℕ) (long : 47744 ≤ length store) (p : Push) (lent : 4
   enough : 47744 ≤ min (p .lent) (length store)
   enough = omega arith
 
-  -- last 1 alone
+  -- fragment 1 marked last, alone
   module _ (number : p .arrival .fragment .number ≡ 1) (last : p .arrival .fragment .last ≡ true) where
     abbrev new : Held
     new = heldOf (p .arrival .fragment) (p .payload)
@@ -135,7 +135,7 @@ module _ (store : List ℕ) (long : 47744 ≤ length store) (p : Push) (lent : 4
     goes-at-3000 =
         (counts-are (p .arrival .time + 3000) ∙ ap dropped (share-is (p .arrival .time + 3000) true old), swept-to (p .arrival .time + 3000) true old)
 
--- number 0 then last 1 completes
+-- fragment 0, then fragment 1 marked last
 module _ (store : List ℕ) (long : 47744 ≤ length store) (p q : Push) (lent : 47744 ≤ p .lent) (lent′ : 47744 ≤ q .lent)
     (small : length (p .payload) ≤ 1492) (small′ : length (q .payload) ≤ 1492) (one-key : p .arrival .key ≡ q .arrival .key)
     (one-version : p .arrival .fragment .version ≡ q .arrival .fragment .version) (one-type : p .arrival .fragment .«message_type» ≡ q .arrival .fragment .«message_type»)

@@ -34,7 +34,7 @@ use Rattle.orders.specs.Happened.{TableAsked, push-asked, sweep-asked, T
 use Rattle.orders.specs.Claims.{Reordered, IsRun, AskedReordered, NoneFull, SameGot, AskedAlone, GotAlone, ReorderedTogether, RoomTogether, SameTogether}
 use Rattle.orders.proofs.Orders.{run-made, told-alone, order-across-keys}
 
--- no two answers are told alike
+-- no two answers read alike
 one-got : (a b : CallerGot) → replyOf a ≡ replyOf b → a ≡ b
 one-got (from-push p bytes) (from-push q bytes′) e =
     let same : p ≡ q = one-answer p q (cc) in
@@ -167,7 +167,7 @@ reordered es fs same c = by-key (known c es) (known c fs)
     by-key (nobody's h) (someone's o e) = subst (λ (key : ℕ). mine key (callsOf es) ≡ mine key (callsOf fs)) e (at o)
     by-key (nobody's h) (nobody's k) = h ∙ sym (sweeps-among (keyFor nobody) (callsOf es)) ∙ ap (those isSweep) (at nobody) ∙ sweeps-among (keyFor nobody) (callsOf fs) ∙ sym k
 
--- what is told of a key's own pushes
+-- what is answered to a key's own pushes
 module _ {z z′ : State} {cs : List TableCall} (h : Happened tableContract z cs z′) where
   gathers : (test : State → Call → Bool) (passes : TableCall → Bool) → Tests tableContract asksCall test passes → gathered after test replyTo z (callsOf cs) ≡ map (λ c. replyOf (gotBy c)) (those passes cs)
   gathers test passes agree = H.gathers tableContract after replyTo asksCall (λ c. replyOf (gotBy c)) tied test passes agree h
@@ -194,7 +194,7 @@ module _ (store : List ℕ) (cs : List TableCall) (z : State) (h : Happened tabl
   is-run = record { replies = gathers h (λ s e. true) (λ c. true) (λ c m. refl) ∙ ap (map (λ c. replyOf (gotBy c))) (all-those cs); end = ends-at h; made = subst (λ (s : State). Made (s .table)) (ends-at h) (run-made store (callsOf cs)) }
 
   module _ (store′ : List ℕ) (ds : List TableCall) (z′ : State) (h′ : Happened tableContract (start store′) ds z′) (long : length store′ ≡ length store) where
-    -- demand 3
+    -- rule D3
     pub order-across-senders : AskedReordered cs ds → NoneFull cs → NoneFull ds → SameGot cs ds z z′
     order-across-senders same room room′ =
         let story = order-across-keys store store′ long (callsOf cs) (callsOf ds) (reordered cs ds same) (all-room h room) (all-room h′ room′) in
@@ -205,7 +205,7 @@ module _ (store : List ℕ) (cs : List TableCall) (z : State) (h : Happened tabl
           holds = λ o. ap (holding (keyFor o)) (sym (ends-at h)) ∙ story .holds (keyFor o) ∙ ap (holding (keyFor o)) (ends-at h′);
         }
 
-    -- request 2026-09
+    -- rule D5
     pub sender-alone : (o : Origin) → AskedAlone o cs ds → GotAlone o cs ds z z′
     sender-alone o asks =
         let alone = told-alone store store′ long (keyFor o) (callsOf cs) in

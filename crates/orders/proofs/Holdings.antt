@@ -23,7 +23,7 @@ use Rattle.orders.proofs.Lookups.{row-is}
 pub holding-same : (z z′ : State) (c : ℕ) → Untouched c (z .table) (z′ .table) (z .store) (z′ .store) → holding c z′ ≡ holding c z
 holding-same z z′ c same = λ i. record { first = same .1 i; fragments = λ n. same .0 n i }
 
--- bytes behind the places do not matter
+-- bytes after the places make no difference
 pub held-front : (t : Table) → Sound t → (front rest : List ℕ) → 47744 ≤ length front → (row n : ℕ) → heldIn t (front ++ rest) row n ≡ heldIn t front row n
 held-front t s front rest long row n = by-place (placeOf t row n) (ltb (placeOf t row n) 32) refl
   where

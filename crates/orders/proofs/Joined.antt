@@ -1,5 +1,5 @@
--- The joining rule where nothing is missing: fragments 0 to n-1 of one version and type, the highest marked last, are a
--- message.
+-- Rules T8 and T9 where nothing is missing: fragments 0 to n - 1 of one version and type, the highest marked last, are
+-- a message.
 use mathlib.Core.Path.{_≡_, refl, sym, ap, _∙_, subst}
 use mathlib.Core.List.{[]}
 use mathlib.Core.Bool.{Bool, true, false, not, _&&_, false≢true}

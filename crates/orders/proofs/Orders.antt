@@ -38,7 +38,7 @@ module _ (store store′ : List ℕ) (long : length store′ ≡ length store) w
   good′ : Good n (start store′)
   good′ = record { made = good-start store′ .made; same-long = long }
 
-  -- request 2026-09, with no premise about room
+  -- rule D5, which asks for no room
   pub told-alone : (key : ℕ) (calls : List Call) → ToldAlone key store store′ calls
   told-alone key calls =
       let lone : Lone key (start store′) = λ k ne. fresh-holds store′ k in
@@ -53,7 +53,7 @@ module _ (store store′ : List ℕ) (long : length store′ ≡ length store) w
   common-same z z′ (push p) g g′ h same = absurd (false≢true h)
   common-same z z′ (sweep time) g g′ h same = ap dropped (counts-same z z′ (sound (g .made)) (sound (g′ .made)) time same)
 
-  -- demand 3
+  -- rule D3
   pub order-across-keys : (calls calls′ : List Call) → Reordered calls calls′ → neverFull (start store) calls ≡ true → neverFull (start store′) calls′ ≡ true → SameStory store store′ calls calls′
   order-across-keys calls calls′ same room room′ =
       let stories : (key : ℕ) → those (concerns key) (remaining after hasRoom (start store) calls) ≡ those (concerns key) (remaining after hasRoom (start store′) calls′)
@@ -81,7 +81,7 @@ swapped before behind p q apart key =
     by-key false e true f = rw (e, f)
     by-key false e false f = rw (e, f)
 
--- a key that was never pushed holds nothing, and so the numbers of sweeps add up over the keys that were ever pushed
+-- a key without a push holds nothing, so a sweep's number is the sum over the keys for which there was one (rule D5)
 never-pushed : (n key : ℕ) (calls : List Call) (z : State) → Good n z → holding key z ≡ holdsNothing → those (isOwn key) calls ≡ [] → holding key (ends z calls) ≡ holdsNothing
 unfolding run those
 never-pushed n key [] z g h none = h

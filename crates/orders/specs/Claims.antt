@@ -1,4 +1,4 @@
--- What is claimed of runs of the table, and of calls that happened: the record Claims at the end, which
+-- What is claimed about runs of the table, and about calls that happened: the record Claims at the end, which
 -- proofs/Claims.antt proves.
 use mathlib.Core.Path.{_≡_}
 use mathlib.Core.List.{List, [], _∷_, _++_, map}
@@ -25,45 +25,43 @@ use Rattle.orders.specs.Messages.{Message, Room, Sent, sending, spares, 
 use Rattle.orders.specs.Runs.{State, Push, Call, push, sweep, pushed, finishedBy, wayOf, isAccepted, isOwn, neverFull, hasRoom, after, replyTo, mine, start, holding, holdsNothing, ends, crossed, repliesTo, repliesToAccepted, repliesToSweeps}
 use Rattle.orders.specs.Happened.{TableCall, MixedCall, PushMeets, tableContract, callsOf, gotBy, replyOf, wasAccepted, hadRoom, isFrom, isSweepCall, isAbout}
 
--- What a key holds is untouched by every push under another key, refused or not; a refused call changes nothing.
+-- A push under another key, refused or not, leaves what a key holds. A refused call changes nothing (rule A3).
 pub record Local (z : State) : Type 0 where
   pub untouched : (key : ℕ) (p : Push) → (key ≡ p .arrival .key → ⊥) → holding key (after z (push p)) ≡ holding key z
   pub refused : (e : Call) → isAccepted z e ≡ false → after z e ≡ z
 
--- What a push does to its own key, and tells, is a function of what the key holds and of the call, unless it is refused
--- for room; what a sweep does to a key, of what the key holds and of the time: two tables that hold the same under the
--- key, whatever else they hold, do and tell the same.
+-- Two tables that hold the same under a key, whatever else they hold, do the same to that key and answer the same. What
+-- a push does goes by what its key holds and by the call, unless it is refused by 10 (rules T4 to T9). What a sweep
+-- does to a key goes by what the key holds and by the time (rule S1).
 pub record Alike (z z′ : State) (key : ℕ) : Type 0 where
   pub tells-same : (p : Push) → p .arrival .key ≡ key → hasRoom z (push p) ≡ true → hasRoom z′ (push p) ≡ true → replyTo z (push p) ≡ replyTo z′ (push p)
   pub push-same : (p : Push) → p .arrival .key ≡ key → hasRoom z (push p) ≡ true → hasRoom z′ (push p) ≡ true → holding key (after z (push p)) ≡ holding key (after z′ (push p))
   pub sweep-same : (time : ℕ) → holding key (after z (sweep time)) ≡ holding key (after z′ (sweep time))
 
--- Request 2026-09: "Take any calls from a fresh table and cross out those refused. For each key, the answers to its
--- remaining pushes, its finished bytes, kept fragments and first time shall be those of a fresh table given only that
--- key's remaining pushes and all the sweeps, in the same order." What a store held before does not matter, so that the
--- two may differ.
+-- Rule D5: a second table is given, from fresh, one key's accepted pushes and all the sweeps. It answers these pushes
+-- as the first one did, with the same bytes, refuses none of them, and ends with the same under the key. What the
+-- stores held before makes no difference, so the two may differ.
 pub record ToldAlone (key : ℕ) (store store′ : List ℕ) (calls : List Call) : Type 0 where
   pub answers : repliesToAccepted key (start store) calls ≡ repliesTo key (start store′) (mine key (crossed (start store) calls))
   pub holds : holding key (ends (start store) calls) ≡ holding key (ends (start store′) (mine key (crossed (start store) calls)))
   pub none-refused : every after isAccepted (start store′) (mine key (crossed (start store) calls)) ≡ true
 
--- the number of a sweep is that of the keys that were due, for any list that has each key once that the table holds
+-- Rules S1 and S2: a sweep's number is how many keys were due, over any list that has each key of the table once.
 abbrev pub SharesAddUp : (z : State) (time : ℕ) (keys : List ℕ) → Type 0
 SharesAddUp z time keys = swept (z .table) time .dropped ≡ total (λ key. share time (holding key z)) keys
 
--- "Sweep counts add up over the keys that were ever pushed": those of each key's own story, for any list that has each
--- such key once
+-- Rule D5: a sweep's number is the sum of what it drops in the keys' tables of their own, over any list that has each
+-- key once for which there was a push.
 abbrev pub AddsUp : (store : List ℕ) (calls : List Call) (time : ℕ) (keys : List ℕ) → Type 0
 AddsUp store calls time keys =
     swept (ends (start store) calls .table) time .dropped ≡ total (λ key. swept (ends (start store) (mine key (crossed (start store) calls)) .table) time .dropped) keys
 
--- Document 02, 2026-06: "over any calls from a fresh table every key dropped by a sweep has a fragment and none marked
--- last"
+-- Rule S3: at least one fragment is held.
 abbrev pub HasOne : Fragments → Type 0
 HasOne fs = (number : ℕ) × (number < 256) × (isKept (fs number) ≡ true)
 
--- A fragment that a key holds after some calls is that of a push among them, under the key and the number, which was
--- not marked last and was answered "waiting"; and from that push on the key holds it.
+-- Rule S3: a fragment that a key holds after some calls came by a push among them, under the key and the number. That
+-- push was not marked last and was answered "waiting". From then on the key holds the fragment.
 pub record HeldFrom (z : State) (calls : List Call) (key number : ℕ) (fragment : Held) : Type 0 where
   pub before : List Call
   pub by : Push
@@ -76,53 +74,53 @@ pub record HeldFrom (z : State) (calls : List Call) (key number : ℕ) (fragment
   pub waited : replyTo (ends z before) (push by) ≡ pushed (gives waiting) []
   pub ever-since : (soon rest : List Call) → later ≡ soon ++ rest → holding key (ends z (before ++ (push by ∷ soon))) .fragments number ≡ kept fragment
 
--- Demand 3: "the same pushes and sweeps, times and lent lengths, where calls under different keys may be reordered,
--- those under one key and the sweeps keep their order, and every push stays on its side of every sweep": for each key,
--- its pushes with all the sweeps between them are the same list in both
+-- Rule D3, what may change places: for each key, its pushes with all the sweeps between them are the same list in both
+-- runs.
 abbrev pub Reordered : List Call → List Call → Type 0
 Reordered calls calls′ = (key : ℕ) → mine key calls ≡ mine key calls′
 
--- "each call gets the same answer and, as it returns, the same finished bytes, and both tables end with the same
--- fragments and first times per key"
+-- Rule D3, what stays the same: the answer and the finished bytes of each call, and what each key has at the end.
 pub record SameStory (store store′ : List ℕ) (calls calls′ : List Call) : Type 0 where
   pub pushes : (key : ℕ) → repliesTo key (start store) calls ≡ repliesTo key (start store′) calls′
   pub sweeps : repliesToSweeps (start store) calls ≡ repliesToSweeps (start store′) calls′
   pub holds : (key : ℕ) → holding key (ends (start store) calls) ≡ holding key (ends (start store′) calls′)
 
--- "a message cut into fragments 0 to n-1, pushed in any order that ends with the last one, with room, completes with
--- the message": all others wait, and the key is dropped
+-- Rule D6: the message completes with its own bytes. The fragments before the last one wait, and in the end the key is
+-- dropped (rule T7).
 pub record Completes (m : Message) (bring : ℕ → Push) (order : List ℕ) (z : State) : Type 0 where
   pub answers : repliesTo (m .key) z (sending m bring order) ≡ completing m order
   pub holds : holding (m .key) (ends z (sending m bring order)) ≡ holdsNothing
 
--- the same among other calls
+-- Rule D6, among other calls.
 pub record CompletesAmong (m : Message) (order : List ℕ) (z : State) (run : List Call) : Type 0 where
   pub answers : repliesToAccepted (m .key) z run ≡ completing m order
   pub holds : holding (m .key) (ends z run) ≡ holdsNothing
 
--- Calls that happened are a run: what is told of each is what its caller got, and the table at their end is the run's,
--- and one that push asks for.
+-- Calls that happened are a run: the run answers to each what its caller got. The table at their end is the run's, and
+-- one that push takes (rule A1).
 pub record IsRun (store : List ℕ) (calls : List TableCall) (z : State) : Type 0 where
   pub replies : gathered after (λ s e. true) replyTo (start store) (callsOf calls) ≡ map (λ c. replyOf (gotBy c)) calls
   pub end : ends (start store) (callsOf calls) ≡ z
   pub made : Made (z .table)
 
--- Demand 3 for them: for each sender's message the same pushes, with all the sweeps between them, were asked in both
+-- Rule D3 for calls that happened: for each sender and message id, the same pushes, with all the sweeps between them,
+-- were asked in both runs.
 abbrev pub AskedReordered : List TableCall → List TableCall → Type 0
 AskedReordered calls calls′ = (o : Origin) → callsOf (those (isAbout o) calls) ≡ callsOf (those (isAbout o) calls′)
 
+-- no push was refused by 10
 abbrev pub NoneFull : List TableCall → Type 0
 NoneFull calls = those (λ c. not (hadRoom c)) calls ≡ []
 
--- and its callers got the same: the call's own answers, the bytes that show shows, the numbers of sweeps; and the
--- tables hold the same
+-- Rule D3 for calls that happened: their callers got the same answers of push, bytes that show shows, and numbers of
+-- sweeps. The tables hold the same.
 pub record SameGot (calls calls′ : List TableCall) (z z′ : State) : Type 0 where
   pub pushes : (o : Origin) → map gotBy (those (isFrom o) calls) ≡ map gotBy (those (isFrom o) calls′)
   pub sweeps : map gotBy (those isSweepCall calls) ≡ map gotBy (those isSweepCall calls′)
   pub holds : (o : Origin) → holding (keyFor o) z ≡ holding (keyFor o) z′
 
--- Request 2026-09 for them: the second calls ask for one sender's message what was not refused in the first, and the
--- sweeps
+-- Rule D5 for calls that happened: the second calls are the accepted pushes of one sender and message id among the
+-- first calls, and the sweeps.
 abbrev pub AskedAlone : Origin → List TableCall → List TableCall → Type 0
 AskedAlone o calls calls′ = callsOf calls′ ≡ callsOf (those (isAbout o) (those wasAccepted calls))
 
@@ -131,14 +129,13 @@ pub record GotAlone (o : Origin) (calls calls′ : List TableCall) (z z′ : Sta
   pub holds : holding (keyFor o) z ≡ holding (keyFor o) z′
   pub none-refused : those (λ c. not (wasAccepted c)) calls′ ≡ []
 
--- Request 2026-02: "From here demand 3 also covers events of different stations, if no event is refused: those of one
--- station keep their order". A fragment table and a station table stand side by side; events come between pushes and
--- sweeps wherever they like.
+-- Rules D3 and D4 together: a fragment table and a station table stand side by side. Events may come anywhere between
+-- pushes and sweeps.
 pub record ReorderedTogether (calls calls′ : List MixedCall) : Type 0 where
   pub messages : AskedReordered (lefts calls) (lefts calls′)
   pub events : EventsReordered (eventsOf (rights calls)) (eventsOf (rights calls′))
 
--- no push is refused for table room, and no event at all
+-- no push was refused by 10, and no event at all
 pub record RoomTogether (calls : List MixedCall) : Type 0 where
   pub messages : NoneFull (lefts calls)
   pub events : NoneRefused (rights calls)
@@ -152,18 +149,18 @@ pub record Claims : Type 0 where
   pub local : (z : State) → Made (z .table) → Local z
   pub alike : (z z′ : State) → Made (z .table) → Made (z′ .table) → length (z .store) ≡ length (z′ .store) → (key : ℕ) → holding key z ≡ holding key z′ → Alike z z′ key
   pub shares-add-up : (z : State) → Made (z .table) → (time : ℕ) (keys : List ℕ) → distinct keys ≡ true → ((key : ℕ) → isIn key keys ≡ false → holding key z ≡ holdsNothing) → SharesAddUp z time keys
-  -- the finished bytes are what show shows, whatever the output held
+  -- rule T10: the finished bytes are what show shows, whatever the output held
   pub finished-shown : (z : State) (p : Push) (out : List ℕ) → shown (answerBy (wayOf z p)) (p .payload) (outputBy (wayOf z p) out) ≡ finishedBy (wayOf z p) (p .payload)
-  -- the tables of a run are those that push asks for
+  -- rule A1: the tables of a run are ones that push takes
   pub run-made : (store : List ℕ) (calls : List Call) → Made (ends (start store) calls .table)
-  -- request 2026-09
+  -- rule D5
   pub told-alone : (store store′ : List ℕ) → length store′ ≡ length store → (key : ℕ) (calls : List Call) → ToldAlone key store store′ calls
   pub sweeps-add-up : (store : List ℕ) (calls : List Call) (time : ℕ) (keys : List ℕ) → distinct keys ≡ true → ((key : ℕ) → isIn key keys ≡ false → those (isOwn key) calls ≡ []) → AddsUp store calls time keys
-  -- demand 3; two neighbouring pushes under different keys that change places are such an order
+  -- rule D3; two neighbouring pushes under different keys that change places are such an order
   pub order-across-keys : (store store′ : List ℕ) → length store′ ≡ length store → (calls calls′ : List Call) → Reordered calls calls′
       → neverFull (start store) calls ≡ true → neverFull (start store′) calls′ ≡ true → SameStory store store′ calls calls′
   pub swapped : (before behind : List Call) (p q : Push) → (p .arrival .key ≡ q .arrival .key → ⊥) → Reordered (before ++ push p ∷ push q ∷ behind) (before ++ push q ∷ push p ∷ behind)
-  -- the same for calls that happened, and with the events of stations between them
+  -- rules D3 to D5 for calls that happened, and with the events of stations between them
   pub is-run : (store : List ℕ) (calls : List TableCall) (z : State) → Happened tableContract (start store) calls z → IsRun store calls z
   pub order-across-senders : (store : List ℕ) (calls : List TableCall) (z : State) → Happened tableContract (start store) calls z
       → (store′ : List ℕ) (calls′ : List TableCall) (z′ : State) → Happened tableContract (start store′) calls′ z′
@@ -174,23 +171,21 @@ pub record Claims : Type 0 where
   pub order-together : (store : List ℕ) (calls : List MixedCall) (z : State × Stations) → BothHappened tableContract stationContract (start store, freshStations) calls z
       → (store′ : List ℕ) (calls′ : List MixedCall) (z′ : State × Stations) → BothHappened tableContract stationContract (start store′, freshStations) calls′ z′
       → length store′ ≡ length store → ReorderedTogether calls calls′ → RoomTogether calls → RoomTogether calls′ → SameTogether calls calls′ z z′
-  -- document 02, 2026-05: "From now on a duplicate leaves the kept fragment untouched": what its caller lent comes back
-  -- as it was
+  -- rule T5: a duplicate changes nothing, and what its caller lent comes back as it was
   pub duplicate-untouched : (z z′ : State) (p : Push) (out out′ : List ℕ) → PushMeets z p out DuplicatedFragment out′ z′ → (z′ ≡ z) × (out′ ≡ out)
-  -- "A fragment is its version, type, number, last mark and payload": one that waits is held as it came, its mark
-  -- included
+  -- rules T3 and T6: a fragment that waits is held as it came, its mark included
   pub kept-as-pushed : (z : State) → Made (z .table) → (p : Push) (bytes : List ℕ) → replyTo z (push p) ≡ pushed (gives waiting) bytes
       → holding (p .arrival .key) (after z (push p)) .fragments (p .arrival .fragment .number) ≡ kept (heldOf (p .arrival .fragment) (p .payload))
-  -- document 02, 2026-06: what a sweep does to each key's holding, and what the keys hold that it drops
+  -- rules S1 and S3: what a sweep does to each key's holding, and what the keys hold that it drops
   pub sweep-drops : (z : State) → Made (z .table) → (time key : ℕ) → holding key (after z (sweep time)) ≡ cond (due time (holding key z .first)) holdsNothing (holding key z)
   pub dropped-unfinished : (store : List ℕ) (calls : List Call) (time key : ℕ) → due time (holding key (ends (start store) calls) .first) ≡ true → HasOne (holding key (ends (start store) calls) .fragments)
   pub held-from : (store : List ℕ) (calls : List Call) (key number : ℕ) (fragment : Held) → holding key (ends (start store) calls) .fragments number ≡ kept fragment → HeldFrom (start store) calls key number fragment
-  -- a message completes: at any table that the calls made, and at a fresh one
+  -- rule D6: a message completes at any table that the calls made, and at a fresh one
   pub completes : (m : Message) (bring : ℕ → Push) (order : List ℕ) → Sent m bring order → (z : State) → Made (z .table) → storeSize ≤ length (z .store) → holding (m .key) z ≡ holdsNothing
       → Room m (z .table) → Completes m bring order z
   pub fresh-completes : (m : Message) (bring : ℕ → Push) (order : List ℕ) → Sent m bring order → (store : List ℕ) → storeSize ≤ length store → Completes m bring order (start store)
   pub fresh-holds : (store : List ℕ) (key : ℕ) → holding key (start store) ≡ holdsNothing
-  -- and among any calls, where the pushes under the key that were not refused are these, and each sweep spares the key:
-  -- one before the first of them or after the last does, as the key holds nothing then
+  -- Rule D6: it completes among any calls, if the accepted pushes under its key are these and each sweep spares the
+  -- key. A sweep before the first of them or after the last one does, because the key holds nothing then.
   pub completes-among : (m : Message) (bring : ℕ → Push) (order : List ℕ) → Sent m bring order → (z : State) → Made (z .table) → storeSize ≤ length (z .store) → holding (m .key) z ≡ holdsNothing
       → (run : List Call) → those (isOwn (m .key)) (crossed z run) ≡ sending m bring order → every after (spares (m .key)) z run ≡ true → CompletesAmong m order z run

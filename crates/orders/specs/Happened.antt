@@ -15,8 +15,8 @@ use Rattle.sweeping.specs.Sweep.{swept, sweptAs}
 use Rattle.keys.specs.Keys.{Origin, keyFor}
 use Rattle.orders.specs.Runs.{State, Push, Call, push, sweep, Reply, pushed, dropped, part, refusedBy, forRoom, isSweep}
 
--- what is asked: a push under the key that key_of makes, with the output as it is lent, or a sweep at a time; and what
--- comes back: the answer of a push and the output, or the number of a sweep
+-- What is asked: a push under the key that key_of makes (rule T2), with the output as it is lent, or a sweep at a time.
+-- What comes back: the answer of a push and the output, or the number of a sweep.
 pub data TableAsked : Type 0 where
   push-asked : (o : Origin) (p : Push) → p .arrival .key ≡ keyFor o → (out : List ℕ) → TableAsked
   sweep-asked : ℕ → TableAsked
@@ -28,16 +28,17 @@ pub data TableGot : Type 0 where
 abbrev pub TableCall : Type 0
 TableCall = Outcome State TableAsked TableGot
 
--- one of them, or an event of a station table that stands beside
+-- one of these, or an event of a station table beside it
 abbrev pub MixedCall : Type 0
 MixedCall = Either TableCall StationCall
 
--- the contract of push, which is lent the first bytes of the store: the rest of them stays
+-- The contract of push (rules T4 to T9, T11). It is lent the first bytes of the store, and the others stay.
 pub record PushMeets (z : State) (p : Push) (out : List ℕ) (answer : Pushed) (out′ : List ℕ) (z′ : State) : Type 0 where
   pub long : length out ≡ p .room
   pub goes : Goes (way (z .table) (part z p) (p .arrival) (p .payload) (length out)) (z .table) (part z p) out (p .arrival) (p .payload) answer (z′ .table) (part z′ p) out′
   pub rest : drop (p .lent) (z′ .store) ≡ drop (p .lent) (z .store)
 
+-- the contracts of push and of sweep (rules S1 and S2)
 abbrev pub tableMeets : State → TableAsked → TableGot → State → Type 0
 tableMeets z (push-asked o p key out) (push-got answer out′) z′ = PushMeets z p out answer out′ z′
 tableMeets z (sweep-asked time) (sweep-got many) z′ = (sweptAs (z′ .table) many ≡ swept (z .table) time) × (z′ .store ≡ z .store)
@@ -58,7 +59,7 @@ asksCall a = asks-for (callOf a)
 abbrev pub callsOf : List TableCall → List Call
 callsOf = stepsOf asksCall
 
--- what the caller got: the answer of a push and the bytes that show shows then, or the number of a sweep
+-- What the caller got: the answer of a push and the bytes that show then shows (rule T10), or the number of a sweep.
 pub data CallerGot : Type 0 where
   from-push : Pushed → List ℕ → CallerGot
   from-sweep : ℕ → CallerGot
@@ -71,7 +72,7 @@ gotFrom a (sweep-got many) = from-sweep many
 abbrev pub gotBy : TableCall → CallerGot
 gotBy c = gotFrom (c .asked) (c .got)
 
--- the same in a run's words; and whether it is no refusal, or none for table room
+-- the same as a run has it; and whether it is no refusal, or none by 10
 abbrev pub replyOf : CallerGot → Reply
 replyOf (from-push answer bytes) = pushed (pushedOf answer) bytes
 replyOf (from-sweep many) = dropped many

@@ -1,4 +1,4 @@
--- Runs of the fragment table: pushes and sweeps from a fresh table, over one store that the table alone writes.
+-- Runs of the fragment table (rules D3, D5 and D6): pushes and sweeps, over one store that nobody else writes.
 use mathlib.Core.List.{List, [], _++_}
 use mathlib.Core.Bool.{Bool, true, false, not, _&&_, _||_}
 use Prim.Native.Nat.{ℕ, _<_}
@@ -32,13 +32,13 @@ pub data Call : Type 0 where
   -- at a time
   sweep : ℕ → Call
 
--- what a call tells as it returns: a push its answer and the finished bytes, a sweep how many keys it dropped
+-- What a call returns: a push its answer and the finished bytes, a sweep how many keys it dropped (rule S2).
 pub data Reply : Type 0 where
   pushed : Answer PushAnswer → List ℕ → Reply
   dropped : ℕ → Reply
 
--- the finished bytes: what the showing call shows of the payload and of an output, whatever it held (see
--- `finished-shown`): here, of an empty one
+-- Rule T10, the finished bytes: what the showing call shows of the payload and the output. What the output held makes
+-- no difference (see `finished-shown`), so here it is empty.
 abbrev pub finishedBy : Way → List ℕ → List ℕ
 finishedBy w payload = shown (answerBy w) payload (outputBy w [])
 
@@ -52,7 +52,7 @@ wayOf s p = way (s .table) (part s p) (p .arrival) (p .payload) (p .room)
 abbrev pub afterWay : Way → State → Push → State
 afterWay w s p = record { table = tableBy w (s .table) (p .arrival) (length (p .payload)); store = storeBy w (part s p) (p .payload) ++ drop (p .lent) (s .store) }
 
--- what a call does, and what it tells
+-- Rules T4 to T9, S1 and S2: what a call does, and what it answers.
 abbrev pub after : State → Call → State
 after s (push p) = afterWay (wayOf s p) s p
 after s (sweep time) = record { table = swept (s .table) time .table; store = s .store }
@@ -61,7 +61,7 @@ abbrev pub replyTo : State → Call → Reply
 replyTo s (push p) = pushed (answerBy (wayOf s p)) (finishedBy (wayOf s p) (p .payload))
 replyTo s (sweep time) = dropped (swept (s .table) time .dropped)
 
--- a call is refused by some number, or for table room
+-- whether a call is refused by some number, or by 10, for want of room in the table (rule T6)
 abbrev pub refusedBy : (ℕ → Bool) → Reply → Bool
 refusedBy test (pushed (gives given) bytes) = false
 refusedBy test (pushed (refuses n values) bytes) = test n
@@ -91,11 +91,11 @@ concerns key e = isOwn key e || isSweep e
 abbrev pub mine : ℕ → List Call → List Call
 mine key = those (concerns key)
 
--- a fresh table, over a store that holds anything
+-- a fresh table (rule T14), over a store that holds anything
 abbrev pub start : List ℕ → State
 start store = record { table = freshTable; store = store }
 
--- what the table holds under a key: its first time, and its fragments by number
+-- Rules D3 and D5: what the table holds under a key, its first time (rule T6) and its fragments by number.
 pub record Holding : Type 0 where
   pub first : Since
   pub fragments : Fragments
@@ -106,14 +106,14 @@ holding key s = record { first = firstTime (s .table) key; fragments = heldBy (s
 abbrev pub holdsNothing : Holding
 holdsNothing = record { first = never; fragments = λ number. nothing }
 
--- the end of a run, and its calls but for those refused
+-- the end of a run, and its accepted calls
 abbrev pub ends : State → List Call → State
 ends = run after
 
 abbrev pub crossed : State → List Call → List Call
 crossed = remaining after isAccepted
 
--- what is told of a key's own pushes, of those not refused, and of the sweeps
+-- what is answered to a key's own pushes, to the accepted ones, and to the sweeps
 abbrev pub repliesTo : ℕ → State → List Call → List Reply
 repliesTo key = gathered after (λ s e. isOwn key e) replyTo
 
@@ -123,6 +123,6 @@ repliesToAccepted key = gathered after (λ s e. isOwn key e && isAccepted s e) r
 abbrev pub repliesToSweeps : State → List Call → List Reply
 repliesToSweeps = gathered after (λ s e. isSweep e) replyTo
 
--- no call of a run is refused for table room
+-- Rule D3: no call of a run is refused by 10.
 abbrev pub neverFull : State → List Call → Bool
 neverFull = every after hasRoom
