@@ -6,7 +6,7 @@ pub data Either (A B : Type 0) : Type 0 where
   left : A → Either A B
   right : B → Either A B
 
--- what is the one's of a list, and what is the other's, in their order
+-- the calls of the one machine in a list, and those of the other, in their order
 unfoldable pub lefts : {A B : Type 0} → List (Either A B) → List A
 lefts [] = []
 lefts (left a ∷ cs) = a ∷ lefts cs

@@ -1,5 +1,5 @@
--- What is claimed of machines that take one call after the other: the record Claims, which proofs/Claims.antt proves.
--- It speaks of all types of states and calls, and so it is a type of the next level.
+-- What is claimed about machines that take one call after the other: the record Claims, which proofs/Claims.antt
+-- proves. It is about all types of states and calls, so it is a type of the next level.
 use mathlib.Core.Path.{_≡_}
 use mathlib.Core.List.{List, [], _++_, map}
 use mathlib.Core.Bool.{Bool, true, not, _&&_}
@@ -18,18 +18,19 @@ pub record Lists : Type 1 where
       → gathered step (λ s e. own s e && test s e) says s es ≡ gathered step own says s es
 
 -- One key's story: what is seen of the key after any calls, and what its own calls are answered, go by the story alone.
+-- Rules D5 and P5 rest on this.
 module _ {S E A Vw : Type 0} (m : Machine S E A Vw) (passes : S → E → Bool) where
   pub record StoryAlone (Good : S → Type 0) (c : ℕ) (es : List E) (s : S) : Type 0 where
     pub good : Good (run (m .step) s es)
     pub seen : m .view c (run (m .step) s es) ≡ viewAfter m (m .view c s) (story m passes c s es)
     pub answered : gathered (m .step) (hers m passes c) (m .says) s es ≡ answers m c (m .view c s) (story m passes c s es)
 
-  -- two runs whose stories of a key are alike
+  -- Two runs whose stories of a key are alike. Rules D3 and D4 rest on this.
   pub record StoriesAlike (c : ℕ) (es fs : List E) (s s′ : S) : Type 0 where
     pub seen : m .view c (run (m .step) s es) ≡ m .view c (run (m .step) s′ fs)
     pub answered : gathered (m .step) (hers m passes c) (m .says) s es ≡ gathered (m .step) (hers m passes c) (m .says) s′ fs
 
-  -- a run that is given the story of a key and nothing else
+  -- A run that is given the story of a key and nothing else. Rule D5 rests on this.
   pub record GivenAlone (c : ℕ) (es : List E) (s s′ : S) : Type 0 where
     pub all-pass : every (m .step) passes s′ (story m passes c s es) ≡ true
     pub seen : m .view c (run (m .step) s es) ≡ m .view c (run (m .step) s′ (story m passes c s es))
@@ -52,11 +53,11 @@ pub record Claims : Type 1 where
       → m .view c s ≡ m .view c s′ → story m passes c s es ≡ story m passes c s′ fs → StoriesAlike m passes c es fs s s′
   pub given-alone : {S E A Vw : Type 0} (m : Machine S E A Vw) (passes : S → E → Bool) (Good : S → Type 0) → ActsByKey m passes Good → (c : ℕ) (Lone : S → Type 0) → Echo m passes Good c Lone
       → (es : List E) (s s′ : S) → Good s → Good s′ → Lone s′ → m .view c s ≡ m .view c s′ → GivenAlone m passes c es s s′
-  -- where the stories of all keys are alike, everyone's calls are answered alike
+  -- where the stories of all keys are alike, everyone's calls are answered alike (for rule D3: the sweeps)
   pub everyone-alike : {S E A Vw : Type 0} (m : Machine S E A Vw) (passes : S → E → Bool) (Good : S → Type 0) → ActsByKey m passes Good → SaysByViews m Good → (es fs : List E) (s s′ : S) → Good s → Good s′
       → ((c : ℕ) → m .view c s ≡ m .view c s′) → ((c : ℕ) → story m passes c s es ≡ story m passes c s′ fs) → gathered (m .step) (everyone's m) (m .says) s es ≡ gathered (m .step) (everyone's m) (m .says) s′ fs
   pub happened-run : {S C A E R : Type 0} (contract : Outcome S C A → Type 0) (step : S → E → S) (says : S → E → R) (asks : C → Asks E) (reply : Outcome S C A → R) → Tied contract step says asks reply
       → (s s′ : S) (os : List (Outcome S C A)) → Happened contract s os s′ → (test : S → E → Bool) (passes : Outcome S C A → Bool) → Tests contract asks test passes → HappenedRun contract step says asks reply s s′ os test passes
-  -- of two machines side by side the calls of each happened to it alone
+  -- where two machines stand side by side, the calls of each happened to it alone
   pub each-alone : {S T C D A B : Type 0} (contract : Outcome S C A → Type 0) (contract′ : Outcome T D B → Type 0) (z z′ : S × T) (os : List (Either (Outcome S C A) (Outcome T D B)))
       → BothHappened contract contract′ z os z′ → Happened contract (z .0) (lefts os) (z′ .0) × Happened contract′ (z .1) (rights os) (z′ .1)

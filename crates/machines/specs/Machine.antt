@@ -1,5 +1,4 @@
--- A machine that takes one call after the other: its runs, the calls that are crossed out, and what is gathered of the
--- others.
+-- A machine that takes one call after the other: its runs, the calls that pass a test, and what is gathered from these.
 use mathlib.Core.List.{List, [], _∷_}
 use mathlib.Core.Bool.{Bool, true, cond, _&&_}
 
@@ -18,7 +17,7 @@ unfoldable pub remaining : {S E : Type 0} → (S → E → S) → (S → E → B
 remaining step test s [] = []
 remaining step test s (e ∷ es) = cond (test s e) (e ∷ remaining step test (step s e) es) (remaining step test (step s e) es)
 
--- what is gathered of them, in their order
+-- what is gathered from these, in their order
 unfoldable pub gathered : {S E A : Type 0} → (S → E → S) → (S → E → Bool) → (S → E → A) → S → List E → List A
 gathered step test says s [] = []
 gathered step test says s (e ∷ es) = cond (test s e) (says s e ∷ gathered step test says (step s e) es) (gathered step test says (step s e) es)

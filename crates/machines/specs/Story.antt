@@ -55,7 +55,7 @@ module _ {S E A Vw : Type 0} (m : Machine S E A Vw) where
     pub other : (c : ℕ) (s : S) (e : E) → Good s → concernsKey c e ≡ false → m .view c (m .step s e) ≡ m .view c s
     pub said : (c : ℕ) (s : S) (e : E) → Good s → passes s e ≡ true → m .own c e ≡ true → m .says s e ≡ m .answer (m .view c s) e
 
-  -- a state that hears only this key: what passed among others passes there
+  -- a state that is given only this key's calls: what passed among others passes there
   pub record Echo (passes : S → E → Bool) (Good : S → Type 0) (c : ℕ) (Lone : S → Type 0) : Type 0 where
     pub stays-lone : (s : S) (e : E) → Good s → Lone s → concernsKey c e ≡ true → Lone (m .step s e)
     pub echoed : (s s′ : S) (e : E) → Good s → Good s′ → Lone s′ → m .view c s ≡ m .view c s′ → concernsKey c e ≡ true → passes s e ≡ true → passes s′ e ≡ true
