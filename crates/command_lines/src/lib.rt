@@ -1,5 +1,6 @@
-// Reading a command: its fields, numbers, and bytes written as hex pairs and repeats. A line that is too long, or gives too many bytes, counts as an empty
-// one, which is no command. What else is none is answered somehow; none is ever generated.
+// Reading a command: its fields, numbers, and bytes written as hex pairs and repeats. A line that is too long, or has
+// too many bytes, counts as an empty one, which is no command. Any other line that is no command gets some answer. No
+// such line is ever generated.
 ghost use mathlib.Core.Path.{_≡_};
 ghost use Prim.Native.Nat.{_+_, _-_, _≤_, _<_, _%_, min};
 ghost use lib.ListN.{length, getD, take, drop};
@@ -20,7 +21,7 @@ pub fn least(a: usize, b: usize) -> usize
     if a < b { a } else { b }
 }
 
-// Where the first separator from `from` on stands; the end where there is none.
+// Where the first separator from `from` on stands, or the end where there is none.
 fn place_of(s: &[u8], from: usize, separator: u8) -> usize
     requires { ⌜ from ≤ length (now s) ⌝ }
     ensures { λ r. ⌜ Place separator (now (s .entry)) from r ⌝ }
@@ -67,7 +68,7 @@ fn after(s: &[u8], separator: u8, at: usize) -> usize
     if end < s.len() { end + 1 } else { end }
 }
 
-// Piece number n, from 0, of what is separated so.
+// Piece number n, from 0, between such separators.
 pub fn piece(s: &[u8], separator: u8, n: usize) -> &[u8]
     ensures { λ r. ⌜ now r ≡ fieldIn separator n (now (s .entry)) ⌝ }
 {
@@ -186,7 +187,7 @@ pub fn pair(s: &[u8], n: usize) -> u8
     0
 }
 
-// The byte goes in so many times from n on, as far as there is room; where they end.
+// Puts the byte `count` times from n on, as far as there is room. Returns where they end.
 fn repeat(buffer: &mut [u8], n: usize, count: usize, b: u8) -> usize
     requires { ⌜ n ≤ length (now buffer) ⌝ }
     ensures { λ r. ⌜ r ≤ length (now (buffer .entry)) ⌝ }
@@ -200,7 +201,8 @@ fn repeat(buffer: &mut [u8], n: usize, count: usize, b: u8) -> usize
     n + more
 }
 
-// Puts the bytes of a field at the start of buffer: `-` for none, hex pairs, and repeats `*COUNT:PAIR`. How many there are; bytes that have no room are left out.
+// Puts the bytes of a field at the start of buffer: `-` for none, hex pairs, and repeats `*COUNT:PAIR`. Returns how
+// many there are. Bytes that have no room are left out.
 fn decode(s: &[u8], buffer: &mut [u8]) -> usize
     ensures { λ r. ⌜ r ≤ length (now (buffer .entry)) ⌝ }
 {
@@ -229,14 +231,14 @@ fn decode(s: &[u8], buffer: &mut [u8]) -> usize
     n
 }
 
-// Puts the bytes of field n at the start of buffer; how many there are.
+// Puts the bytes of field n at the start of buffer. Returns how many there are.
 pub fn decode_field(line: &[u8], n: usize, buffer: &mut [u8]) -> usize
     ensures { λ r. ⌜ r ≤ length (now (buffer .entry)) ⌝ }
 {
     decode(field(line, n), buffer)
 }
 
-// The line from a to e; an empty one where it is too long.
+// The line from a to e, or an empty one where it is too long.
 pub fn line_in(input: &[u8], a: usize, e: usize) -> &[u8]
     ensures { λ r. ⌜ length (now r) ≤ 32768 ⌝ }
 {
@@ -247,7 +249,7 @@ pub fn line_in(input: &[u8], a: usize, e: usize) -> &[u8]
     line
 }
 
-// A line that gives n bytes; an empty one where those are too many.
+// A line that has n bytes, or an empty one where those are too many.
 pub fn command_of(line: &[u8], n: usize) -> &[u8]
     ensures { λ r. ⌜ length (now r) ≤ length (now (line .entry)) ⌝ }
 {
@@ -257,7 +259,7 @@ pub fn command_of(line: &[u8], n: usize) -> &[u8]
     line
 }
 
-// Where the line ends that starts at `at`, of the first `have` bytes; `have` where its end is not among them.
+// Where the line that starts at `at` ends among the first `have` bytes, or `have` where its end is not among them.
 pub fn line_end(input: &[u8], at: usize, have: usize) -> usize
     ensures { λ r. ⌜ r ≤ have ⌝ }
 {
@@ -265,7 +267,8 @@ pub fn line_end(input: &[u8], at: usize, have: usize) -> usize
     place_of(filled, least(at, filled.len()), b'\n')
 }
 
-// Moves the bytes from a to e to the start, of a line that is too long only so many as show that; how many they are.
+// Moves the bytes from a to e to the start, and returns how many they are. From a line that is too long, it moves only
+// as many as show that.
 pub fn moved(s: &mut [u8], a: usize, e: usize) -> usize
     ensures { λ r. ⌜ r ≤ length (now (s .entry)) ⌝ }
 {

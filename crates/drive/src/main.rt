@@ -1,5 +1,5 @@
-// Answers the commands on standard input, a line each, through the library's public calls (oracle/COMMANDS.md). It is held against the original
-// by oracle/run, and against a kept list of the original's answers whenever it is checked.
+// Answers the commands on standard input, a line each, through the library's public calls (oracle/COMMANDS.md).
+// oracle/run compares its answers with the original's (rule D2). Every check compares them with a kept list of those.
 use answer_lines::Answers;
 use libc::STDIN_FILENO;
 use stations::Stations;
@@ -8,7 +8,8 @@ use table_commands::Served;
 ghost use Prim.Native.Nat.{_≤_};
 ghost use Rattle.pushing.specs.Made.{Made};
 
-// The table and where the text of answers ends, what of the input is still to be answered, from `at` to `have`, and whether it has ended and all is done.
+// The table, and where the text of answers ends; which input is still to be answered, from `at` to `have`; whether the
+// input has ended, and whether all is done.
 struct State {
     served: Served,
     at: usize,
@@ -17,7 +18,7 @@ struct State {
     done: bool,
 }
 
-// The buffers, as arrays: so that nobody has to show that their lengths stay.
+// The buffers are arrays, so nobody has to show that their lengths stay.
 type Input = [u8; 65536];
 
 type Bytes = [u8; 66048];
@@ -30,7 +31,7 @@ struct Filled {
     ended: bool,
 }
 
-// Which field of a line has the bytes of its command; 0 where the letter is no command's.
+// Which field of a line has the bytes of its command, 0 where no command has the letter.
 fn field_of_bytes(letter: u8) -> usize {
     let of_kinds = kind_commands::field_of_bytes(letter);
     if 0 < of_kinds {
@@ -47,7 +48,8 @@ fn field_of_bytes(letter: u8) -> usize {
     station_commands::field_of_bytes(letter)
 }
 
-// One line answered that is not about the table of fragments; where the text then ends. A letter that is no command's is told so.
+// Answers one line that is not about the fragment table, and returns where the text then ends. A letter that no command
+// has is answered "bad".
 fn answer(
     line: &[u8],
     bytes: &[u8],
@@ -69,7 +71,7 @@ fn answer(
     answer_lines::put(text, used, b"bad")
 }
 
-// One line answered, with the table of fragments as it is then.
+// Answers one line, and returns the fragment table as it then is.
 fn turn(
     s: Served,
     line: &[u8],
@@ -93,7 +95,7 @@ fn turn(
     }
 }
 
-// The bytes that the line gives are read, and the line is answered, with its end, where the text has room.
+// Reads the bytes that the line has, makes room in the text, and answers the line, with a line end.
 fn answered(
     s: Served,
     line: &[u8],
@@ -160,7 +162,7 @@ fn supplied(s: State, input: &mut Input, text: &Answers) -> State
     }
 }
 
-// Answers a line, or reads more where no line's end is there. At the input's end what is left is a line too.
+// Answers a line, or reads more where there is no line end. At the input's end what is left is a line too.
 fn step(
     s: State,
     input: &mut Input,
@@ -189,7 +191,8 @@ fn step(
     supplied(s, input, text)
 }
 
-// Answers line by line until the input ends. A proved loop has to end, and nothing says that an input does: so it counts its turns.
+// Answers line by line until the input ends. A proved loop has to end, and nothing says that an input does, so it
+// counts its turns.
 fn serve(
     input: &mut Input,
     data: &mut Bytes,

@@ -5,7 +5,7 @@ use framing::HeaderRead;
 use framing::Read;
 ghost use Prim.Native.Nat.{_≤_};
 
-// t: a TLV read, and its value as a part of the bytes.
+// t: a TLV read, and its value as a part of the bytes (rule B3).
 pub(crate) fn read(data: &[u8], text: &mut Answers, used: usize) -> usize
     ensures { λ r. ⌜ r ≤ 65536 ⌝ }
 {
@@ -49,7 +49,7 @@ fn put_header(h: CmduHeader, text: &mut Answers, used: usize) -> usize
     answer_lines::put_next(text, b, h.last_fragment as u64)
 }
 
-// h: the header of a CMDU.
+// h: the header of a CMDU (rule B6).
 pub(crate) fn header(data: &[u8], text: &mut Answers, used: usize) -> usize
     ensures { λ r. ⌜ r ≤ 65536 ⌝ }
 {

@@ -6,7 +6,7 @@ mod written;
 use answer_lines::Answers;
 ghost use Prim.Native.Nat.{_≤_};
 
-// Which field of a line has the bytes of these commands, 8 where none has; 0 for a letter that is none of theirs.
+// Which field of a line has the bytes of these commands, 8 where none has. For any other letter it is 0.
 pub fn field_of_bytes(letter: u8) -> usize
     ensures { λ r. ⌜ r ≤ 8 ⌝ }
 {
@@ -35,7 +35,7 @@ fn answer_read(line: &[u8], bytes: &[u8], text: &mut Answers, used: usize) -> us
     }
 }
 
-// One line answered from the bytes that it gives; where the text then ends.
+// Answers one line from the bytes that it has. Returns where the text then ends.
 pub fn answer(line: &[u8], bytes: &[u8], out: &mut [u8], text: &mut Answers, used: usize) -> usize
     ensures { λ r. ⌜ r ≤ 65536 ⌝ }
 {

@@ -6,7 +6,7 @@ use layouts::Located;
 use layouts::Path;
 ghost use Prim.Native.Nat.{_≤_};
 
-// More than any value has entries and ends of lists.
+// No value has as many entries and ends of lists.
 const TURNS: usize = 1000000;
 
 // What stands in front of the list.
@@ -60,7 +60,7 @@ fn put_held(code: u8, data: &[u8], entries: usize, text: &mut Answers, used: usi
     put_list(code, data, entries, text, used)
 }
 
-// r: a value read.
+// r: a value read (rule K1).
 pub(crate) fn read(code: u8, data: &[u8], text: &mut Answers, used: usize) -> usize
     ensures { λ r. ⌜ r ≤ 65536 ⌝ }
 {
@@ -98,7 +98,7 @@ fn path_of(numbers: &[u8]) -> Path {
     }
 }
 
-// A part of a value, where it is there.
+// A part of a value, if it is there.
 fn put_part(located: Located, part: &[u8], text: &mut Answers, used: usize) -> usize
     ensures { λ r. ⌜ r ≤ 65536 ⌝ }
 {
@@ -111,7 +111,7 @@ fn put_part(located: Located, part: &[u8], text: &mut Answers, used: usize) -> u
     }
 }
 
-// e: an entry by its numbers.
+// e: an entry by its numbers (rule E1).
 pub(crate) fn entry(code: u8, numbers: &[u8], data: &[u8], text: &mut Answers, used: usize) -> usize
     ensures { λ r. ⌜ r ≤ 65536 ⌝ }
 {
@@ -120,7 +120,7 @@ pub(crate) fn entry(code: u8, numbers: &[u8], data: &[u8], text: &mut Answers, u
     put_part(located, kinds::entry(code, path, data), text, used)
 }
 
-// u: the text of a value with this number.
+// u: the text of a value with this number (rule E7).
 pub(crate) fn text_of(
     code: u8,
     number: usize,
@@ -134,7 +134,7 @@ pub(crate) fn text_of(
     put_part(located, texts::text(code, number, data), text, used)
 }
 
-// U: the text of the radio with this number.
+// U: the text of the radio with this number (rule E8).
 pub(crate) fn radio_text(number: usize, data: &[u8], text: &mut Answers, used: usize) -> usize
     ensures { λ r. ⌜ r ≤ 65536 ⌝ }
 {
@@ -178,7 +178,8 @@ fn at_depth(p: Path, depth: usize) -> Path {
     }
 }
 
-// Behind an entry that is there come the first one below it and those after it; where there is none, the one after the entry above. Depth 0 is the end.
+// After an entry that is there comes the first one below it, or at the lowest level the next one in its list. After one
+// that isn't there comes the one after the entry above. Depth 0 is the end.
 fn next(p: Path, found: bool) -> Path {
     let depth = p.depth;
     if found {

@@ -4,7 +4,7 @@ use framing::Written;
 use kinds::KindRead;
 ghost use Prim.Native.Nat.{_≤_};
 
-// f: no record is of the kind that the line names.
+// f: the kind that the line names is no record kind.
 fn is_unknown(line: &[u8]) -> bool {
     if command_lines::byte_at(line, 0) == b'f' {
         return !records::is_record(command_lines::byte_in(line, 1));
@@ -12,7 +12,7 @@ fn is_unknown(line: &[u8]) -> bool {
     false
 }
 
-// s: a value written as it was read, a record from the record, a list from its bytes.
+// s: a value written as it was read: a record kind from its record (rule O1), any other from its bytes (rule O2).
 fn rewrite(code: u8, bytes: &[u8], out: &mut [u8]) -> Written {
     match kinds::read_kind(code, bytes) {
         KindRead::Record {
@@ -25,7 +25,7 @@ fn rewrite(code: u8, bytes: &[u8], out: &mut [u8]) -> Written {
     }
 }
 
-// w: a TLV of this type and value. f: a record from its fields.
+// w: a TLV of this type and value (rule B5). f: a record from its fields (rule O1).
 fn write(line: &[u8], bytes: &[u8], out: &mut [u8]) -> Written {
     let code = command_lines::byte_in(line, 1);
     match command_lines::byte_at(line, 0) {
@@ -48,7 +48,7 @@ fn put(written: Written, out: &[u8], text: &mut Answers, used: usize) -> usize
     }
 }
 
-// One line answered: what was written, into so much room. A record of no kind is told so.
+// Answers one line: what was written, into as much room as the line says. A record of no kind is answered "bad".
 pub(crate) fn answer(
     line: &[u8],
     bytes: &[u8],

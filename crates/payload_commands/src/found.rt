@@ -1,4 +1,4 @@
-// The commands of finding: d and D.
+// The commands of finding in a payload (rule F4): d and D.
 use answer_lines::Answers;
 use answer_lines::Tally;
 use finding::Found;
@@ -7,7 +7,7 @@ use numbers::Refusal;
 use walking::Walked;
 ghost use Prim.Native.Nat.{_≤_};
 
-// A found TLV: its place among the payload's, and where the bytes that were read of its value start and end.
+// A found TLV: its place among the payload's TLVs, and where the consumed bytes of its value start and end.
 pub(crate) enum Hit {
     At {
         place: usize,
@@ -21,7 +21,7 @@ pub(crate) enum Hit {
     Refused(Refusal),
 }
 
-// More than a payload has TLVs.
+// No payload has as many TLVs.
 const TURNS: usize = 30000;
 
 fn hit_at(place: usize, offset: usize, consumed: usize) -> Hit {
@@ -81,7 +81,7 @@ pub(crate) fn put_hit(hit: Hit, payload: &[u8], text: &mut Answers, used: usize)
     }
 }
 
-// d: the payload walked, then found in it: so a walk's refusal comes before that of an unknown kind.
+// d: the payload is walked, then searched, so a walk's refusal comes before that of an unknown kind.
 pub(crate) fn first(payload: &[u8], code: u8, text: &mut Answers, used: usize) -> usize
     ensures { λ r. ⌜ r ≤ 65536 ⌝ }
 {
@@ -94,7 +94,7 @@ pub(crate) fn first(payload: &[u8], code: u8, text: &mut Answers, used: usize) -
     }
 }
 
-// One after the other, each after the one before.
+// All of them, each searched for after the one before.
 fn all_hits(payload: &[u8], code: u8) -> Tally {
     let mut all = answer_lines::no_parts();
     let mut from = 0;
@@ -111,7 +111,7 @@ fn all_hits(payload: &[u8], code: u8) -> Tally {
     all
 }
 
-// That none is found is no refusal of all.
+// Whether the whole search is refused: it is not where nothing was found (15).
 fn is_refused(hit: Hit) -> bool {
     match hit {
         Hit::At {
@@ -124,7 +124,7 @@ fn is_refused(hit: Hit) -> bool {
     }
 }
 
-// D: every readable one. An unknown kind is told before a walk's refusal, as `finding` does.
+// D: every readable one. An unknown kind comes before a walk's refusal, as in `finding` (rule F4).
 pub(crate) fn every(payload: &[u8], code: u8, text: &mut Answers, used: usize) -> usize
     ensures { λ r. ⌜ r ≤ 65536 ⌝ }
 {

@@ -1,4 +1,4 @@
-// The command l: find over a list that the command gives.
+// The command l: finding over a TLV list that the command has (rule F1).
 use crate::found;
 use crate::listing;
 use answer_lines::Answers;
@@ -18,7 +18,7 @@ fn tlv_of(record: &[u8]) -> Tlv {
     }
 }
 
-// The records, of which there are 40 at most.
+// The records, at most 40 of them.
 fn list_of(records: &[u8]) -> [Tlv; 40] {
     let mut tlvs = listing::empty();
     let count = command_lines::least(command_lines::pieces(records, b','), 40);
@@ -30,7 +30,7 @@ fn list_of(records: &[u8]) -> [Tlv; 40] {
     tlvs
 }
 
-// l: the first readable record of the kind.
+// l: the first record that has the kind's code and reads.
 pub(crate) fn first(
     records: &[u8],
     payload: &[u8],

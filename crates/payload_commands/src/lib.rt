@@ -7,7 +7,7 @@ mod walked;
 use answer_lines::Answers;
 ghost use Prim.Native.Nat.{_≤_};
 
-// Which field of a line has the payload of these commands; 0 for a letter that is none of theirs.
+// Which field of a line has the payload of these commands. For any other letter it is 0.
 pub fn field_of_bytes(letter: u8) -> usize
     ensures { λ r. ⌜ r ≤ 3 ⌝ }
 {
@@ -19,7 +19,7 @@ pub fn field_of_bytes(letter: u8) -> usize
     }
 }
 
-// One line answered from the payload that it gives; where the text then ends.
+// Answers one line from the payload that it has. Returns where the text then ends.
 pub fn answer(line: &[u8], payload: &[u8], text: &mut Answers, used: usize) -> usize
     ensures { λ r. ⌜ r ≤ 65536 ⌝ }
 {

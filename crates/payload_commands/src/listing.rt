@@ -1,4 +1,4 @@
-// A list of TLVs of our own, lent to the library's calls over such a list: the walk that fills it, and the search in it.
+// A TLV list of our own, lent to the library's calls: the walk that fills it (rule W5), and the search in it (rule F1).
 use finding::Found;
 use walking::Tlv;
 use walking::Walked;
@@ -14,7 +14,8 @@ pub(crate) struct WalkedList {
     pub(crate) found: Found,
 }
 
-// A walk into the list, then a search of the payload by it. A list that a command gives is searched as it is: no byte is walked then.
+// A walk into the list, then a search of the payload by it. A list that a command has is searched as it is, because no
+// byte is walked then.
 pub(crate) fn walk_and_find(
     mut list: [Tlv; 40],
     walk: &[u8],
@@ -34,7 +35,7 @@ pub(crate) fn walk_and_find(
     }
 }
 
-// A list without a record. Each place has one that lies in no payload, so that none is found.
+// An empty list. Each place has a record that lies in no payload, so that none is found (rule F2).
 pub(crate) fn empty() -> [Tlv; 40] {
     [Tlv {
         tlv_type: 0,

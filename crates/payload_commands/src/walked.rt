@@ -5,14 +5,15 @@ use walking::Tlv;
 use walking::Walked;
 ghost use Prim.Native.Nat.{_≤_};
 
-// The TLVs of a payload from one on, 40 at most, and where the next one stands: at the payload's end, padding and all, if there is none.
+// At most 40 TLVs of a payload, one after the other, and where the next one stands. If there is none, that is the
+// payload's end, after the padding.
 struct Part {
     tlvs: [Tlv; 40],
     count: usize,
     end: usize,
 }
 
-// The TLVs of these bytes, of which there are 40 at most.
+// The TLVs of these bytes, if there are at most 40.
 fn part_of(bytes: &[u8]) -> Part {
     let listed = listing::walk_and_find(listing::empty(), bytes, bytes, 0);
     let tlvs = listed.tlvs;
@@ -31,7 +32,8 @@ fn part_of(bytes: &[u8]) -> Part {
     }
 }
 
-// The first 40 TLVs of these bytes, or all: a list that is too short is refused with the offset of the first TLV without a place.
+// The first 40 TLVs of these bytes, or all. A list that is too short is refused by 14, with the offset of the first TLV
+// that has no element (rule W5).
 fn first_part(bytes: &[u8]) -> Part {
     let all = part_of(bytes);
     if all.end < bytes.len() {
@@ -85,7 +87,7 @@ fn sum_part(sum: u64, p: Part, from: usize) -> u64 {
     all
 }
 
-// The checksum over all TLVs, of which there are so many.
+// The checksum over all TLVs, which are `count`.
 fn sum_all(data: &[u8], count: usize) -> u64 {
     let mut sum = answer_lines::NOTHING;
     let mut from = 0;
@@ -102,7 +104,7 @@ fn sum_all(data: &[u8], count: usize) -> u64 {
     sum
 }
 
-// How many TLVs there are, how long the padding is, and each TLV of a few, or the checksum over many.
+// How many TLVs there are, how long the padding is, and each TLV if there are few, or the checksum over many.
 fn put_all(data: &[u8], count: usize, padding: usize, text: &mut Answers, used: usize) -> usize
     ensures { λ r. ⌜ r ≤ 65536 ⌝ }
 {
@@ -115,7 +117,7 @@ fn put_all(data: &[u8], count: usize, padding: usize, text: &mut Answers, used: 
     answer_lines::put_sum(text, c, b' ', sum_all(data, count))
 }
 
-// k, g: a payload walked to its message's end, counted and listed.
+// k, g: a payload walked to its message's end (rule W3), counted and listed.
 pub(crate) fn walk(data: &[u8], text: &mut Answers, used: usize) -> usize
     ensures { λ r. ⌜ r ≤ 65536 ⌝ }
 {

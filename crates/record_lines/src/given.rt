@@ -140,7 +140,7 @@ fn capability_in(line: &[u8]) -> Profile2ApCapability {
     }
 }
 
-// A record of several fields, those of the line from the fourth on.
+// A record of several fields, which are those of the line from the fourth on.
 fn several_in(code: u8, line: &[u8]) -> Record
     ensures { λ r. ⌜ (codeOf (kindOf r) ≡ code) ⊎ (r ≡ Record.EndOfMessage) ⌝ }
 {
@@ -171,7 +171,8 @@ fn coded_in(code: u8, line: &[u8]) -> Record
     }
 }
 
-// The record of a kind whose fields are those of the line from the fourth on; the one without a field where the code is no record's.
+// The record of a kind, whose fields are those of the line from the fourth on. Where no record kind has the code, it is
+// the record without a field.
 pub fn record_in(code: u8, line: &[u8]) -> Record
     ensures { λ r. ⌜ (codeOf (kindOf r) ≡ code) ⊎ (r ≡ Record.EndOfMessage) ⌝ }
 {

@@ -7,7 +7,7 @@ pub use given::record_in;
 pub use shown::put_address;
 pub use shown::put_record;
 
-// A code as a field: its number, with an `r` in front where the standard has no name for it.
+// A code as a field: its number, with an `r` in front where it is reserved (rule K5).
 pub(crate) struct Code {
     pub(crate) reserved: bool,
     pub(crate) number: u8,

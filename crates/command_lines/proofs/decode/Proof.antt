@@ -1,4 +1,5 @@
--- `decode` meets its contract: each turn goes on by two bytes or more, no sum wraps in a field of at most a million bytes, and what is stored stays within the buffer.
+-- `decode` meets its contract: each turn goes on by two bytes or more, no sum wraps in a field of at most a million
+-- bytes, and what is stored stays within the buffer.
 use mathlib.Core.Path.{_≡_}
 use Prim.Native.Nat.{_≤_, _-_}
 use lib.ListN.{length}

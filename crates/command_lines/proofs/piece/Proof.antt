@@ -1,4 +1,4 @@
--- `piece` meets its contract: so many separators are passed.
+-- `piece` meets its contract: as many separators are passed as its number says.
 use mathlib.Core.Path.{_≡_, _∙_, ap}
 use Prim.Native.Nat.{ℕ, _≤_, _-_}
 use native.Mathlib.Omega.{arith}

@@ -1,4 +1,5 @@
--- `with_digit` meets its contract: where ten times the number and the digit don't fit, the greatest number is the least of both.
+-- `with_digit` meets its contract: where ten times the number and the digit don't fit, the greatest number is the least
+-- of both.
 use native.Mathlib.Omega.{arith}
 use Rattle.command_lines.specs.Decimal.{withDigit}
 use borrow.Author.Needs.{needs}

@@ -1,4 +1,6 @@
--- `walk_and_find` meets its contract: a walk of its MIR, by hand. The list lies in a local array. It is lent as a `&mut [Tlv]` for a lifetime that is made for the walk, comes back, is lent as a `&[Tlv]` for another one, and comes back to be copied into the answer.
+-- `walk_and_find` meets its contract: a walk of its MIR, by hand. The list lies in a local array. It is lent as a
+-- `&mut [Tlv]` for a lifetime that is made for the walk, comes back, is lent as a `&[Tlv]` for another one, and comes
+-- back to be copied into the answer.
 -- Assumes nothing.
 use mathlib.Core.Path.{_≡_, refl, sym, _∙_, ap, subst}
 use Prim.Native.Nat.{ℕ, _<_, _^_}
@@ -245,7 +247,8 @@ module _ {M : Type 1} (𝓤 : URA M) (H : Heap 𝓤) (A : Atoms 𝓤) (W : Given
         split ! $ move ! (1 ∷ []) $ use1 W (some (λ (ws : List Tlv × (Unit {0} × Unit {0})). ‵ (lasts walk-into.ended (κs-walk l₅ α γ) (list l₅ α γ, (wal, tt)) ws) ⊛ raw (fact 𝓤 (SaidWalk r (ws .0))))) (id⊢ 𝓤 _) $ pick ! (λ ws.
         let zs : List Tlv = ws .0 in
         split ! $ move ! (1 ∷ []) $ heard ! (SaidWalk r zs) (λ e. fsplit ! $ fsplit ! $ move ! (1 ∷ []) $ feqL ! (λ _. move ! (2 ∷ []) $ split ! $ split ! $
-        -- [the new token; token; the answer; the last list; …; the lender's part; token′; payload; _12; …]: the lifetime ends, and the records come back
+        -- [the new token; token; the answer; the last list; …; the lender's part; token′; payload; _12; …]: the
+        -- lifetime ends, and the records come back
         lft-end ! tt $ move ! (0 ∷ 5 ∷ 3 ∷ []) $ use3 W (later (‵ (Arr (memOf R) (length ys) .lies zs l₅ 0))) (slice-back 𝓤 H A W R (α ∷ []) γ zs (length ys) l₅ 0) $ await ! tt $ fsplit ! $ feqL ! (λ same.
         let long′ : length zs ≡ 40 = same ∙ long in
         -- [the records; token; the answer; …; token′; payload; _12; …]
