@@ -15,7 +15,7 @@ use Rattle.stations.specs.Whereabouts.{Event, eventOf}
 use Rattle.stations.specs.Rows.{Stations, answerTo, tableAfter}
 use Rattle.stations.specs.Events.{answeredOf, appliedOf, AssociationRead, associationRead, answerFrom, tableFrom}
 
--- Rule P6: an event is asked as a record or in a value. And what is got.
+-- Rule P6: an event comes as a record or in a value. And what its caller got.
 pub data EventAsked : Type 0 where
   of-record : ClientAssociation → EventAsked
   of-value : List ℕ → EventAsked
