@@ -1,4 +1,5 @@
--- How firm an answer is: what a contract says by an equation alone is one thing, and two refusals that document 01 tells alike are one.
+-- How firm an answer is (rule A4): what a contract says by an equation alone is one thing, and two refusals with the
+-- same number and values are one.
 use mathlib.Core.Path.{_≡_, refl, sym, ap, _∙_}
 use mathlib.Core.List.{List, [], _∷_}
 use Prim.Native.Nat.{ℕ}
@@ -60,7 +61,7 @@ never a n vs e = let z : _≡_ {A = ℕ} 0 1 = cc in absurd (omega arith)
 pub by-equation : {A : Type 0} (defined : A) → Firm (λ a. a ≡ defined)
 by-equation defined a b p q = p ∙ sym q
 
--- an answer that is told in document 01's words, if no two are told alike
+-- an answer that is said as an `Answer`, if no two are said alike
 pub by-telling : {A B : Type 0} (tell : A → B) → ((a b : A) → tell a ≡ tell b → a ≡ b) → (defined : B) → Firm (λ a. tell a ≡ defined)
 by-telling tell one defined a b p q = one a b (p ∙ sym q)
 

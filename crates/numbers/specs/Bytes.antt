@@ -1,5 +1,4 @@
--- Numbers in bytes, big-endian: "a big-endian 16-bit length", counts "in one byte or two, big-endian" (document 01).
--- The first byte is the highest.
+-- Numbers in bytes. Rule B1: the highest byte stands first.
 use mathlib.Core.List.{List, [], _∷_, _++_}
 use Prim.Native.Nat.{ℕ, zero, suc, _+_, _*_, _/_, _%_, _<_}
 use lib.ListN.{take, drop, getD}
@@ -9,6 +8,7 @@ abbrev pub bigEndianAfter : ℕ → List ℕ → ℕ
 bigEndianAfter n [] = n
 bigEndianAfter n (b ∷ bs) = bigEndianAfter (n * 256 + b) bs
 
+-- Rule B1: the number that some bytes say.
 abbrev pub bigEndian : List ℕ → ℕ
 bigEndian bs = bigEndianAfter 0 bs
 
@@ -16,7 +16,7 @@ bigEndian bs = bigEndianAfter 0 bs
 abbrev pub numberAt : ℕ → ℕ → List ℕ → ℕ
 numberAt w p s = bigEndian (take w (drop p s))
 
--- the w bytes that say n; of a number too great for them, the lowest
+-- Rule B1, on writing: the w bytes that say n. Of a number too great for w bytes they are the lowest.
 abbrev pub inBytes : ℕ → ℕ → List ℕ
 inBytes zero n = []
 inBytes (suc w) n = inBytes w (n / 256) ++ (n % 256 ∷ [])

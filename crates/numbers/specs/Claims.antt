@@ -8,18 +8,18 @@ use Rattle.numbers.specs.Numbers.{number, values, carried}
 use Rattle.numbers.specs.Firmness.{Firm}
 use Rattle.numbers.specs.declared.Refusal.{Refusal}
 
--- each public call by its name: any two answers that its contract allows are one
+-- Rule A4, for each public call by its name: any two answers that its contract allows are one.
 pub record Firmness : Type 0 where
   pub number-of : (r : Refusal) → Firm (λ n. n ≡ number r)
   pub carried-by : (r : Refusal) → Firm (λ n. n ≡ carried r)
   pub wide : (byte : ℕ) → Firm (λ r. (r ≡ byte) × (r < 256))
   pub be16 : (high low : ℕ) → Firm (λ r. (r ≡ bigEndian (high ∷ low ∷ [])) × (r < 65536))
 
--- no two refusals are told alike
+-- No two refusals have the same number and values (rule N1).
 abbrev pub ToldApart : Type 0
 ToldApart = (a b : Refusal) → number a ≡ number b → values a ≡ values b → a ≡ b
 
--- a number and its bytes say each other
+-- A number and its bytes say each other (rules A6 and B1).
 pub record SaidBack : Type 0 where
   pub of-number : (w n : ℕ) → n < 256 ^ w → bigEndian (inBytes w n) ≡ n
   pub of-bytes : (bs : List ℕ) → AllBytes bs → inBytes (length bs) (bigEndian bs) ≡ bs

@@ -1,8 +1,7 @@
--- How firm each answer is (document 01): "a public call's contract determines the answer and each lent byte
--- afterwards. That any two answers allowed by it coincide is proved".
+-- Rule A4: a contract leaves no choice between two answers.
 use mathlib.Core.Path.{_≡_}
 
--- a contract, said as what it allows: any two that it allows are one. Of a call that is lent a buffer, what is
--- allowed is the answer together with what the buffer holds.
+-- A contract, as what it allows: any two outcomes that it allows are one. For a call that is lent a slice to write, an
+-- outcome is the answer together with what the slice then holds.
 abbrev pub Firm : {A : Type 0} → (A → Type 0) → Type 0
 Firm {A = A} allows = (a b : A) → allows a → allows b → a ≡ b

@@ -1,4 +1,4 @@
--- Document 01, "Numbers given back": the number of each refusal, and the values that it carries.
+-- Rule N1: the number of each refusal, and the values that it carries.
 use mathlib.Core.Bool.{Bool, true, false}
 use mathlib.Core.List.{List, [], _∷_}
 use Prim.Native.Nat.{ℕ}
@@ -6,18 +6,18 @@ use lib.ListN.{getD}
 use Rattle.numbers.specs.declared.Refusal.{Refusal}
 use Rattle.numbers.specs.declared.Refusal.the-variants.{TooFewBytes, RunsPastEnd, CutShort, LeftOver, BadValue, NoEntry, NoRoom, ValueTooLong, NeverRead, TableFull, StoreTooSmall, PayloadTooLong, OutputTooSmall, ListTooShort, NotFound, UnknownKind, NoStationRoom, NotText}
 
--- What a call answers in document 01's words: what it gives, or the number of its refusal with the values that stand
--- beside it.
+-- Rule A2: a call answers, or it refuses with a number and the values beside it. This says what a call returns, without
+-- the code's own types.
 pub data Answer (A : Type 0) : Type 0 where
   gives : A → Answer A
   refuses : ℕ → List ℕ → Answer A
 
--- what follows an answer that is no refusal
+-- what follows an answer that is no refusal; a refusal stays
 abbrev pub andThen : {A B : Type 0} → Answer A → (A → Answer B) → Answer B
 andThen (gives a) f = f a
 andThen (refuses n vs) f = refuses n vs
 
--- what is given, in other words; a refusal stays
+-- the answer, turned into another by f; a refusal stays
 abbrev pub mapped : {A B : Type 0} → (A → B) → Answer A → Answer B
 mapped f (gives a) = gives (f a)
 mapped f (refuses n vs) = refuses n vs
@@ -26,8 +26,8 @@ abbrev pub isGiven : {A : Type 0} → Answer A → Bool
 isGiven (gives a) = true
 isGiven (refuses n vs) = false
 
--- The number of each refusal and its values: "All but 13 and these [the walk's, which carry an offset] carry no other
--- number." 2026-01: "Numbers 1 and 2 shall carry the exact shortfall".
+-- Rule N1: the number of each refusal and what it carries. 1 and 2 carry the shortfall, 13 the length of the message,
+-- and the others nothing. A walk adds an offset in front (rule N3).
 abbrev pub numbered : Refusal → ℕ × List ℕ
 numbered (TooFewBytes missing) = (1, missing ∷ [])
 numbered (RunsPastEnd missing) = (2, missing ∷ [])
@@ -54,9 +54,10 @@ number r = numbered r .0
 abbrev pub values : Refusal → List ℕ
 values r = numbered r .1
 
+-- a refusal as an answer
 abbrev pub told : {A : Type 0} → Refusal → Answer A
 told r = refuses (number r) (values r)
 
--- the first of the values, 0 where there is none
+-- what it carries: the first of its values, or 0 where it has none
 abbrev pub carried : Refusal → ℕ
 carried r = getD (values r) 0 0

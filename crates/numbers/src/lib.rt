@@ -1,52 +1,52 @@
-// The refusals of document 01, "Numbers given back": one enum for all layers. And numbers in bytes, big-endian.
+// The refusals, one enum for all layers (rule N1), and numbers in bytes, highest byte first (rule B1).
 ghost use mathlib.Core.Path.{_≡_};
 ghost use mathlib.Core.List.{[], _∷_};
 ghost use Prim.Native.Nat.{_<_};
 ghost use Rattle.numbers.specs.Numbers.{number, carried};
 ghost use Rattle.numbers.specs.Bytes.{bigEndian};
 
-// Why a call refused. A caller passes a refusal of a layer below on by this name and never makes it anew, so that
-// what a case carries can grow.
+// Why a call refused: a case for each line of rule N1, with what it carries. A caller passes on the refusal of a layer
+// below under this name. It never makes it anew, so that a case can carry more later.
 pub enum Refusal {
-    // 1: fewer than 3 bytes for a TLV, or 8 for a CMDU header; with how many are missing
+    // 1: a TLV or a CMDU header is cut, with the shortfall (rules B3 and B6)
     TooFewBytes(usize),
-    // 2: the declared value runs past the end; with how many of its bytes are missing
+    // 2: a TLV declares a longer value than is there, with the shortfall (rule B3)
     RunsPastEnd(usize),
-    // 3: a typed value ends inside its layout
+    // 3: a value stops before its layout does (rule K1)
     CutShort,
-    // 4: bytes left over in a kind that takes none
+    // 4: a value goes on after its layout, in a kind that allows no rest (rule K4)
     LeftOver,
-    // 5: role not 0, association bits 0-6 set, profile 0
+    // 5: a value that its kind's own check refuses (rule K2)
     BadValue,
-    // 6: no entry with these numbers
+    // 6: no entry or text with these numbers (rules E2 and E7)
     NoEntry,
-    // 7: lent room smaller than what is to be written
+    // 7: too little room for what is to be written (rule B5)
     NoRoom,
-    // 8: value to be written above 65,535
+    // 8: a value longer than a length in two bytes can say (rule B5)
     ValueTooLong,
-    // 9: a record that reading never gives
+    // 9: a record to be written that no reading returns (rule O1)
     NeverRead,
-    // 10: no free place, or no free key
+    // 10: no free place, or no free row for a new key (rule T6)
     TableFull,
-    // 11: store below 47,744
+    // 11: a store below 47,744 bytes (rule T4)
     StoreTooSmall,
-    // 12: fragment payload above 1,492; program input above 47,744
+    // 12: a payload above 1,492 bytes, or input of tlvlist above 47,744 (rules T4 and L3)
     PayloadTooLong,
-    // 13: two or more fragments join, but into more bytes than the output has; with their length
+    // 13: an output shorter than the joined message, with the message's length (rule T9)
     OutputTooSmall(usize),
-    // 14: TLV list too short for the walk
+    // 14: a TLV list with fewer elements than the walk has TLVs (rule W5)
     ListTooShort,
-    // 15: find: none
+    // 15: nothing was found (rule F1)
     NotFound,
-    // 16: kind not among the 24
+    // 16: no kind has this code (rule K1)
     UnknownKind,
-    // 17: a join of an unknown station with 128 held
+    // 17: no room for one more station (rule P4)
     NoStationRoom,
-    // 18: a text that isn't UTF-8
+    // 18: a text that is not UTF-8 (rule E5)
     NotText,
 }
 
-// Document 01's number of a refusal.
+// The number of a refusal (rule N1).
 pub fn number_of(refusal: Refusal) -> u8
     ensures { λ r. ⌜ r ≡ number refusal ⌝ }
 {
@@ -72,8 +72,8 @@ pub fn number_of(refusal: Refusal) -> u8
     }
 }
 
-// What a refusal carries besides its number: the shortfall of 1 and 2, the length of 13, and 0 where it carries
-// nothing.
+// What a refusal carries besides its number (rule N1): the shortfall for 1 and 2, the length for 13. It is 0 where the
+// refusal carries nothing.
 pub fn carried_by(refusal: Refusal) -> usize
     ensures { λ r. ⌜ r ≡ carried refusal ⌝ }
 {
@@ -99,14 +99,14 @@ pub fn carried_by(refusal: Refusal) -> usize
     }
 }
 
-// A byte as a number of bytes, a count or a length.
+// A byte as a count or a length.
 pub fn wide(byte: u8) -> usize
     ensures { λ r. ⌜ (r ≡ byte) × (r < 256) ⌝ }
 {
     byte as usize
 }
 
-// The number that two bytes say. A caller's u16 takes it by a cast.
+// The number that two bytes say, highest byte first (rule B1). A caller's u16 takes it by a cast.
 pub fn be16(high: u8, low: u8) -> usize
     ensures { λ r. ⌜ (r ≡ bigEndian (high ∷ low ∷ [])) × (r < 65536) ⌝ }
 {

@@ -1,4 +1,4 @@
--- Case by case: what each is told as.
+-- Case by case: what each says.
 use borrow.Author.Needs.{needs}
 use Rattle.numbers.proofs.number_of.Statement.{statement}
 use Rattle.numbers.proofs.number_of.Tie as tie
