@@ -1,4 +1,4 @@
--- How firm each answer is: no two are told alike.
+-- How firm each answer is (rule A4): no two are said alike.
 use mathlib.Core.Path.{_≡_, sym, ap}
 use Prim.Native.Nat.{ℕ}
 use Rattle.numbers.proofs.Firm.{firm, never}

@@ -12,23 +12,24 @@ use Rattle.framing.specs.Tlv.{TlvRead, readOf, readTlv, valueIn, valueFr
 use Rattle.framing.specs.Cmdu.{headerOf, readHeader}
 use Rattle.framing.specs.declared.Written.{Written}
 
--- each public call by its name: any two outcomes that its contract allows are one
+-- Rule A4, for each public call by its name: any two outcomes that its contract allows are one.
 pub record Firmness : Type 0 where
   pub read-tlv : (s : List ℕ) → Firm (λ r. readOf r ≡ readTlv s)
   -- the part's bytes, and where it lies
   pub value : (s : RefT (List ℕ))
       → Firm {A = List ℕ × (ℕ × ℕ)} (λ o. (o .0 ≡ valueIn (readTlv (now s)) (now s)) × (o .1 ≡ behind (valueFrom (readTlv (now s))) s))
-  -- the answer, and what the buffer holds
+  -- the answer, and what the room holds
   pub write-header : (t n : ℕ) (out : List ℕ)
       → Firm {A = Written × List ℕ} (λ o. (writtenOf (o .0) ≡ writeSize n (length out)) × (o .1 ≡ leaves (writeSize n (length out)) (header t n) out))
   pub write-tlv : (t : ℕ) (bytes out : List ℕ)
       → Firm {A = Written × List ℕ} (λ o. (writtenOf (o .0) ≡ writeSize (length bytes) (length out)) × (o .1 ≡ leaves (writeSize (length bytes) (length out)) (tlvBytes t bytes) out))
   pub read-cmdu-header : (s : List ℕ) → Firm (λ h. headerOf h ≡ readHeader s)
 
--- what reading gives of a TLV
+-- what reading returns for the TLV of type t and value v
 abbrev pub asRead : ℕ → List ℕ → TlvRead
 asRead t v = record { tlv-type = t; value-length = length v; consumed = 3 + length v }
 
+-- Rule A6, for TLVs.
 pub record RoundTrip : Type 0 where
   -- reading what was written gives the same type and value, whatever stands after it
   pub read-written : (t : ℕ) (v rest : List ℕ) → length v ≤ longestValue
@@ -39,17 +40,18 @@ pub record RoundTrip : Type 0 where
   pub written-read : (s : List ℕ) → AllBytes s → (t : TlvRead) → gives t ≡ readTlv s
       → tlvBytes (t .tlv-type) (valueIn (readTlv s) s) ≡ take (t .consumed) s
 
--- 2026-01: "the exact shortfall: the bytes that must be added before that same number would no longer be given"
+-- the number of a refusal; 0 where there is none
 abbrev pub numberIn : {A : Type 0} → Answer A → ℕ
 numberIn (gives a) = 0
 numberIn (refuses n vs) = n
 
--- a reading of s is refused by n, and so many bytes are missing: with any fewer after s it is refused by n again, and
--- with any so many or more it isn't
+-- Rule B4: the shortfall is exact. With fewer bytes appended to s than are missing, the reading is refused by n again.
+-- With as many or more, it is not refused by n.
 pub record Missing {A : Type 0} (read : List ℕ → Answer A) (s : List ℕ) (n missing : ℕ) : Type 0 where
   pub again : (more : List ℕ) → length more < missing → numberIn (read (s ++ more)) ≡ n
   pub no-longer : (more : List ℕ) → missing ≤ length more → numberIn (read (s ++ more)) ≡ n → ⊥
 
+-- Rule B4, for a TLV and for a CMDU header.
 pub record Shortfalls : Type 0 where
   pub of-tlv : (s : List ℕ) (n missing : ℕ) → readTlv s ≡ refuses n (missing ∷ []) → Missing readTlv s n missing
   pub of-header : (s : List ℕ) (n missing : ℕ) → readHeader s ≡ refuses n (missing ∷ [])

@@ -1,5 +1,4 @@
--- The CMDU header (IEEE 1905.1, clause 6.2): version, reserved byte, type in 2 bytes, message id in 2, fragment
--- number, flags; bit 7 of flags marks the last fragment.
+-- The CMDU header (rule B6; IEEE 1905.1, clause 6.2).
 use mathlib.Core.Bool.{cond}
 use mathlib.Core.List.{List, [], _∷_}
 use Prim.Native.Nat.{ℕ, _-_, _/_, _%_}
@@ -11,11 +10,13 @@ use Rattle.framing.specs.declared.CmduHeader.{CmduHeader}
 use Rattle.framing.specs.declared.HeaderRead.{HeaderRead}
 use Rattle.framing.specs.declared.HeaderRead.the-variants.{Header, Refused}
 
+-- what each answer of `read_cmdu_header` says
 abbrev pub headerOf : HeaderRead → Answer CmduHeader
 headerOf (Header h) = gives h
 headerOf (Refused r) = told r
 
--- 2026-01: 1 carries the shortfall, "8 less what there is"
+-- Rule B6: the fields in the first 8 bytes, none of them checked. Fewer than 8 bytes are refused by 1 with the
+-- shortfall.
 unfoldable pub readHeader : List ℕ → Answer CmduHeader
 readHeader s =
     cond (ltb (length s) 8) (refuses 1 ((8 - length s) ∷ []))

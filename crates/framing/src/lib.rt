@@ -1,5 +1,5 @@
-// Framing, the lowest layer of the protocol: a TLV read and written, and the CMDU header. The walk over a payload's
-// TLVs is the crate `walking`.
+// Framing, the lowest layer of the protocol: reading and writing a TLV, and reading the CMDU header (rules B2 to B6).
+// The walk over a payload's TLVs is the crate `walking`.
 use numbers::Refusal;
 use numbers::be16;
 ghost use mathlib.Core.Path.{_≡_};
@@ -10,11 +10,11 @@ ghost use Rattle.numbers.specs.Parts.{behind};
 ghost use Rattle.framing.specs.Tlv.{readOf, readTlv, valueIn, valueFrom, writtenOf, writeSize, header, tlvBytes, leaves};
 ghost use Rattle.framing.specs.Cmdu.{headerOf, readHeader};
 
-// The longest value that a length in two bytes can say.
+// The longest value that a length in two bytes can say (rule B5).
 const LONGEST_VALUE: usize = 65535;
 
-// What reading a TLV finds: its type, the length of its value, and the bytes consumed. The value stands after the
-// three header bytes.
+// What reading a TLV finds (rule B3): its type, the length of its value, and the bytes consumed. The value follows the
+// first three bytes.
 pub enum Read {
     Whole {
         tlv_type: u8,
@@ -24,13 +24,13 @@ pub enum Read {
     Refused(Refusal),
 }
 
-// How many bytes were written, at the start of the lent buffer.
+// How many bytes were written, at the start of the room (rule B5).
 pub enum Written {
     Bytes(usize),
     Refused(Refusal),
 }
 
-// The header of a CMDU, every field as it stands there. `last_fragment` is bit 7 of `flags`.
+// The header of a CMDU, every field as it stands there (rule B6). `last_fragment` is bit 7 of `flags`.
 pub struct CmduHeader {
     pub message_version: u8,
     pub reserved: u8,
@@ -46,7 +46,7 @@ pub enum HeaderRead {
     Refused(Refusal),
 }
 
-// The TLV at the start of s.
+// Reads the TLV at the start of s (rule B3).
 pub fn read_tlv(s: &[u8]) -> Read
     ensures { λ r. ⌜ readOf r ≡ readTlv (now (s .entry)) ⌝ }
 {
@@ -65,7 +65,8 @@ pub fn read_tlv(s: &[u8]) -> Read
     }
 }
 
-// The value of the TLV at the start of s, as a part of s; the empty start of s where no TLV reads.
+// The value of the TLV at the start of s, as a part of s (rule B3). Where no TLV reads, it is the empty part at the
+// start of s (rule A5).
 pub fn value(s: &[u8]) -> &[u8]
     ensures bytes { λ r. ⌜ now r ≡ valueIn (readTlv (now (s .entry))) (now (s .entry)) ⌝ }
     ensures place { λ r. ⌜ r .ptr ≡ behind (valueFrom (readTlv (now (s .entry)))) (s .entry) ⌝ }
@@ -80,8 +81,8 @@ pub fn value(s: &[u8]) -> &[u8]
     }
 }
 
-// The three header bytes of a TLV whose value has so many bytes, where the buffer has room for the whole TLV. What
-// writes the value is then lent the part from byte 3 onward.
+// Writes the first three bytes of a TLV whose value has `value_length` bytes, if there is room for the whole TLV (rule
+// B5). Whoever writes the value is then lent the room from byte 3 on.
 pub fn write_header(tlv_type: u8, value_length: usize, out: &mut [u8]) -> Written
     ensures answer { λ r. ⌜ writtenOf r ≡ writeSize «value_length» (length (now (out .entry))) ⌝ }
     ensures bytes { λ _. ⌜ now (out .exit) ≡ leaves (writeSize «value_length» (length (now (out .entry)))) (header «tlv_type» «value_length») (now (out .entry)) ⌝ }
@@ -99,7 +100,7 @@ pub fn write_header(tlv_type: u8, value_length: usize, out: &mut [u8]) -> Writte
     Written::Bytes(size)
 }
 
-// The bytes go to the start of the buffer.
+// Copies the bytes to the start of `out`.
 fn put_bytes(bytes: &[u8], out: &mut [u8])
     requires { ⌜ length (now bytes) ≤ length (now out) ⌝ }
     ensures { λ _. ⌜ now (out .exit) ≡ now (bytes .entry) ++ drop (length (now (bytes .entry))) (now (out .entry)) ⌝ }
@@ -111,7 +112,7 @@ fn put_bytes(bytes: &[u8], out: &mut [u8])
     }
 }
 
-// The TLV with this type and this value, at the start of the buffer.
+// Writes the TLV with this type and value at the start of `out` (rule B5).
 pub fn write_tlv(tlv_type: u8, bytes: &[u8], out: &mut [u8]) -> Written
     ensures answer { λ r. ⌜ writtenOf r ≡ writeSize (length (now (bytes .entry))) (length (now (out .entry))) ⌝ }
     ensures bytes { λ _. ⌜ now (out .exit) ≡ leaves (writeSize (length (now (bytes .entry))) (length (now (out .entry)))) (tlvBytes «tlv_type» (now (bytes .entry))) (now (out .entry)) ⌝ }
@@ -125,7 +126,7 @@ pub fn write_tlv(tlv_type: u8, bytes: &[u8], out: &mut [u8]) -> Written
     }
 }
 
-// The header of the CMDU at the start of s.
+// Reads the header of the CMDU at the start of s (rule B6).
 pub fn read_cmdu_header(s: &[u8]) -> HeaderRead
     ensures { λ r. ⌜ headerOf r ≡ readHeader (now (s .entry)) ⌝ }
 {
