@@ -1,4 +1,5 @@
--- How far a walk goes alike with more bytes after the payload: over all its TLVs, where none is a marker, and up to where it ended or was refused.
+-- How far a walk goes alike with more bytes after the payload: over all its TLVs, where none is a marker, and up to
+-- where it ended or was refused.
 use mathlib.Core.Path.{_≡_, sym, ap, _∙_}
 use mathlib.Core.Bool.{true, false}
 use mathlib.Core.List.{List, [], _++_}

@@ -1,4 +1,5 @@
--- The TLVs of a walk follow each other: a step goes over each of them, and the next one stands where that step goes on. The marker is the last.
+-- The TLVs of a walk follow each other: a step goes over each of them, and the next one stands where that step goes on.
+-- The marker is the last.
 use mathlib.Core.Path.{_≡_, sym, _∙_, ap, subst}
 use mathlib.Core.List.{List, _∷_}
 use Prim.Native.Nat.{ℕ, zero, suc, _+_, _<_}

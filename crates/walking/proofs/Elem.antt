@@ -1,4 +1,5 @@
--- What the proofs by hand of this crate say of a `Tlv` as an element of a slice: its row, how its machine value is spelled, and its laws, under short names.
+-- What the proofs by hand of this crate say of a `Tlv` as an element of a slice: its row, how its machine value is
+-- spelled, and its laws, under short names.
 use mathlib.Core.List.{List}
 use Prim.Native.Nat.{ℕ, _*_, _<_, _^_}
 use native.Mathlib.Omega.{arith}

@@ -1,4 +1,5 @@
--- What the loop that fills the list keeps: the walk's TLV number i stands at `at`, and the entries before i are written.
+-- What the loop that fills the list keeps: the walk's TLV number i stands at `at`, and the entries before i are
+-- written.
 use mathlib.Core.Path.{_≡_, refl, sym, _∙_, ap}
 use mathlib.Core.List.{List, _++_}
 use Prim.Native.Nat.{ℕ, _+_, _≤_, _<_}

@@ -1,4 +1,4 @@
--- How firm each answer is: no two are told alike.
+-- How firm each answer is (rule A4): no two are said alike.
 use mathlib.Core.Path.{_≡_, refl, sym, ap}
 use mathlib.Core.List.{_∷_}
 use Prim.Native.Nat.{ℕ}

@@ -1,4 +1,5 @@
--- How a walk by steps goes: the items from `at` on and the end, step by step, whatever the step reads. A walk is the only one that goes so.
+-- How a walk by steps goes: the items from `at` on and the end, step by step, whatever the step reads. A walk is the
+-- only one that goes so.
 use mathlib.Core.Path.{_≡_, refl, sym, ap, _∙_, subst}
 use mathlib.Core.List.{List, [], _∷_}
 use Prim.Native.Nat.{ℕ, zero, suc, _-_, _<_, _≤_}

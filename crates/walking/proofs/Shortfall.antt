@@ -1,4 +1,5 @@
--- The shortfall of a walk is exact: with more after the payload the walk comes to the same TLV, and what it then finds there framing says.
+-- The shortfall of a walk is exact: with more after the payload the walk comes to the same TLV, and what it then finds
+-- there framing says.
 use mathlib.Core.Path.{_≡_, refl, sym, ap, _∙_, subst}
 use mathlib.Core.Bool.{Bool, true, false, cond}
 use mathlib.Core.List.{List, [], _∷_, _++_}

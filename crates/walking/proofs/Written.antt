@@ -1,4 +1,5 @@
--- The TLVs of a walk that succeeds, one after the other, and then the padding, are the payload, byte for byte: as pieces of it, and written anew.
+-- The TLVs of a walk that succeeds, one after the other, and then the padding, are the payload, byte for byte: as
+-- pieces of it, and written anew.
 use mathlib.Core.Path.{_≡_, sym, ap, _∙_, subst}
 use mathlib.Core.List.{List, _++_, map, flatten, append-assoc, append-nil}
 use Prim.Native.Nat.{ℕ, _+_, _-_, _<_, _≤_}

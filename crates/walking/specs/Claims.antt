@@ -14,7 +14,7 @@ use Rattle.walking.specs.declared.Walked.{Walked}
 use Rattle.walking.specs.Pieces.{pieces}
 use Rattle.walking.specs.Walk.{isMarker, steppedOf, stepAt, walkedOf, walkOf, counted, noTlv, offsetAt, listed, filled}
 
--- each public call by its name: any two outcomes that its contract allows are one
+-- Rule A4, for each public call by its name: any two outcomes that its contract allows are one.
 pub record Firmness : Type 0 where
   pub step : (p : List ℕ) (at : ℕ) → Firm (λ s. steppedOf s ≡ stepAt p at)
   pub walk : (p : List ℕ) → Firm (λ w. walkedOf w ≡ counted (walkOf p))
@@ -26,45 +26,45 @@ pub record Firmness : Type 0 where
 abbrev pub tlvOf : List ℕ → Tlv → List ℕ
 tlvOf p t = tlvBytes (t .«tlv_type») (take (t .length) (drop (t .offset + 3) p))
 
--- The TLVs of a walk that succeeds, written one after the other, and then the padding, the payload's last bytes, are
--- the payload, byte for byte.
+-- Rule A6: the TLVs of a walk that is not refused, written one after the other, and then the padding are the payload.
+-- The padding is the payload's last bytes.
 abbrev pub WalkWritten : Type 0
 WalkWritten = (p : List ℕ) → AllBytes p → (padding : ℕ) → walkOf p .end ≡ gives padding
     → (flatten (map (tlvOf p) (walkOf p .items)) ++ drop (length p - padding) p ≡ p) × (padding ≤ length p)
 
--- 2026-03: "The message ends with the first TLV of type 0 and length 0; what follows is padding, is not looked at,
--- and its length is given." A marker among the TLVs of a walk is their last, and whatever else follows it, more bytes
--- or fewer, a walk has the same TLVs and gives how many bytes follow.
+-- Rules W2 and W3: a marker among the TLVs of a walk is the last of them. Whatever bytes follow it instead, the walk
+-- has the same TLVs, and answers how many bytes follow.
 pub record Ends (p : List ℕ) (tlvs : List Tlv) (k : ℕ) : Type 0 where
   pub is-last : k + 1 ≡ length tlvs
   pub not-looked-at : (other : List ℕ)
       → walkOf (take (offsetAt tlvs k + 3) p ++ other) ≡ record { items = tlvs; end = gives (length other) }
 
+-- Rules W2 and W3, for every marker that a walk comes to.
 abbrev pub MarkerEnds : Type 0
 MarkerEnds = (p : List ℕ) (k : ℕ) → k < length (walkOf p .items) → isMarker (getD (walkOf p .items) k noTlv) ≡ true
     → Ends p (walkOf p .items) k
 
--- no marker is among these TLVs
+-- none of these TLVs is a marker
 abbrev pub Unmarked : List Tlv → Type 0
 Unmarked tlvs = (k : ℕ) → k < length tlvs → isMarker (getD tlvs k noTlv) ≡ false
 
--- "A payload without that marker is walked to its end as before, padding 0."
+-- Rules W2 and W3: without a marker the walk ends where no byte is left, so there is no padding.
 abbrev pub NoMarker : Type 0
 NoMarker = (p : List ℕ) (padding : ℕ) → walkOf p .end ≡ gives padding → Unmarked (walkOf p .items) → padding ≡ 0
 
--- 2026-01: "the bytes that must be added before that same number would no longer be given". The number and the offset
--- of a refusal; 0 and 0 where there is none.
+-- the number and the offset of a refusal; 0 and 0 where there is none
 abbrev pub refusedAt : {A : Type 0} → Answer A → ℕ × ℕ
 refusedAt (gives a) = (0, 0)
 refusedAt (refuses n []) = (n, 0)
 refusedAt (refuses n (at ∷ vs)) = (n, at)
 
--- with any fewer bytes after the payload a walk is refused by n at the same offset again, and with any so many by n
--- nowhere
+-- Rule W4: with fewer bytes appended than are missing, the walk is refused by n at the same offset again. With exactly
+-- as many, it is not refused by n, at any offset.
 pub record MissingAt (p : List ℕ) (n at missing : ℕ) : Type 0 where
   pub again : (more : List ℕ) → length more < missing → refusedAt (counted (walkOf (p ++ more))) ≡ (n, at)
   pub no-longer : (more : List ℕ) → length more ≡ missing → numberIn (counted (walkOf (p ++ more))) ≡ n → ⊥
 
+-- Rule W4, for every walk that is refused.
 abbrev pub WalkShortfall : Type 0
 WalkShortfall = (p : List ℕ) (n at missing : ℕ) → counted (walkOf p) ≡ refuses n (at ∷ missing ∷ [])
     → MissingAt p n at missing
@@ -75,17 +75,17 @@ pub record IsTlv (s : List ℕ) : Type 0 where
   pub reads : readTlv s ≡ gives tlv
   pub all : tlv .consumed ≡ length s
 
--- The pieces of a payload that a walk gets through: one after the other, and then the padding, they are the payload,
--- and each is one TLV.
+-- Rules A6 and W1: the pieces of a payload whose walk is not refused. One after the other, and then the padding, they
+-- are the payload. Each is one TLV.
 pub record InPieces : Type 0 where
   pub one-by-one : (p : List ℕ) (padding : ℕ) → walkOf p .end ≡ gives padding
       → flatten (pieces p) ++ drop (length p - padding) p ≡ p
   pub each : (p : List ℕ) (k : ℕ) → k < length (pieces p) → IsTlv (getD (pieces p) k [])
-  -- what follows whole TLVs without a marker adds its pieces to theirs, and is walked to its own end
+  -- what follows whole TLVs without a marker adds its pieces to theirs, and the walk goes on to its end
   pub followed : (a b : List ℕ) (padding : ℕ) → walkOf a .end ≡ gives 0 → Unmarked (walkOf a .items)
       → walkOf b .end ≡ gives padding
       → (pieces (a ++ b) ≡ pieces a ++ pieces b) × (walkOf (a ++ b) .end ≡ gives padding)
-  -- what follows whole TLVs that have a marker, which is their last, is padding
+  -- what follows whole TLVs with a marker, which is the last of them, is padding
   pub padded : (a b : List ℕ) (k : ℕ) → walkOf a .end ≡ gives 0 → k < length (walkOf a .items)
       → isMarker (getD (walkOf a .items) k noTlv) ≡ true
       → (pieces (a ++ b) ≡ pieces a) × (walkOf (a ++ b) .end ≡ gives (length b))

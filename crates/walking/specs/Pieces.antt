@@ -5,7 +5,7 @@ use lib.ListN.{take, drop}
 use Rattle.walking.specs.declared.Tlv.{Tlv}
 use Rattle.walking.specs.Walk.{walkOf}
 
--- the bytes of a TLV of the payload: its three header bytes and its value
+-- the bytes of a TLV of the payload: its first three bytes and its value (rule B2)
 abbrev pub tlvIn : List ℕ → Tlv → List ℕ
 tlvIn p t = take (3 + t .length) (drop (t .offset) p)
 

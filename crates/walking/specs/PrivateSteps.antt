@@ -20,7 +20,7 @@ nextBy (gives (last t end)) = end
 nextBy (gives ended) = 0
 nextBy (refuses n vs) = 0
 
--- how many entries are filled
+-- how many elements of the TLV list are filled
 abbrev pub fills : Answer WalkCount → ℕ
 fills (gives c) = c .count
 fills (refuses n vs) = 0

@@ -1,5 +1,5 @@
-// The walk over a payload's TLVs, counted and, in a second form, listed in a slice that the caller lends. It ends
-// with the end marker, the first TLV of type 0 and length 0: what follows that is padding and not looked at.
+// The walk over a payload's TLVs (rules W1 to W6). One form counts them, a second one also fills a TLV list that the
+// caller lends. The walk ends with the first end marker, and the padding after it is not looked at.
 use framing::Read;
 use numbers::Refusal;
 ghost use mathlib.Core.Path.{_≡_};
@@ -8,7 +8,7 @@ ghost use lib.ListN.{length};
 ghost use Rattle.walking.specs.Walk.{isMarker, steppedOf, stepAt, walkedOf, walkOf, counted, listed, filled, offsetAt};
 ghost use Rattle.walking.specs.PrivateSteps.{Plan, tlvBy, nextBy};
 
-// A TLV of a payload, as a walk lists it: its type, the length of its value, and the offset of its type byte.
+// A TLV record, as a walk lists it (rule W5): the type, the length of the value, and the offset of the type byte.
 #[repr(C)]
 pub struct Tlv {
     pub tlv_type: u8,
@@ -16,15 +16,15 @@ pub struct Tlv {
     pub offset: usize,
 }
 
-// How many TLVs a payload has and how many bytes of padding follow them, or the refusal with the offset of the TLV
-// that failed; of a list too short, of the first without a place.
+// How many TLVs the walk went over and how long the padding is (rule W3), or the refusal with an offset. That is the
+// offset of the TLV that failed (rule W4) or, for 14, of the first TLV that has no element in the list (rule W5).
 pub enum Walked {
     Count { count: usize, padding: usize },
     Refused { refusal: Refusal, at: usize },
 }
 
-// What a step of the walk finds: the payload's end; a TLV and where the next step is taken; the marker, which is the
-// message's last TLV, and where the message ends; or the refusal with the offset of the TLV that failed.
+// What a step of the walk finds (rule W6): that no byte is left; a TLV and where the next step starts; the marker,
+// which is the message's last TLV, and where the message ends; or the refusal with the offset of the TLV that failed.
 pub enum Stepped {
     End,
     Tlv { tlv: Tlv, next: usize },
@@ -32,7 +32,7 @@ pub enum Stepped {
     Refused { refusal: Refusal, at: usize },
 }
 
-// Is this TLV the marker that ends a message?
+// Is this TLV the marker that ends a message (rule W2)?
 fn is_marker(t: Tlv) -> bool
     ensures { λ r. ⌜ r ≡ isMarker t ⌝ }
 {
@@ -42,8 +42,8 @@ fn is_marker(t: Tlv) -> bool
     false
 }
 
-// One step of the walk, at the offset `at`. Whoever goes over a payload's TLVs goes by this step, from 0 on: where a
-// walk ends is said here alone.
+// One step of the walk, at the offset `at` (rule W6). Whoever goes over a payload's TLVs goes by this step, from 0 on.
+// Nothing else looks for a marker.
 pub fn step(payload: &[u8], at: usize) -> Stepped
     ensures { λ r. ⌜ steppedOf r ≡ stepAt (now (payload .entry)) at ⌝ }
 {
@@ -74,7 +74,7 @@ pub fn step(payload: &[u8], at: usize) -> Stepped
     }
 }
 
-// The TLVs of a payload, counted, and the length of the padding.
+// Counts the TLVs of a payload, and measures the padding (rule W3).
 pub fn walk(payload: &[u8]) -> Walked
     ensures { λ r. ⌜ walkedOf r ≡ counted (walkOf (now (payload .entry))) ⌝ }
 {
@@ -108,7 +108,7 @@ struct Passed {
     next: usize,
 }
 
-// What the step at `at` goes over; where it goes over none, what is not to be used.
+// What the step at `at` goes over. Where it goes over no TLV, the answer is not to be used.
 fn pass(payload: &[u8], at: usize) -> Passed
     ensures { λ r. ⌜ (r .tlv ≡ tlvBy (stepAt (now (payload .entry)) at)) × (r .next ≡ nextBy (stepAt (now (payload .entry)) at)) ⌝ }
 {
@@ -125,7 +125,7 @@ fn pass(payload: &[u8], at: usize) -> Passed
     }
 }
 
-// The offset of TLV number k, from 0, of those that a walk reads.
+// The offset of TLV number k, from 0, of those that a walk goes over.
 fn offset_of(payload: &[u8], k: usize) -> usize
     requires { ⌜ k < length (walkOf (now payload) .items) ⌝ }
     ensures { λ r. ⌜ r ≡ offsetAt (walkOf (now (payload .entry)) .items) k ⌝ }
@@ -139,7 +139,7 @@ fn offset_of(payload: &[u8], k: usize) -> usize
     at
 }
 
-// What a walk with a list answers, and how many entries it fills.
+// What a walk with a TLV list answers, and how many elements it fills (rule W5).
 struct Planned {
     count: usize,
     answer: Walked,
@@ -172,8 +172,8 @@ fn plan(payload: &[u8], room: usize) -> Planned
     }
 }
 
-// The TLVs of a payload, counted and listed. Nothing is filled in before the whole payload has been walked, so that a
-// refusal leaves the list as lent.
+// Counts the TLVs of a payload and lists them (rule W5). Nothing is filled in before the whole payload has been walked,
+// so that a refusal changes nothing in the list (rule A3).
 pub fn walk_into(list: &mut [Tlv], payload: &[u8]) -> Walked
     ensures { λ r. ⌜ (walkedOf r ≡ listed (length (now (list .entry))) (walkOf (now (payload .entry))))
         × (now (list .exit) ≡ filled (listed (length (now (list .entry))) (walkOf (now (payload .entry)))) (walkOf (now (payload .entry)) .items) (now (list .entry))) ⌝ }

@@ -1,6 +1,6 @@
--- `walking::walk_into` meets its contract: a walk of its MIR, by hand: a call of `plan` on plain parameters, and a loop. The loop's variant is (i, at, zs): i entries are written, the next TLV stands at `at`, zs is the list.
--- Each turn calls `pass`, opens the borrow, stores one element and closes the borrow at the list with it.
--- Assumes nothing.
+-- `walking::walk_into` meets its contract: a walk of its MIR, by hand: a call of `plan` on plain parameters, and a
+-- loop. The loop's variant is (i, at, zs): i entries are written, the next TLV stands at `at`, zs is the list. Each
+-- turn calls `pass`, opens the borrow, stores one element and closes the borrow at the list with it. Assumes nothing.
 use mathlib.Core.Path.{_≡_, refl, sym, ap, _∙_, subst}
 use Prim.Native.Nat.{ℕ, _+_, _-_, _*_, _<_, _≤_, _^_}
 use native.Mathlib.Omega.{arith}
@@ -249,7 +249,8 @@ module _ {M : Type 1} (𝓤 : URA M) (H : Heap 𝓤) (A : Atoms 𝓤) (W : Given
         rewrite ! 8 (λ (k : ℕ). ‵ (fat fullShare tyPtr l₁₁ 0 (vptr b k))) (sym (place-is 16 o i)) refl $
         move ! (15 ∷ 16 ∷ 17 ∷ []) $
         opens-slice ! tt R zs b o $ elem-out ! R (Is R) (shows 𝓤 H A R) vals tells fullShare zs i t b o l′ (λ _.
-        -- [list[i]; what it owns; the others; the open borrow; obs; auth; token′; true; payload; _6; _5; _7; _9; _10; _11; …]
+        -- [list[i]; what it owns; the others; the open borrow; obs; auth; token′; true; payload; _6; _5; _7; _9; _10;
+        --  _11; …]
         assigns ! (of-opd ! (load ! (from ! (fld ! refl (stop !))) (look-in ! 11 (sub ! 0 refl (whole !))))) (from ! (hop ! (look ! 14 refl) (stop !))) (store-raw ! 0 refl tlv-ok) $
         move ! (1 ∷ []) $ drop ! $ owned ! R (Is R) (makes 𝓤 H A) t _ (has .0) $ move ! (1 ∷ 0 ∷ []) $ elem-put ! R fullShare zs i t (mach t ∷ []) b o l′ $
         closes-slice ! tt R zs (set zs i t) (length-set zs i t) b o $
