@@ -32,7 +32,7 @@ use Rattle.layouts.proofs.Local.{Agree, taken, end-local, list-alike, s
 use Rattle.layouts.proofs.Parts.{parts-of-entries, plain}
 use Rattle.layouts.proofs.Values.{Ended, ended, asked, answers}
 
--- no two answers are told alike
+-- no two answers are said alike
 listing-told : (a b : Listing) → listingOf a ≡ listingOf b → a ≡ b
 listing-told (Of n p) (Of m q) e = ap (λ l. Of (l .many) (l .first)) (given _ _ e)
 listing-told (Of n p) (NoList x) e = never _ _ _ e

@@ -71,7 +71,7 @@ module _ (row : LayoutRow) (s : List ℕ) (p : ℕ) where
   unfolding endOf
   end-bytes e = rw (layout-zero row e)
 
--- of the entries i to n: none is left, or one and those behind it
+-- of the entries i to n: none is left, or one and those after it
 pub entries-none : (f : ℕ → Answer ℕ) (n i p : ℕ) → n ≤ i → entriesEnd f (n - i) p ≡ gives p
 unfolding entriesEnd
 entries-none f n i p h = let e : n - i ≡ 0 = omega arith in rw e

@@ -36,7 +36,7 @@ abbrev pub allCounted : Layout → Bool
 allCounted (bytes n) = true
 allCounted (entry n w e) = cond (hasCount w) (allCounted e) false
 
--- where bytes behind the layout are handed back, every list is counted
+-- where bytes after the layout are the rest, every list has a count
 abbrev countedIf : Rest → Layout → Bool
 countedIf handed-back l = allCounted l
 countedIf refused l = true

@@ -1,4 +1,4 @@
--- What is read lies within the bytes: an entry ends at or behind its start, and not behind the end.
+-- What is read lies within the bytes: an entry ends at or after its start, and not after the end.
 use mathlib.Core.Path.{_≡_, refl, sym, ap}
 use mathlib.Core.Bool.{Bool, true, false, cond}
 use mathlib.Core.List.{List, []}
@@ -36,7 +36,7 @@ count-within c1 h s p m b x = let a = reached (p + 1) s _ m x in let e : p + 1 �
 count-within c2 h s p m b x = let a = reached (p + 2) s _ m x in let e : p + 2 ≡ m .first = ap (λ m. m .first) (a .1) in omega arith
 count-within to-end h s p m b x = let e : p ≡ m .first = ap (λ m. m .first) (given _ m x) in omega arith
 
--- the list of an entry that has one stands behind its head
+-- the list of an entry that has one stands after its head
 pub record Behind (n : ℕ) (w : Counting) (e : Layout) (s : List ℕ) (p : ℕ) (m : ListAt) : Type 0 where
   pub head : p + n ≤ length s
   pub counts : countAt w (headOf e) s (p + n) ≡ gives m

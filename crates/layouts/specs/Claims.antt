@@ -14,7 +14,8 @@ use Rattle.layouts.specs.Rows.{rowLayout}
 use Rattle.layouts.specs.Reading.{ListAt, listOf, entriesEnd, endOf, Consumed, listingOf, endingOf, readingOf, readValue}
 use Rattle.layouts.specs.Access.{numbersOf, Span, spanOf, nthOf, partsIn, locatedOf, locateEntry, partOf, startIn, countedOf, countEntries}
 
--- each public call by its name: any two answers that its contract allows are one. A part is its bytes and its place.
+-- Rule A4, for each public call by its name: any two answers that its contract allows are one. A part is its bytes and
+-- its place.
 pub record Firmness : Type 0 where
   pub list-at : (row : LayoutRow) (s : List ℕ) (at : ℕ) → Firm (λ r. listingOf r ≡ listOf (rowLayout row) s at)
   pub read-list : (row : LayoutRow) (n : ℕ) (s : List ℕ) (at : ℕ) → Firm (λ r. endingOf r ≡ entriesEnd (endOf (rowLayout row) s) n at)
@@ -25,7 +26,7 @@ pub record Firmness : Type 0 where
       (r .0 ≡ partOf (locateEntry code (numbersOf path) (now s)) (now s)) × (r .1 ≡ behind (startIn (locateEntry code (numbersOf path) (now s))) s))
   pub count : (code : ℕ) (path : Path) (s : List ℕ) → Firm (λ r. countedOf r ≡ countEntries code (numbersOf path) s)
 
--- "there are at most three levels of lists"
+-- how many levels of lists a layout has (rule E1)
 abbrev pub levelsOf : Layout → ℕ
 levelsOf (bytes n) = 0
 levelsOf (entry n w e) = suc (levelsOf e)
@@ -43,27 +44,29 @@ pub record Below (x : Answer ℕ) (i : ℕ) : Type 0 where
   pub counts : x ≡ gives many
   pub less : i < many
 
--- what holds of every value of every list kind
+-- What holds for every value of every list kind (rules K1, E1, E2 and E3).
 pub record ListValues : Type 0 where
+  -- Rule E1: no kind has more than three levels
   pub levels-3 : (code : ℕ) (k : ListKind) → layoutOf code ≡ gives k → levelsOf (k .layout) ≤ 3
-  -- consumed never exceeds the length, and with the rest it is the length
+  -- Rule K1: the bytes consumed and the rest together are the value
   pub consumed-within : (code : ℕ) (s : List ℕ) (r : Consumed) → readValue code s ≡ gives r →
       (r .consumed ≤ length s) × (r .consumed + r .rest ≡ length s)
-  -- the value's own list has as many entries as reading says
+  -- Rule E3: the outermost list has as many entries as reading says
   pub own-count : (code : ℕ) (s : List ℕ) (r : Consumed) → readValue code s ≡ gives r →
       countEntries code [] s ≡ gives (r .entries)
-  -- every entry can be asked for: a number below the count of the list with these numbers leads to an entry, whose part
-  -- lies in the consumed bytes
+  -- Rule E1: every entry can be asked for. A number below the count of its list leads to an entry, whose part lies in
+  -- the bytes consumed
   pub every-entry : (code : ℕ) (is s : List ℕ) (r : Consumed) (n i : ℕ) → readValue code s ≡ gives r →
       countEntries code is s ≡ gives n → i < n →
       Shown (locateEntry code (is ++ i ∷ []) s) (r .consumed)
-  -- and no other: where an entry comes back, its last number is below the count of the list with the numbers before it
+  -- Rule E2: no other can. Where an entry is found, its last number is below the count of the list that the numbers
+  -- before it lead to, and there is a number
   pub no-other : (code : ℕ) (is s : List ℕ) (i : ℕ) (r : Span) → locateEntry code (is ++ i ∷ []) s ≡ gives r →
       Below (countEntries code is s) i
   pub no-numbers : (code : ℕ) (s : List ℕ) (r : Span) → locateEntry code [] s ≡ gives r → ⊥
 
--- what is read depends on the consumed bytes alone: they read the same, with no rest, and so does every list and every
--- entry in them
+-- Rules K1 and O2: what is read depends on the bytes consumed alone. They read the same without the rest, and so do
+-- every list and every entry in them.
 pub record ListAlone (code : ℕ) (s : List ℕ) (r : Consumed) : Type 0 where
   pub reads : readValue code (take (r .consumed) s) ≡ gives (record { consumed = r .consumed; rest = 0; entries = r .entries })
   pub counts : (is : List ℕ) → countEntries code is (take (r .consumed) s) ≡ countEntries code is s
@@ -74,21 +77,23 @@ pub record ListAlone (code : ℕ) (s : List ℕ) (r : Consumed) : Type 0 where
 abbrev pub ListsAlone : Type 0
 ListsAlone = (code : ℕ) (s : List ℕ) (r : Consumed) → readValue code s ≡ gives r → ListAlone code s r
 
--- of any layout, whether or not it is in the table: the parts of the entries of a value's own list, as a list
+-- Rules K3 and E1, for any layout, whether or not it is in the table: the parts of the entries of a value's outermost
+-- list, as a list.
 pub record Parts (l : Layout) (s : List ℕ) (m : ListAt) (q : ℕ) : Type 0 where
   pub parts : List (List ℕ)
   pub are : partsIn l s ≡ gives parts
   pub many : length parts ≡ m .many
-  -- part number i is the one that asking for entry i gives; beyond the last, both refuse
+  -- part number i is the one that asking for entry i returns; beyond the last, both refuse
   pub by-number : (i : ℕ) → nthOf parts i ≡ mapped (λ e. partOf (gives e) s) (spanOf l (i ∷ []) s)
-  -- joined, after what stands in front of the first one, they are the bytes consumed
+  -- what stands before the first one, and then all of them joined, are the bytes consumed
   pub all : take (m .first) s ++ flatten parts ≡ take q s
 
 abbrev pub PartsOfEntries : Type 0
 PartsOfEntries = (l : Layout) (s : List ℕ) (m : ListAt) (q : ℕ) → listOf l s 0 ≡ gives m → endOf l s 0 ≡ gives q →
     Parts l s m q
 
--- entries of h bytes and no list are runs of h bytes, one after the other; a list to the end begins after the head
+-- Rule K3: entries of h bytes without a list stand one after the other, h bytes each. A list to the end has no count
+-- before it.
 pub record Plain : Type 0 where
   pub runs : (n : ℕ) (w : Counting) (h : ℕ) (s : List ℕ) (m : ListAt) (q i : ℕ) →
       listOf (entry n w (bytes h)) s 0 ≡ gives m → endOf (entry n w (bytes h)) s 0 ≡ gives q → i < m .many →

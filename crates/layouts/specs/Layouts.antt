@@ -1,23 +1,23 @@
--- The counted layouts: document 01, "The 21 kinds", written as its table writes them.
+-- The layouts of the list kinds, as the table of rule K2 has them.
 use mathlib.Core.Bool.{Bool, cond}
 use mathlib.Core.List.{List, [], _∷_}
 use Prim.Native.Nat.{ℕ, _+_}
 use lib.Dec.{eqb}
 use Rattle.numbers.specs.Numbers.{Answer, gives, refuses, isGiven}
 
--- "c1 and c2 are counts in one byte or two, big-endian"; a list without a count goes to the end.
+-- Rule K3: the count of a list has one byte (c1) or two (c2), or the list has no count and goes to the end.
 pub data Counting : Type 0 where
   c1 : Counting
   c2 : Counting
   to-end : Counting
 
--- An entry is a head of so many bytes and, unless it is these bytes alone, a list of entries of the level below. A
--- whole value is an entry too.
+-- Rule K3: an entry is some bytes, its head, and then, unless it is the head alone, a list of entries. A whole value is
+-- an entry too.
 pub data Layout : Type 0 where
   bytes : ℕ → Layout
   entry : ℕ → Counting → Layout → Layout
 
--- the words of the table: "c1 of e", "c2 of e", "entries of e to the end", and "n, e" for n bytes and then e
+-- how the table writes layouts: a list of e with a count of one byte or two, e to the end, and n bytes and then e
 abbrev pub c1-of : Layout → Layout
 c1-of e = entry 0 c1 e
 
@@ -32,7 +32,7 @@ abbrev pub _then_ : ℕ → Layout → Layout
 n then bytes m = bytes (n + m)
 n then entry m w e = entry (n + m) w e
 
--- "Bytes behind the layout are handed back as the rest, except in kinds 0, 6, 7 and 30, which refuse them."
+-- Rule K4: what becomes of bytes after the layout. They are the rest, or they are refused.
 pub data Rest : Type 0 where
   handed-back : Rest
   refused : Rest
@@ -48,6 +48,7 @@ pub record Line : Type 0 where
 abbrev line : ℕ → Rest → Layout → Line
 line n r l = record { code = n; kind = record { layout = l; rest = r } }
 
+-- Rule K2: the list kinds, with their codes and layouts. Rule K4: 6, 7 and 30 refuse left-over bytes.
 abbrev pub table : List Line
 table =
     -- SupportedService
@@ -70,7 +71,7 @@ table =
     line 30 refused (c1-of (6 then c2-of (6 then c2-of (bytes 6)))) ∷
     []
 
--- the first line with this code; 16 where there is none
+-- Rule K1: the line with this code; 16 where there is none.
 abbrev pub lineOf : ℕ → List Line → Answer ListKind
 lineOf n [] = refuses 16 []
 lineOf n (l ∷ ls) = cond (eqb n (l .code)) (gives (l .kind)) (lineOf n ls)
@@ -78,5 +79,6 @@ lineOf n (l ∷ ls) = cond (eqb n (l .code)) (gives (l .kind)) (lineOf n ls)
 unfoldable pub layoutOf : ℕ → Answer ListKind
 layoutOf n = lineOf n table
 
+-- whether a list kind has this code
 unfoldable pub isList : ℕ → Bool
 isList n = isGiven (layoutOf n)

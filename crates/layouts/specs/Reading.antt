@@ -1,5 +1,4 @@
--- Reading a value of a counted layout: "A list is read entry by entry, and an entry ends in the list of the level
--- below" (document 01, "The 21 kinds").
+-- Reading a value of a list kind (rules K1, K3 and K4).
 use mathlib.Core.Bool.{cond}
 use mathlib.Core.List.{List, []}
 use Prim.Native.Nat.{ℕ, zero, suc, _+_, _-_, _/_}
@@ -15,7 +14,7 @@ use Rattle.layouts.specs.declared.Reading.{Reading}
 use Rattle.layouts.specs.declared.Reading.the-variants.{Value, Refused}
 use Rattle.layouts.specs.Layouts.{Counting, c1, c2, to-end, Layout, bytes, entry, Rest, handed-back, refused, ListKind, layoutOf}
 
--- what stands before q: "a typed value ends inside its layout" gives 3
+-- Rule K1: the answer a, if the value has q bytes. A value that stops before is refused by 3.
 abbrev pub reaching : {A : Type 0} → ℕ → List ℕ → A → Answer A
 reaching q s a = cond (leb q (length s)) (gives a) (refuses 3 [])
 
@@ -28,28 +27,29 @@ abbrev pub headOf : Layout → ℕ
 headOf (bytes n) = n
 headOf (entry n w e) = n
 
--- the list at p. To the end there are as many entries, of h bytes each, as wholly fit.
+-- Rule K3: the list at p, by its count. A list to the end has as many whole entries of h bytes as fit.
 unfoldable pub countAt : Counting → ℕ → List ℕ → ℕ → Answer ListAt
 countAt c1 h s p = reaching (p + 1) s (record { many = numberAt 1 p s; first = p + 1 })
 countAt c2 h s p = reaching (p + 2) s (record { many = numberAt 2 p s; first = p + 2 })
 countAt to-end h s p = gives (record { many = (length s - p) / h; first = p })
 
--- the list of the entry that starts at p, behind the entry's head; an entry that has none has "no entry" to ask for: 6
+-- The list of the entry that starts at p: it follows the entry's head. An entry without a list: 6 (rules E2 and E3).
 unfoldable pub listOf : Layout → List ℕ → ℕ → Answer ListAt
 listOf (bytes n) s p = refuses 6 []
 listOf (entry n w e) s p = andThen (reaching (p + n) s (p + n)) (λ q. countAt w (headOf e) s q)
 
--- where n entries end, the first of which starts at p, if each ends where f says
+-- Rule K3: where n entries from p on end, one after the other, if each ends where f says.
 unfoldable pub entriesEnd : (ℕ → Answer ℕ) → ℕ → ℕ → Answer ℕ
 entriesEnd f zero p = gives p
 entriesEnd f (suc n) p = andThen (f p) (λ q. entriesEnd f n q)
 
--- where the entry that starts at p ends
+-- Rule K3: where the entry that starts at p ends. If it has a list, it ends where that list ends.
 unfoldable pub endOf : Layout → List ℕ → ℕ → Answer ℕ
 endOf (bytes n) s p = reaching (p + n) s (p + n)
 endOf (entry n w e) s p = andThen (listOf (entry n w e) s p) (λ m. entriesEnd (endOf e s) (m .many) (m .first))
 
--- what reading a value gives: the bytes consumed, the bytes behind them, and the entries of the value's own list
+-- Rule K1: what reading a value returns. It is how many bytes were consumed, how many follow these, and the number of
+-- entries of the outermost list.
 pub record Consumed : Type 0 where
   pub consumed : ℕ
   pub rest : ℕ
@@ -68,14 +68,15 @@ abbrev pub readingOf : Reading → Answer Consumed
 readingOf (Value c r n) = gives (record { consumed = c; rest = r; entries = n })
 readingOf (Refused r) = told r
 
--- a value of n entries that ends at e: "bytes left over in kinds 0, 6, 7, 30" give 4
+-- Rule K4: a value of n entries whose layout ends at e. What follows is the rest, or is refused by 4.
 unfoldable pub consumedTo : Rest → ℕ → ℕ → List ℕ → Answer Consumed
 consumedTo handed-back e n s = gives (record { consumed = e; rest = length s - e; entries = n })
 consumedTo refused e n s = cond (ltb e (length s)) (refuses 4 []) (gives (record { consumed = e; rest = 0; entries = n }))
 
+-- Rule K7: the layout is looked at first (3), then left-over bytes (4).
 unfoldable pub readAs : ListKind → List ℕ → Answer Consumed
 readAs k s = andThen (listOf (k .layout) s 0) (λ m. andThen (endOf (k .layout) s 0) (λ e. consumedTo (k .rest) e (m .many) s))
 
--- the value of the kind with this code
+-- Rule K1: the value of the kind with this code. No list kind has it: 16.
 unfoldable pub readValue : ℕ → List ℕ → Answer Consumed
 readValue code s = andThen (layoutOf code) (λ k. readAs k s)

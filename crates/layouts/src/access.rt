@@ -1,4 +1,4 @@
-// An entry by its numbers.
+// Asking for an entry by its numbers (rules E1 to E3).
 use crate::Counted;
 use crate::Ending;
 use crate::LayoutRow;
@@ -23,7 +23,7 @@ pub(crate) enum Level {
     Refused(Refusal),
 }
 
-// Where entry i of the list of the entry of this row that starts at p starts.
+// Where entry i starts in the list of the entry at p, which has this row.
 fn child(row: LayoutRow, i: usize, s: &[u8], p: usize) -> Ending
     ensures { λ r. ⌜ endingOf r ≡ childAt (rowLayout row) i (now (s .entry)) p ⌝ }
 {
@@ -38,7 +38,7 @@ fn child(row: LayoutRow, i: usize, s: &[u8], p: usize) -> Ending
     }
 }
 
-// The entry with these numbers. Each turn takes one number and goes one level down.
+// Finds the entry with these numbers (rule E1). Each turn takes one number and goes one level down.
 fn find_entry(value: LayoutRow, path: Path, s: &[u8]) -> Level
     ensures { λ r. ⌜ levelTold r ≡ findEntry (rowLayout value) (numbersOf path) (now (s .entry)) 0 ⌝ }
 {
@@ -66,7 +66,7 @@ fn find_entry(value: LayoutRow, path: Path, s: &[u8]) -> Level
     Level::Of { row, at }
 }
 
-// Where the entry with these numbers lies.
+// Where the entry with these numbers lies. Without a number there is no such entry (rule E2).
 fn span_of(row: LayoutRow, path: Path, s: &[u8]) -> Located
     ensures { λ r. ⌜ locatedOf r ≡ spanOf (rowLayout row) (numbersOf path) (now (s .entry)) ⌝ }
 {
@@ -82,7 +82,7 @@ fn span_of(row: LayoutRow, path: Path, s: &[u8]) -> Located
     }
 }
 
-// How many entries the list of the entry with these numbers has.
+// How many entries the list of the entry with these numbers has (rule E3).
 fn length_at(row: LayoutRow, path: Path, s: &[u8]) -> Counted
     ensures { λ r. ⌜ countedOf r ≡ lengthAt (rowLayout row) (numbersOf path) (now (s .entry)) ⌝ }
 {
@@ -95,7 +95,7 @@ fn length_at(row: LayoutRow, path: Path, s: &[u8]) -> Counted
     }
 }
 
-// The same two, of a value that has to read whole first.
+// The same two for a value, which has to read first (rule E2).
 pub(crate) fn locate_in(row: LayoutRow, strict: bool, path: Path, s: &[u8]) -> Located
     ensures { λ r. ⌜ locatedOf r ≡ ofValue (λ l t. spanOf l (numbersOf path) t) (kindWith (rowLayout row) strict) (now (s .entry)) ⌝ }
 {

@@ -1,5 +1,5 @@
-// Counted layouts: values that are lists of entries, which may themselves end in lists of entries of the level below.
-// One table of rows, a list reader and an entry reader that call each other, and access to an entry by its numbers.
+// The list kinds (rules K2 to K4): values that hold a list of entries, which may hold lists themselves. There is one
+// table of rows. A list reader and an entry reader call each other. Numbers lead to an entry (rule E1).
 mod access;
 mod lists;
 mod rows;
@@ -14,9 +14,9 @@ ghost use Rattle.layouts.specs.Rows.{rowLayout};
 ghost use Rattle.layouts.specs.Reading.{listOf, entriesEnd, endOf, listingOf, endingOf, readingOf, readValue};
 ghost use Rattle.layouts.specs.Access.{numbersOf, locatedOf, locateEntry, partOf, startIn, countedOf, countEntries};
 
-// A layout as a row of numbers: an entry of h0 bytes and then, where it has levels of lists, a list whose count has w0
-// bytes: 1 or 2, or 0 for a list that goes to the end. An entry of that list is h1 bytes and then, where levels are
-// left, a list whose count has w1 bytes, and so on. A value is an entry too.
+// A layout as a row of numbers (rule K3). An entry has h0 bytes and then, if `levels` is not 0, a list whose count has
+// w0 bytes: 1 or 2, or 0 for a list to the end. An entry of that list has h1 bytes and then, if levels are left, a list
+// whose count has w1 bytes, and so on. A value is an entry too.
 pub struct LayoutRow {
     pub levels: u8,
     pub h0: u8,
@@ -40,8 +40,8 @@ pub enum Ending {
     Refused(Refusal),
 }
 
-// What reading a value finds: the bytes consumed, how many are left after them, and how many entries the value's own
-// list has.
+// What reading a value finds (rule K1): how many bytes were consumed, how many follow these, and how many entries the
+// outermost list has.
 pub enum Reading {
     Value {
         consumed: usize,
@@ -51,7 +51,8 @@ pub enum Reading {
     Refused(Refusal),
 }
 
-// The numbers of an entry, `depth` of them: i0 at the value's own list, i1 at that entry's list, i2 at the next.
+// The numbers of an entry, `depth` of them (rule E1): i0 in the outermost list, i1 in that entry's list, i2 in the
+// next.
 pub struct Path {
     pub depth: usize,
     pub i0: usize,
@@ -59,20 +60,20 @@ pub struct Path {
     pub i2: usize,
 }
 
-// Where an entry's part of the value starts, and where it ends.
+// Where an entry's own part of the value starts, and where it ends (rule E1).
 pub enum Located {
     Entry { start: usize, end: usize },
     Refused(Refusal),
 }
 
-// How many entries a list has.
+// How many entries a list has (rule E3).
 pub enum Counted {
     Entries(usize),
     Refused(Refusal),
 }
 
-// The list of the entry of this row that starts at `at`: it stands after the entry's head. An entry of the lowest level
-// has none.
+// The list of the entry that starts at `at` and has this row. It follows the entry's first h0 bytes. An entry of the
+// lowest level has none.
 pub fn list_at(row: LayoutRow, s: &[u8], at: usize) -> Listing
     ensures { λ r. ⌜ listingOf r ≡ listOf (rowLayout row) (now (s .entry)) at ⌝ }
 {
@@ -85,8 +86,8 @@ pub fn list_at(row: LayoutRow, s: &[u8], at: usize) -> Listing
     }
 }
 
-// Where n entries of this row end, the first of which starts at `at`. It goes over the entries in a loop, so that the
-// stack grows with the levels alone.
+// Where n entries of this row end, the first of which starts at `at` (rule K3). It goes over the entries in a loop, so
+// that the stack grows with the levels alone.
 pub fn read_list(row: LayoutRow, n: usize, s: &[u8], at: usize) -> Ending
     ensures { λ r. ⌜ endingOf r ≡ entriesEnd (endOf (rowLayout row) (now (s .entry))) n at ⌝ }
 {
@@ -106,7 +107,7 @@ pub fn read_list(row: LayoutRow, n: usize, s: &[u8], at: usize) -> Ending
     Ending::At(p)
 }
 
-// Where the entry of this row that starts at `at` ends: in its list, if it has one.
+// Where the entry of this row that starts at `at` ends: where its list ends, if it has one (rule K3).
 fn read_entry(row: LayoutRow, s: &[u8], at: usize) -> Ending
     ensures { λ r. ⌜ endingOf r ≡ endOf (rowLayout row) (now (s .entry)) at ⌝ }
 {
@@ -119,7 +120,7 @@ fn read_entry(row: LayoutRow, s: &[u8], at: usize) -> Ending
     }
 }
 
-// Whether the kind with this code is one of these.
+// Whether a list kind has this code (rule K2).
 pub fn is_list(code: u8) -> bool
     ensures { λ r. ⌜ r ≡ isList code ⌝ }
 {
@@ -129,7 +130,7 @@ pub fn is_list(code: u8) -> bool
     }
 }
 
-// The value of the list kind with this code at the start of s.
+// Reads the value s by the list kind with this code (rule K1).
 pub fn read_value(code: u8, s: &[u8]) -> Reading
     ensures { λ r. ⌜ readingOf r ≡ readValue code (now (s .entry)) ⌝ }
 {
@@ -139,7 +140,7 @@ pub fn read_value(code: u8, s: &[u8]) -> Reading
     }
 }
 
-// Where the entry with these numbers lies in the value s. The whole value has to read.
+// Where the entry with these numbers lies in the value s (rule E1). The whole value has to read first (rule E2).
 pub fn locate(code: u8, path: Path, s: &[u8]) -> Located
     ensures { λ r. ⌜ locatedOf r ≡ locateEntry code (numbersOf path) (now (s .entry)) ⌝ }
 {
@@ -149,8 +150,8 @@ pub fn locate(code: u8, path: Path, s: &[u8]) -> Located
     }
 }
 
-// The entry with these numbers as its own part of s, the lists under it included; the empty start of s where `locate`
-// refuses.
+// The entry with these numbers as its own part of s, to the end of the lists that it holds (rule E1). Where `locate`
+// refuses, it is the empty part at the start of s (rule A5).
 pub fn entry(code: u8, path: Path, s: &[u8]) -> &[u8]
     ensures { λ r. ⌜ now r ≡ partOf (locateEntry code (numbersOf path) (now (s .entry))) (now (s .entry)) ⌝ }
     ensures place { λ r. ⌜ r .ptr ≡ behind (startIn (locateEntry code (numbersOf path) (now (s .entry)))) (s .entry) ⌝ }
@@ -161,8 +162,8 @@ pub fn entry(code: u8, path: Path, s: &[u8]) -> &[u8]
     }
 }
 
-// How many entries the list of the entry with these numbers has; without numbers, the value's own list. An entry of the
-// lowest level has no list.
+// How many entries the list of the entry with these numbers has; without numbers, the outermost list (rule E3). An
+// entry of the lowest level has no list.
 pub fn count(code: u8, path: Path, s: &[u8]) -> Counted
     ensures { λ r. ⌜ countedOf r ≡ countEntries code (numbersOf path) (now (s .entry)) ⌝ }
 {

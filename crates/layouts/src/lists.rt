@@ -1,4 +1,4 @@
-// Where a list stands, and a value that is read whole.
+// Where a list starts, and reading a whole value.
 use crate::Ending;
 use crate::LayoutRow;
 use crate::Listing;
@@ -29,7 +29,7 @@ pub(crate) fn reach(n: usize, s: &[u8], at: usize) -> Ending
     Ending::At(at + n)
 }
 
-// The list at `at` whose count has w bytes, of entries with heads of h bytes.
+// The list at `at` whose count has w bytes (rule K3). Its entries begin with h bytes.
 pub(crate) fn count_at(w: u8, h: usize, s: &[u8], at: usize) -> Listing
     requires { ⌜ at ≤ length (now s) ⌝ }
     ensures { λ r. ⌜ listingOf r ≡ countAt (counting w) h (now (s .entry)) at ⌝ }
@@ -61,7 +61,7 @@ pub(crate) fn count_at(w: u8, h: usize, s: &[u8], at: usize) -> Listing
     }
 }
 
-// The value of this row at the start of s. Its count is read once, for the answer and for its entries.
+// Reads the value s by this row (rule K1). Its count is read once, for the answer and for its entries.
 pub(crate) fn read_row(row: LayoutRow, strict: bool, s: &[u8]) -> Reading
     ensures { λ r. ⌜ readingOf r ≡ readAs (kindWith (rowLayout row) strict) (now (s .entry)) ⌝ }
 {
@@ -74,7 +74,7 @@ pub(crate) fn read_row(row: LayoutRow, strict: bool, s: &[u8]) -> Reading
     }
 }
 
-// A value of n entries whose layout ends at `end`, which may refuse the bytes after it.
+// A value of n entries whose layout ends at `end`. Where the kind is strict, bytes after it are refused (rule K4).
 fn consumed_to(strict: bool, end: usize, n: usize, s: &[u8]) -> Reading
     requires { ⌜ end ≤ length (now s) ⌝ }
     ensures { λ r. ⌜ readingOf r ≡ consumedTo (restWith strict) end n (now (s .entry)) ⌝ }

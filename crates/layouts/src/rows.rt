@@ -1,4 +1,4 @@
-// The table of list kinds.
+// The table of the list kinds (rule K2).
 use crate::LayoutRow;
 use numbers::Refusal;
 ghost use mathlib.Core.Path.{_≡_};
@@ -7,13 +7,13 @@ ghost use Rattle.layouts.specs.Layouts.{bytes, entry, layoutOf};
 ghost use Rattle.layouts.specs.Rows.{counting, rowBelow, rowLayout};
 ghost use Rattle.layouts.specs.PrivateRows.{rowTold};
 
-// A row of the table, and whether bytes after its layout are refused.
+// A row of the table, and whether left-over bytes are refused (rule K4).
 pub(crate) enum ListKindRow {
     List(LayoutRow, bool),
     Refused(Refusal),
 }
 
-// The row of the entries of its list.
+// The row of the entries in its list.
 pub(crate) fn row_below(row: LayoutRow) -> LayoutRow
     requires { ⌜ 0 < row .levels ⌝ }
     ensures { λ r. ⌜ r ≡ rowBelow row ⌝ }
@@ -76,7 +76,7 @@ fn three(h0: u8, w0: u8, h1: u8, w1: u8, h2: u8, w2: u8, h3: u8) -> LayoutRow
     }
 }
 
-// The row of the list kind with this code.
+// The row of the list kind with this code (rule K2).
 pub(crate) fn row_of(code: u8) -> ListKindRow
     ensures { λ r. ⌜ rowTold r ≡ layoutOf code ⌝ }
 {

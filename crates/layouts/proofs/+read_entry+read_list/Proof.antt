@@ -1,5 +1,5 @@
 -- The entry reader goes one level down, the list reader over its entries: measures twice the levels, and one more. The
--- entries i to n behind p end where all n do.
+-- entries i to n from p on end where all n do.
 use Prim.Native.Nat.{ℕ, _+_, _-_, _<_}
 use borrow.Fn.Kinds.{In}
 use borrow.Fn.PlainCycle.{Measures, is, falls, and}

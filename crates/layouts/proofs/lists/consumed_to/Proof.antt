@@ -1,4 +1,4 @@
--- The bytes behind the end are refused or handed back, as the kind says.
+-- The bytes after the end are refused or are the rest, as the kind says.
 use borrow.Author.Needs.{needs}
 use Rattle.layouts.proofs.lists.consumed_to.Statement.{statement}
 use Rattle.layouts.proofs.lists.consumed_to.Tie as tie
