@@ -37,7 +37,7 @@ abbrev pub increasing : List Form → Bool
 increasing [] = true
 increasing (f ∷ fs) = cond (above (f .first .high) fs) (increasing fs) false
 
--- b begins one of these forms, and the ranges rs stand behind it
+-- b begins one of these forms, and the ranges rs stand after it
 abbrev pub Begins : List Form → ℕ → List Range → Type 0
 Begins [] b rs = ⊥
 Begins (f ∷ fs) b rs = ((f .first .low ≤ b) × (b ≤ f .first .high) × (f .behind ≡ rs)) ⊎ Begins fs b rs
@@ -82,7 +82,7 @@ pub goes-off : (rs : List Range) (s : List ℕ) (i : ℕ) → i < length s → o
 unfolding accepts
 goes-off rs s i h e = rw (drop-cons s i 0 h, e)
 
--- and ends behind the last one
+-- and ends after the last one
 pub comes-to-end : (n low high : ℕ) (s : List ℕ) (i : ℕ) → length s ≤ i → accepts (ranges n low high) (drop i s) ≡ eqb n 0
 unfolding accepts
 comes-to-end n low high s i h = rw (drop-of-length-le s h) (go n) where

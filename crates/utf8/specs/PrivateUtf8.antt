@@ -9,7 +9,7 @@ use Rattle.utf8.specs.declared.Awaited.{Awaited}
 use Rattle.utf8.specs.declared.After.{After}
 use Rattle.utf8.specs.declared.After.the-variants.{Onward, Refused}
 
--- so many bytes: the next one from `low` to `high`, and then tails
+-- the ranges of the bytes that are still to come: the next one from `low` to `high`, the others tails
 abbrev pub ranges : ℕ → ℕ → ℕ → List Range
 ranges zero low high = []
 ranges (suc n) low high = low to high ∷ replicate n tail

@@ -1,4 +1,4 @@
--- UTF-8 by the grammar of RFC 3629, section 4, "Syntax of UTF-8 Byte Sequences":
+-- UTF-8 (rule E5), by the grammar of RFC 3629, section 4:
 --
 --     UTF8-octets = *( UTF8-char )
 --     UTF8-char   = UTF8-1 / UTF8-2 / UTF8-3 / UTF8-4
@@ -29,7 +29,7 @@ l to h = record { low = l; high = h }
 abbrev pub tail : Range
 tail = 0x80 to 0xBF
 
--- a form of a character: the range of its first byte, and one for each byte behind it
+-- a form of a character: the range of its first byte, and one for each byte after it
 pub record Form : Type 0 where
   pub first : Range
   pub behind : List Range
@@ -38,6 +38,7 @@ infix 4 _then_
 abbrev pub _then_ : Range → List Range → Form
 r then rs = record { first = r; behind = rs }
 
+-- the forms of a character: UTF8-1 to UTF8-4 of the grammar, a line for each alternative
 abbrev pub forms : List Form
 forms =
     (0x00 to 0x7F then []) ∷
@@ -67,23 +68,23 @@ abbrev pub Characters : List (List ℕ) → Type 0
 Characters [] = Unit
 Characters (c ∷ cs) = OneOf forms c × Characters cs
 
--- UTF8-octets: characters, one after the other
+-- Rule E5: a text is characters, one after the other (UTF8-octets of the grammar).
 pub record Octets (s : List ℕ) : Type 0 where
   pub list : List (List ℕ)
   pub each : Characters list
   pub all : flatten list ≡ s
 
--- The same as a test, which goes from byte to byte; that it accepts exactly the octets is claimed in Claims and proved.
--- Where a character has begun, the ranges of its bytes that are still to come are awaited.
+-- The same as a test, which goes from byte to byte. Claims says that it accepts exactly the octets. Where a character
+-- has begun, the ranges of the bytes that are still to come are awaited.
 abbrev pub inRange : Range → ℕ → Bool
 inRange r b = cond (leb (r .low) b) (leb b (r .high)) false
 
--- the ranges behind the first byte b of a character; no character begins with another byte
+-- the ranges after the first byte b of a character; none where no character begins with b
 abbrev pub begun : List Form → ℕ → Option (List Range)
 begun [] b = none
 begun (f ∷ fs) b = cond (inRange (f .first) b) (some (f .behind)) (begun fs b)
 
--- what is awaited behind the byte b
+-- what is awaited after the byte b
 abbrev pub onward : List Range → ℕ → Option (List Range)
 onward [] b = begun forms b
 onward (r ∷ rs) b = cond (inRange r b) (some rs) none
@@ -100,5 +101,6 @@ unfoldable pub accepts : List Range → List ℕ → Bool
 accepts rs [] = mayEnd rs
 accepts rs (b ∷ s) = goesOn (onward rs b) (λ t. accepts t s)
 
+-- Rule E5, as a test.
 abbrev pub isUtf8 : List ℕ → Bool
 isUtf8 s = accepts [] s

@@ -1,12 +1,12 @@
-// UTF-8 by the grammar of RFC 3629, section 4: a byte at a time, with what is awaited of the next one.
+// UTF-8 by the grammar of RFC 3629, section 4 (rule E5): a byte at a time, with the range that the next one must be in.
 ghost use mathlib.Core.Path.{_≡_};
 ghost use Prim.Native.Nat.{_≤_};
 ghost use lib.ListN.{length, drop};
 ghost use Rattle.utf8.specs.Utf8.{forms, begun, onward, isUtf8};
 ghost use Rattle.utf8.specs.PrivateUtf8.{awaits, stepTold};
 
-// Of a character that has begun, so many bytes are still to come: the next one from `low` to `high`, and then tails.
-// None: a character may begin, or the text end.
+// How many bytes of a character that has begun are still to come: the next one is from `low` to `high`, and the others
+// are tails. If none is, a character may begin, or the text may end.
 struct Awaited {
     left: usize,
     low: u8,
@@ -18,14 +18,14 @@ enum After {
     Refused,
 }
 
-// Awaited are so many bytes, the next one from `low` to `high`.
+// As many bytes as `left` says are still to come, the next one from `low` to `high`.
 fn awaiting(left: usize, low: u8, high: u8) -> After
     ensures { λ r. ⌜ r ≡ After.Onward (record { left = left; low = low; high = high }) ⌝ }
 {
     After::Onward(Awaited { left, low, high })
 }
 
-// What the first byte of a character awaits: the grammar's forms, a line for each.
+// What is awaited after the first byte of a character: the grammar's forms, a line for each.
 fn begin(b: u8) -> After
     ensures { λ r. ⌜ stepTold r ≡ begun forms b ⌝ }
 {
@@ -43,7 +43,7 @@ fn begin(b: u8) -> After
     }
 }
 
-// What is awaited behind the byte b.
+// What is awaited after the byte b.
 fn step(awaited: Awaited, b: u8) -> After
     ensures { λ r. ⌜ stepTold r ≡ onward (awaits awaited) b ⌝ }
 {
@@ -59,7 +59,7 @@ fn step(awaited: Awaited, b: u8) -> After
     awaiting(awaited.left - 1, 0x80, 0xBF)
 }
 
-// Past bytes below 0x80, each of them a character, eight at a time: most texts are made of these.
+// Goes past bytes below 0x80, eight at a time. Each of them is a character, and most texts hold no others.
 fn past_ascii(s: &[u8], from: usize) -> usize
     requires { ⌜ from ≤ length (now s) ⌝ }
     ensures { λ r. ⌜ (r ≤ length (now (s .entry))) × (isUtf8 (drop from (now (s .entry))) ≡ isUtf8 (drop r (now (s .entry)))) ⌝ }
@@ -76,7 +76,7 @@ fn past_ascii(s: &[u8], from: usize) -> usize
     i
 }
 
-// Whether these bytes are characters, one behind the other.
+// Whether these bytes are characters, one after the other (rule E5).
 pub fn is_utf8(s: &[u8]) -> bool
     ensures { λ r. ⌜ r ≡ isUtf8 (now (s .entry)) ⌝ }
 {
