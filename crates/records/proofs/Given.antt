@@ -20,7 +20,8 @@ abbrev pub isKnown : {A : Type 0} → Answer A → Bool
 isKnown (gives a) = true
 isKnown (refuses n vs) = not (eqb n 16)
 
--- what a fixed layout that reads says: it lies within the value, nothing of it is refused, and the answer is what it holds
+-- what a fixed layout that reads says: it lies within the value, nothing of it is refused, and the answer is what it
+-- holds
 pub record Reads (n : ℕ) (ok : Bool) (r : Record) (s : List ℕ) (x : RecordRead) : Type 0 where
   pub within : n ≤ length s
   pub taken : ok ≡ true
@@ -116,6 +117,6 @@ pub kind-read : (c : ℕ) (s : List ℕ) (x : RecordRead) → readRecord c s ≡
 unfolding readRecord
 kind-read c s x e = let g = gave (withCode c recordKinds) (λ k. ofKind k s) x e in record { kind = g .first; its = coded c recordKinds (g .first) (g .is); reads = g .then }
 
--- consumed never exceeds the value's length, so that the rest is what stands behind it
+-- consumed never exceeds the value's length, so that the rest is what stands after it
 pub consumed-within : (c : ℕ) (s : List ℕ) (x : RecordRead) → readRecord c s ≡ gives x → x .consumed ≤ length s
 consumed-within c s x e = let k = kind-read c s x e in formed (k .kind) s .inside x (k .reads)

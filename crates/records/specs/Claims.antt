@@ -10,7 +10,7 @@ use Rattle.records.specs.declared.RecordKind.{RecordKind}
 use Rattle.records.specs.Kinds.{codeOf, kindOf}
 use Rattle.records.specs.Reading.{RecordRead, gotOf, measuredOf, isRecord, ofKind, readRecord}
 
--- each public call by its name: any two answers that its contract allows are one
+-- Rule A4, for each public call by its name: any two answers that its contract allows are one.
 pub record Firmness : Type 0 where
   pub read-record : (code : ℕ) (s : List ℕ) → Firm (λ r. gotOf r ≡ readRecord code s)
   pub read-client-association : (s : List ℕ) → Firm (λ r. gotOf r ≡ ofKind RecordKind.ClientAssociation s)
@@ -18,11 +18,11 @@ pub record Firmness : Type 0 where
   pub is-record : (code : ℕ) → Firm (λ b. b ≡ isRecord code)
   pub measure : (code : ℕ) (s : List ℕ) → Firm (λ m. measuredOf m ≡ mapped (λ x. x .consumed) (readRecord code s))
 
--- no two kinds have one code: a kind's code reads as that kind
+-- Rules K1 and K2: no two kinds have one code. A value is read by the kind that has the code.
 abbrev pub OwnCodes : Type 0
 OwnCodes = (k : RecordKind) (s : List ℕ) → readRecord (codeOf k) s ≡ ofKind k s
 
--- what was consumed lies in the value, so that the rest is what stands behind it
+-- Rule K1: the bytes consumed lie in the value, so the rest is what follows them.
 abbrev pub Inside : Type 0
 Inside = (code : ℕ) (s : List ℕ) (x : RecordRead) → readRecord code s ≡ gives x → x .consumed ≤ length s
 

@@ -1,9 +1,10 @@
--- The kinds that are records, and their codes (document 01, "The 21 kinds").
+-- The record kinds and their codes (rule K2).
 use mathlib.Core.List.{List, [], _∷_}
 use Prim.Native.Nat.{ℕ}
 use Rattle.records.specs.declared.RecordKind.{RecordKind}
 use Rattle.records.specs.declared.Record.{Record}
 
+-- Rule K2: the kinds that have fields.
 abbrev pub recordKinds : List RecordKind
 recordKinds =
     RecordKind.EndOfMessage
@@ -20,7 +21,7 @@ recordKinds =
     ∷ RecordKind.Profile2ApCapability
     ∷ []
 
--- the code of a kind, of IEEE 1905.1, 1905.1a and Multi-AP
+-- Rule K2: the code of a kind, from IEEE 1905.1, IEEE 1905.1a and Multi-AP (section 17.2).
 abbrev pub codeOf : RecordKind → ℕ
 codeOf RecordKind.EndOfMessage = 0
 codeOf RecordKind.AlMacAddress = 1

@@ -1,4 +1,5 @@
--- What reading a typed value gives: the record and the bytes consumed, or a refusal. The rest is what the value has behind the consumed bytes.
+-- Reading a value of a record kind (rule K1): the record and how many bytes were consumed, or a refusal. The rest is
+-- what follows the bytes consumed.
 use mathlib.Core.Bool.{Bool, true, cond}
 use mathlib.Core.List.{List, [], _∷_}
 use Prim.Native.Nat.{ℕ, _%_}
@@ -25,11 +26,12 @@ abbrev pub measuredOf : Measured → Answer ℕ
 measuredOf (Measured.Bytes n) = gives n
 measuredOf (Measured.Refused r) = told r
 
--- "must be empty": 4 where it is not
+-- Rules K2 and K4: a layout of nothing, in a kind that refuses left-over bytes by 4.
 unfoldable pub empty : Record → List ℕ → Answer RecordRead
 empty r s = cond (ltb 0 (length s)) (refuses 4 []) (gives (record { value = r; consumed = 0 }))
 
--- "fixed" so many bytes: 3 where the value ends inside them, and then 5 where what stands in them is refused. Those behind them are handed back as the rest.
+-- Rules K1 and K7: a layout of n bytes. A value that ends inside them is refused by 3, and then one that its kind's
+-- check refuses by 5. What follows them is the rest.
 unfoldable pub fixed : ℕ → Bool → Record → List ℕ → Answer RecordRead
 fixed n accepted r s =
     cond (ltb (length s) n) (refuses 3 [])
@@ -39,7 +41,8 @@ fixed n accepted r s =
 abbrev any : Bool
 any = true
 
--- the lines of document 01's table: the bytes that the layout takes, what of them is accepted ("role not 0, association bits 0-6 set, profile 0" are not), the record
+-- Rule K2, line by line: how many bytes the layout has, the check of its value, and the record. A role other than 0, an
+-- association byte other than 0x80 and 0x00, and profile 0 are refused.
 abbrev pub ofKind : RecordKind → List ℕ → Answer RecordRead
 ofKind RecordKind.EndOfMessage s = empty Record.EndOfMessage s
 ofKind RecordKind.AlMacAddress s = fixed 6 any (Record.AlMacAddress (addressAt s 0)) s
@@ -54,15 +57,15 @@ ofKind RecordKind.ClientAssociation s = fixed 13 (eqb (getD s 12 0 % 128) 0) (Re
 ofKind RecordKind.MultiApProfile s = fixed 1 (ltb 0 (getD s 0 0)) (Record.MultiApProfile (profileOf (getD s 0 0))) s
 ofKind RecordKind.Profile2ApCapability s = fixed 4 any (Record.Profile2ApCapability (capabilityIn s)) s
 
--- the first of these kinds that has the code; 16 where none has
+-- Rule K1: the kind with this code; 16 where none has it.
 abbrev pub withCode : ℕ → List RecordKind → Answer RecordKind
 withCode c [] = refuses 16 []
 withCode c (k ∷ ks) = cond (eqb c (codeOf k)) (gives k) (withCode c ks)
 
--- whether a code is a record's
+-- whether a record kind has this code
 abbrev pub isRecord : ℕ → Bool
 isRecord c = isGiven (withCode c recordKinds)
 
--- "Order elsewhere: 16, then .. 3, 4, 5"
+-- Rule K1: the value of the record kind with this code. The order is 16, then 3 or 4, then 5 (rules K7 and N2).
 unfoldable pub readRecord : ℕ → List ℕ → Answer RecordRead
 readRecord c s = andThen (withCode c recordKinds) (λ k. ofKind k s)

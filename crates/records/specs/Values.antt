@@ -1,5 +1,6 @@
--- Each record and the bytes of its value: what stands where, by the layouts of document 01, "The 21 kinds" (IEEE 1905.1, clause 6.4; IEEE 1905.1a;
--- Multi-AP, clause 17.2). Bytes are counted from 0, bits from the lowest. Every byte of a layout is kept, reserved ones too.
+-- Each record and the bytes of its value, by the layouts of rule K2 (IEEE 1905.1, clause 6.4; IEEE 1905.1a; Multi-AP,
+-- section 17.2). Bytes are counted from 0, bits from the lowest. Every byte of a layout is kept, also a reserved one
+-- (rule K6).
 use mathlib.Core.Bool.{Bool, true, false, cond}
 use mathlib.Core.List.{List, [], _∷_, _++_}
 use Prim.Native.Nat.{ℕ, _+_, _*_, _/_, _%_}
@@ -18,7 +19,7 @@ use Rattle.records.specs.declared.ByteCounterUnits.{ByteCounterUnits}
 use Rattle.records.specs.declared.Profile2ApCapability.{Profile2ApCapability}
 use Rattle.records.specs.declared.Record.{Record}
 
--- the six octets of an address, and the address in the six bytes from p
+-- Rule K3: the six bytes of an address, and the address in the six bytes from p on.
 abbrev pub octets : MacAddr → List ℕ
 octets m = m .b0 ∷ m .b1 ∷ m .b2 ∷ m .b3 ∷ m .b4 ∷ m .b5 ∷ []
 
@@ -32,7 +33,8 @@ addressAt s p = record {
   b5 = getD s (p + 5) 0;
 }
 
--- A byte that is a code: the codes from 0 have names, in this order, and any other is kept as it is.
+-- Rule K5: a byte that is a code. The codes from 0 on have names, in this order. Any other is reserved, with its
+-- number.
 abbrev pub bands : List SupportedFreqBand
 bands = SupportedFreqBand.«Band_802_11_2_4» ∷ SupportedFreqBand.«Band_802_11_5» ∷ SupportedFreqBand.«Band_802_11_60» ∷ []
 
@@ -66,7 +68,7 @@ abbrev pub resultByte : LinkMetricResultCode → ℕ
 resultByte LinkMetricResultCode.InvalidNeighbor = 0
 resultByte (LinkMetricResultCode.UnknownCode b) = b
 
--- 0 is no profile: a value that has it is refused
+-- Rule K5, for profiles. 0 is no profile: a value that has it is refused (rule K2).
 abbrev pub profiles : List MultiApProfile
 profiles = MultiApProfile.Reserved 0 ∷ MultiApProfile.Profile1 ∷ MultiApProfile.Profile2 ∷ MultiApProfile.Profile3 ∷ []
 
@@ -79,7 +81,7 @@ profileByte MultiApProfile.Profile2 = 2
 profileByte MultiApProfile.Profile3 = 3
 profileByte (MultiApProfile.Reserved b) = b
 
--- "0x80 joined, 0x00 left"
+-- Rule K5: 0x80 says joined, 0x00 left. No other byte is accepted (rule K2).
 abbrev pub stateOf : ℕ → AssociationState
 stateOf b = cond (eqb b 128) AssociationState.JoinedBss AssociationState.LeftBss
 
@@ -87,7 +89,7 @@ abbrev pub stateByte : AssociationState → ℕ
 stateByte AssociationState.LeftBss = 0
 stateByte AssociationState.JoinedBss = 128
 
--- the two bits of the units
+-- Rule K6: the units, by the number that their two bits say.
 abbrev pub units : List ByteCounterUnits
 units = ByteCounterUnits.Bytes ∷ ByteCounterUnits.KiB ∷ ByteCounterUnits.MiB ∷ []
 
@@ -104,7 +106,7 @@ abbrev pub bit : Bool → ℕ
 bit true = 1
 bit false = 0
 
--- "third byte: units in bits 7-6, then flags in bits 5, 4, 3, reserved 2-0"
+-- Rule K6: byte 2 of a capability. From the highest bit on it holds the units, three flags and the reserved bits.
 abbrev pub flagsOf : Profile2ApCapability → ℕ
 flagsOf c =
     unitsCode (c .«byte_counter_units») * 64
@@ -113,6 +115,7 @@ flagsOf c =
     + bit (c .«traffic_separation») * 8
     + c .«flags_reserved» % 8
 
+-- Rule K6: the capability in these bytes.
 abbrev pub capabilityIn : List ℕ → Profile2ApCapability
 capabilityIn s = record {
   «max_prioritization_rules» = getD s 0 0;
@@ -125,10 +128,11 @@ capabilityIn s = record {
   «max_vids» = getD s 3 0;
 }
 
+-- Rule K5: the station stands first, then the access point.
 abbrev pub associationIn : List ℕ → ClientAssociation
 associationIn s = record { «sta_mac» = addressAt s 0; «ap_mac» = addressAt s 6; «association_state» = stateOf (getD s 12 0) }
 
--- "type byte; 6-byte address only if type is 1; metrics byte"
+-- Rule K2: a query has an address only if its type byte is 1.
 abbrev pub hasAddress : ℕ → Bool
 hasAddress neighborType = eqb neighborType 1
 
@@ -151,7 +155,7 @@ associationBytes a = octets (a .«sta_mac») ++ (octets (a .«ap_mac») ++ (stat
 abbrev pub capabilityBytes : Profile2ApCapability → List ℕ
 capabilityBytes c = c .«max_prioritization_rules» ∷ c .reserved ∷ flagsOf c ∷ c .«max_vids» ∷ []
 
--- the bytes of a record's value
+-- Rules O1 and A6: the bytes of a record's value, as they are written.
 abbrev pub bytesOf : Record → List ℕ
 bytesOf Record.EndOfMessage = []
 bytesOf (Record.AlMacAddress m) = octets m

@@ -1,9 +1,10 @@
-// Typed values that are records: the kinds without lists, read by their code. They are written by the crate `record_writing`. The types have the original's names (cmdu_codec.rs).
+// The record kinds (rule K2), read by their code (rule K1). The crate `record_writing` writes them. The types have the
+// original's names (cmdu_codec.rs).
 use numbers::Refusal;
 
 mod reading;
 
-// Who reads client associations and no other kind asks their own reader.
+// A caller that reads client associations and no other kind uses their own reader.
 pub use reading::read_client_association;
 ghost use mathlib.Core.Path.{_≡_};
 ghost use Rattle.records.specs.Values.{bandOf, versionOf, resultOf, profileOf, stateOf, unitsOf};
@@ -12,7 +13,7 @@ ghost use Rattle.records.specs.Kinds.{recordKinds, codeOf, kindOf};
 ghost use Rattle.records.specs.Reading.{gotOf, readRecord, measuredOf, withCode, isRecord};
 ghost use Rattle.records.specs.PrivateKinds.{knownOf};
 
-// An address, its six bytes in their order. It crosses to C as it is.
+// An address, its six bytes in their order (rule K3). It is passed to C as it is.
 #[repr(C)]
 pub struct MacAddr {
     pub b0: u8,
@@ -23,6 +24,7 @@ pub struct MacAddr {
     pub b5: u8,
 }
 
+// A band by its name, or reserved with its number (rule K5).
 pub enum SupportedFreqBand {
     Band_802_11_2_4,
     Band_802_11_5,
@@ -43,6 +45,7 @@ impl SupportedFreqBand {
     }
 }
 
+// A version by its name, or reserved with its number (rule K5).
 pub enum Ieee1905ProfileVersion {
     Ieee1905_1,
     Ieee1905_1a,
@@ -61,6 +64,7 @@ impl Ieee1905ProfileVersion {
     }
 }
 
+// A result by its name, or reserved with its number (rule K5).
 pub enum LinkMetricResultCode {
     InvalidNeighbor,
     UnknownCode(u8),
@@ -77,7 +81,7 @@ impl LinkMetricResultCode {
     }
 }
 
-// The address of the one neighbour that is asked about, or none where all are.
+// The address of the neighbour that a query asks about. A query about all neighbours has none.
 pub enum NeighborMac {
     Address(MacAddr),
     None,
@@ -89,13 +93,14 @@ pub struct LinkMetricQuery {
     pub requested_metrics: u8,
 }
 
+// Whether the station joined the access point or left it (rule K5).
 pub enum AssociationState {
     LeftBss,
     JoinedBss,
 }
 
 impl AssociationState {
-    // The last byte of a client association, which has bit 7 alone or none.
+    // The last byte of a client association that is accepted, 0x80 or 0x00.
     pub(crate) fn from_u8(input: u8) -> Self
         ensures { λ r. ⌜ r ≡ stateOf input ⌝ }
     {
@@ -112,6 +117,7 @@ pub struct ClientAssociation {
     pub association_state: AssociationState,
 }
 
+// A profile by its name, or reserved with its number (rule K5).
 pub enum MultiApProfile {
     Profile1,
     Profile2,
@@ -132,6 +138,7 @@ impl MultiApProfile {
     }
 }
 
+// The units of byte counters (rule K6).
 pub enum ByteCounterUnits {
     Bytes,
     KiB,
@@ -140,7 +147,7 @@ pub enum ByteCounterUnits {
 }
 
 impl ByteCounterUnits {
-    // Of the two bits of the units.
+    // The units that a number of two bits stands for.
     pub(crate) fn from_u8(input: u8) -> Self
         ensures { λ r. ⌜ r ≡ unitsOf input ⌝ }
     {
@@ -153,6 +160,7 @@ impl ByteCounterUnits {
     }
 }
 
+// The fields of a capability, with its reserved byte and bits (rule K6).
 pub struct Profile2ApCapability {
     pub max_prioritization_rules: u8,
     pub reserved: u8,
@@ -164,7 +172,7 @@ pub struct Profile2ApCapability {
     pub max_vids: u8,
 }
 
-// The codes of these kinds.
+// The codes of the record kinds (rule K2).
 pub const END_OF_MESSAGE: u8 = 0;
 
 pub const AL_MAC_ADDRESS: u8 = 1;
@@ -189,7 +197,7 @@ pub const MULTI_AP_PROFILE: u8 = 0xB3;
 
 pub const PROFILE2_AP_CAPABILITY: u8 = 0xB4;
 
-// The kinds whose value is a record.
+// The record kinds (rule K2).
 pub enum RecordKind {
     EndOfMessage,
     AlMacAddress,
@@ -205,7 +213,7 @@ pub enum RecordKind {
     Profile2ApCapability,
 }
 
-// A typed value. A role is kept as its byte, though only 0, the registrar, is ever read.
+// A record of any kind. A role is kept as its byte, although reading accepts only 0, the registrar.
 pub enum Record {
     EndOfMessage,
     AlMacAddress(MacAddr),
@@ -221,13 +229,14 @@ pub enum Record {
     Profile2ApCapability(Profile2ApCapability),
 }
 
-// What reading a typed value finds: the record, and how many bytes its layout took; the bytes behind them are the rest.
+// What reading a value finds (rule K1): the record, and how many bytes its layout consumed. The bytes after them are
+// the rest.
 pub enum RecordAnswer {
     Got { record: Record, consumed: usize },
     Refused(Refusal),
 }
 
-// The kind that has a code, or that none has it.
+// The kind that has a code, or none.
 pub(crate) enum KnownKind {
     Is(RecordKind),
     None,
@@ -253,7 +262,7 @@ fn kind_of(code: u8) -> KnownKind
     }
 }
 
-// The typed value s of the kind with this code.
+// Reads the value s by the record kind with this code (rule K1).
 pub fn read_record(code: u8, s: &[u8]) -> RecordAnswer
     ensures { λ r. ⌜ gotOf r ≡ readRecord code (now (s .entry)) ⌝ }
 {
@@ -263,7 +272,7 @@ pub fn read_record(code: u8, s: &[u8]) -> RecordAnswer
     }
 }
 
-// The other way round: the code of a record's kind.
+// The other way round: the code of a record's kind (rule K2).
 pub fn code_of(item: Record) -> u8
     ensures { λ r. ⌜ r ≡ codeOf (kindOf item) ⌝ }
 {
@@ -283,7 +292,7 @@ pub fn code_of(item: Record) -> u8
     }
 }
 
-// Whether a code is a record's.
+// Whether a record kind has this code (rule K2).
 pub fn is_record(code: u8) -> bool
     ensures { λ r. ⌜ r ≡ isRecord code ⌝ }
 {
@@ -293,13 +302,13 @@ pub fn is_record(code: u8) -> bool
     }
 }
 
-// What measuring a typed value finds: how many bytes its layout took.
+// What measuring a value finds: how many bytes its layout consumed.
 pub enum Measured {
     Bytes(usize),
     Refused(Refusal),
 }
 
-// The same value measured alone, for a caller that needs no record.
+// Reads like `read_record`, for a caller that needs only the number of bytes consumed (rule K1).
 pub fn measure(code: u8, s: &[u8]) -> Measured
     ensures { λ r. ⌜ measuredOf r ≡ mapped (λ x. x .consumed) (readRecord code (now (s .entry))) ⌝ }
 {

@@ -1,4 +1,4 @@
-// Reading: a function for each kind, with its size, what it refuses and its fields.
+// Reading: a function for each kind of rule K2, with its size, what it refuses and its fields.
 use crate::AssociationState;
 use crate::ByteCounterUnits;
 use crate::ClientAssociation;
@@ -20,7 +20,7 @@ ghost use lib.ListN.{getD};
 ghost use Rattle.records.specs.Values.{addressAt};
 ghost use Rattle.records.specs.Reading.{gotOf, fixed, ofKind};
 
-// A value of a kind.
+// Reads a value by its kind (rule K1).
 pub(crate) fn read_as(kind: RecordKind, s: &[u8]) -> RecordAnswer
     ensures { λ r. ⌜ gotOf r ≡ ofKind kind (now (s .entry)) ⌝ }
 {
@@ -99,7 +99,7 @@ fn read_link_metric_result_code(s: &[u8]) -> RecordAnswer
     fixed(1, true, Record::LinkMetricResultCode(result), s)
 }
 
-// Only a query about one neighbour, whose first byte is 1, has an address.
+// Only a query about one neighbour, whose first byte is 1, has an address (rule K2).
 fn read_link_metric_query(s: &[u8]) -> RecordAnswer
     ensures { λ r. ⌜ gotOf r ≡ ofKind RecordKind.LinkMetricQuery (now (s .entry)) ⌝ }
 {
@@ -145,7 +145,7 @@ fn read_multi_ap_profile(s: &[u8]) -> RecordAnswer
     fixed(1, 0 < first, Record::MultiApProfile(profile), s)
 }
 
-// The third byte: units in bits 7-6, flags in bits 5, 4 and 3, and three reserved bits, which are kept.
+// Byte 2 holds the units, three flags and three reserved bits (rule K6). The reserved bits are kept.
 fn read_profile2_ap_capability(s: &[u8]) -> RecordAnswer
     ensures { λ r. ⌜ gotOf r ≡ ofKind RecordKind.Profile2ApCapability (now (s .entry)) ⌝ }
 {
@@ -163,7 +163,8 @@ fn read_profile2_ap_capability(s: &[u8]) -> RecordAnswer
     fixed(4, true, Record::Profile2ApCapability(capability), s)
 }
 
-// A layout of so many bytes, and the record in them: the value may end inside the layout, or hold what its kind refuses. Bytes behind it are the rest.
+// A layout of `size` bytes, and the record in them. A value that ends inside the layout is refused, and then one that
+// its kind's check refuses (rule K7). Bytes after the layout are the rest (rule K1).
 fn fixed(size: usize, accepted: bool, item: Record, s: &[u8]) -> RecordAnswer
     ensures { λ r. ⌜ gotOf r ≡ fixed size accepted item (now (s .entry)) ⌝ }
 {
@@ -194,7 +195,7 @@ fn address_at(s: &[u8], p: usize) -> MacAddr
     }
 }
 
-// The byte at i, 0 past the end: what a layout holds is then said of every value, of one that is too short as well.
+// The byte at i, or 0 past the end. So every value has a record to speak of, even one that is too short.
 fn byte_at(s: &[u8], i: usize) -> u8
     ensures { λ r. ⌜ r ≡ getD (now (s .entry)) i 0 ⌝ }
 {
