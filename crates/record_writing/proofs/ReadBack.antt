@@ -1,4 +1,5 @@
--- A record that can be read stands in its own bytes, with anything behind them. A law for each code of one byte, then the kinds.
+-- A record that can be read stands in its own bytes, with anything after them. A law for each code of one byte, then
+-- the kinds.
 use mathlib.Core.Path.{_≡_, refl, sym, ap}
 use mathlib.Core.Bool.{Bool, true}
 use mathlib.Core.List.{List, [], _++_}

@@ -1,4 +1,4 @@
--- Laws of `valueSize` and `recordSize`, and of a header with the part behind it.
+-- Laws of `valueSize` and `recordSize`, and of a header with the part after it.
 use mathlib.Core.Path.{_≡_, sym, ap, _∙_}
 use mathlib.Core.Bool.{true, false}
 use mathlib.Core.List.{List, [], _++_}
@@ -18,7 +18,7 @@ use Rattle.record_writing.specs.Writing.{readable, valueSize, recordSize
 pub starts : (n : ℕ) (v bytes : List ℕ) → take n v ≡ bytes → n ≡ length bytes → n ≤ length v
 starts n v bytes e l = omega (arith, simp length-take at (ap length e))
 
--- these bytes, copied to the start of a buffer: what stood behind them stays
+-- these bytes, copied to the start of a buffer: what stood after them stays
 pub copied : (v bytes out : List ℕ) → v ≡ bytes → take (length v) v ++ drop (length v) out ≡ bytes ++ drop (length bytes) out
 copied v bytes out e = rw e (ap (λ (l : List ℕ). l ++ drop (length bytes) out) (take-all (length bytes) bytes (omega arith)))
 
@@ -44,7 +44,7 @@ module _ (r : Record) (room : ℕ) where
     unfolding valueSize
     fits h = rw e (simp (f, le-ltb room (length (bytesOf r)) (rw e at h)))
 
--- With the header written: what stands in the buffer, and that it has room for the value behind the header.
+-- With the header written: what stands in the buffer, and that it has room for the value after the header.
 pub record Headed (t m : ℕ) (v out between : List ℕ) : Type 0 where
   pub answer : gives m ≡ writeSize (length v) (length out)
   pub stands : between ≡ header t (length v) ++ drop 3 out

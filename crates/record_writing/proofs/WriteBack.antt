@@ -1,4 +1,5 @@
--- A record that was read is written as the bytes that it was read from: a law for each code of one byte, then the kinds.
+-- A record that was read is written as the bytes that it was read from: a law for each code of one byte, then the
+-- kinds.
 use mathlib.Core.Path.{_≡_, refl, sym, ap}
 use mathlib.Core.Bool.{Bool, true, false, cond}
 use mathlib.Core.List.{List, [], _∷_}

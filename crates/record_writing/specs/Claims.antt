@@ -16,7 +16,8 @@ use Rattle.records.specs.Kinds.{codeOf, kindOf}
 use Rattle.records.specs.Reading.{RecordRead, readRecord}
 use Rattle.record_writing.specs.Writing.{readable, valueSize, recordSize}
 
--- each public call by its name: any two answers that its contract allows are one, with what the lent buffer holds afterwards
+-- Rule A4, for each public call by its name: any two answers that its contract allows are one, together with what the
+-- room holds afterwards.
 pub record Firmness : Type 0 where
   pub size-of : (item : Record) → Firm (λ n. n ≡ length (bytesOf item))
   pub write-value : (item : Record) (out : List ℕ) → Firm {A = Written × List ℕ} (λ o.
@@ -26,23 +27,24 @@ pub record Firmness : Type 0 where
       (writtenOf (o .0) ≡ recordSize item (length out))
       × (o .1 ≡ leaves (recordSize item (length out)) (tlvBytes (codeOf (kindOf item)) (bytesOf item)) out))
 
--- what reading gives of a record's own bytes
+-- what reading returns for a record's own bytes
 abbrev pub itself : Record → RecordRead
 itself item = record { value = item; consumed = length (bytesOf item) }
 
--- what was read, written again: under the code that was read, as the bytes that were consumed, which alone read as the same
+-- Rule A6: what was read can be written, under the same code, and is written as the bytes that were consumed. These
+-- read the same without the rest.
 pub record Rewritten (code : ℕ) (s : List ℕ) (x : RecordRead) : Type 0 where
   pub own : codeOf (kindOf (x .value)) ≡ code
   pub bytes : bytesOf (x .value) ≡ take (x .consumed) s
   pub writable : readable (x .value) ≡ true
   pub alone : readRecord code (take (x .consumed) s) ≡ gives x
 
--- Round trips, for every kind that is a record. So 9 is given exactly for the records that reading never gives.
+-- Rules A6 and O1, for every record kind. So exactly the records that no reading returns are refused by 9.
 pub record RoundTrips : Type 0 where
-  -- a record's bytes, with anything behind them but for the end marker, which allows nothing, read as the record
+  -- a record's bytes, whatever follows them, read as the record; nothing may follow those of the end marker (rule K4)
   pub read-back : (item : Record) (rest : List ℕ) → readable item ≡ true → (item ≡ Record.EndOfMessage → rest ≡ []) →
       readRecord (codeOf (kindOf item)) (bytesOf item ++ rest) ≡ gives (itself item)
-  -- the TLV of a record, with anything behind it, reads as a TLV, and its value as the record
+  -- the TLV of a record, whatever follows it, reads as a TLV, and its value as the record
   pub tlv-back : (item : Record) (rest : List ℕ) → readable item ≡ true → let t = tlvBytes (codeOf (kindOf item)) (bytesOf item) ++ rest in
       (readTlv t ≡ gives (asRead (codeOf (kindOf item)) (bytesOf item)))
       × (readRecord (codeOf (kindOf item)) (valueIn (readTlv t) t) ≡ gives (itself item))

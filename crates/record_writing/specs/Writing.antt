@@ -1,4 +1,4 @@
--- Which records can be written, and what a writing call answers.
+-- Which records can be written (rule O1), and what a writing call answers (rules O3 and O4).
 use mathlib.Core.Bool.{Bool, true, cond, not}
 use mathlib.Core.List.{[]}
 use Prim.Native.Nat.{ℕ}
@@ -14,7 +14,7 @@ use Rattle.records.specs.declared.MultiApProfile.{MultiApProfile}
 use Rattle.records.specs.declared.Record.{Record}
 use Rattle.records.specs.Values.{bandByte, versionByte, resultByte, profileByte, hasAddress, bytesOf}
 
--- the lowest byte that is read as each case of a code
+-- Rules K5 and O1: the lowest byte that is read as each case of a code.
 abbrev pub lowestBand : SupportedFreqBand → ℕ
 lowestBand SupportedFreqBand.«Band_802_11_2_4» = 0
 lowestBand SupportedFreqBand.«Band_802_11_5» = 1
@@ -36,12 +36,12 @@ lowestProfile MultiApProfile.Profile2 = 2
 lowestProfile MultiApProfile.Profile3 = 3
 lowestProfile (MultiApProfile.Reserved b) = 4
 
--- "6-byte address only if type is 1"
+-- Rule O1: a query of type 1 has an address, and no other query has one.
 abbrev pub agrees : ℕ → NeighborMac → Bool
 agrees type (NeighborMac.Address m) = hasAddress type
 agrees type NeighborMac.None = not (hasAddress type)
 
--- not 9: "a record that reading never gives, as Reserved with a named code"
+-- Rule O1: the records that reading can return. All others are refused by 9.
 abbrev pub readable : Record → Bool
 readable Record.EndOfMessage = true
 readable (Record.AlMacAddress m) = true
@@ -56,13 +56,14 @@ readable (Record.ClientAssociation a) = true
 readable (Record.MultiApProfile profile) = leb (lowestProfile profile) (profileByte profile)
 readable (Record.Profile2ApCapability c) = ltb (c .«flags_reserved») 8
 
--- a record's value into a buffer with room for so many bytes: 9, then 7, or the bytes written
+-- Rule O4: a record's value, into room of `room` bytes: 9, then 7. Otherwise the answer is the number of bytes written.
 unfoldable pub valueSize : Record → ℕ → Answer ℕ
 valueSize r room =
     cond (readable r)
     (cond (ltb room (length (bytesOf r))) (refuses 7 []) (gives (length (bytesOf r))))
     (refuses 9 [])
 
--- a record's TLV: "on writing 16, 9, 3, 4, 5, 8, 7", of which a record, whose type has its kind, can have 9, 8 and 7
+-- Rules O1 and O3: a record's TLV. 9 comes first, then 8 and 7 by rule B5. The other numbers of O3 can't come: a record
+-- has a kind, and no bytes are read.
 unfoldable pub recordSize : Record → ℕ → Answer ℕ
 recordSize r room = cond (readable r) (writeSize (length (bytesOf r)) room) (refuses 9 [])

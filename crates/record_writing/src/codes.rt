@@ -1,4 +1,5 @@
-// The byte of each case of a code, and the lowest byte that is read as that case: a Reserved below it has a named code.
+// The byte for each case of a code, and the lowest byte that is read as that case. A code that is given as reserved and
+// lies below that byte has a name, or is profile 0 (rules K5 and O1).
 use records::AssociationState;
 use records::ByteCounterUnits;
 use records::Ieee1905ProfileVersion;

@@ -1,4 +1,4 @@
-// Records written as typed values: the value alone, or the whole TLV.
+// Writing a record (rules O1, O3 and O4): its value alone, or the whole TLV.
 use framing::Written;
 use numbers::Refusal;
 use records::Record;
@@ -13,7 +13,7 @@ ghost use Rattle.records.specs.Values.{bytesOf};
 ghost use Rattle.records.specs.Kinds.{kindOf, codeOf};
 ghost use Rattle.record_writing.specs.Writing.{valueSize, recordSize};
 
-// The bytes that a record's value takes: what a caller lends to `write_value`, and 3 more to `write_record`.
+// How many bytes a record's value has (rule O4). `write_value` needs room for as many, `write_record` for 3 more.
 pub fn size_of(item: Record) -> usize
     ensures { λ r. ⌜ r ≡ length (bytesOf item) ⌝ }
 {
@@ -21,7 +21,7 @@ pub fn size_of(item: Record) -> usize
     value.size
 }
 
-// The value of a record, at the start of the buffer.
+// Writes the value of a record at the start of `out` (rule O4).
 pub fn write_value(item: Record, out: &mut [u8]) -> Written
     ensures answer { λ r. ⌜ writtenOf r ≡ valueSize item (length (now (out .entry))) ⌝ }
     ensures bytes { λ _. ⌜ now (out .exit) ≡ leaves (valueSize item (length (now (out .entry)))) (bytesOf item) (now (out .entry)) ⌝ }
@@ -37,8 +37,8 @@ pub fn write_value(item: Record, out: &mut [u8]) -> Written
     Written::Refused(Refusal::NeverRead)
 }
 
-// The TLV of a record, at the start of the buffer. The value is written into the part behind the three header bytes. Refusal 8, which framing
-// gives for a value above 65,535 bytes, never comes: no record has more than 13.
+// Writes the TLV of a record at the start of `out` (rules O1 and O3). The value goes into the room after the first
+// three bytes. Refusal 8 never comes, because no value of a record has more than 13 bytes.
 pub fn write_record(item: Record, out: &mut [u8]) -> Written
     ensures answer { λ r. ⌜ writtenOf r ≡ recordSize item (length (now (out .entry))) ⌝ }
     ensures bytes { λ _. ⌜ now (out .exit) ≡ leaves (recordSize item (length (now (out .entry)))) (tlvBytes (codeOf (kindOf item)) (bytesOf item)) (now (out .entry)) ⌝ }

@@ -1,4 +1,4 @@
-// Writing: which records reading gives, and the bytes of a record's value.
+// Which records can be written (rule O1), and the bytes of a record's value.
 use crate::codes::band_byte;
 use crate::codes::lowest_band;
 use crate::codes::lowest_profile;
@@ -22,8 +22,7 @@ ghost use lib.ListN.{length, take, drop};
 ghost use Rattle.records.specs.Values.{octets, bit, flagsOf, queryBytes, associationBytes, capabilityBytes, bytesOf};
 ghost use Rattle.record_writing.specs.Writing.{agrees, readable};
 
-// Whether reading can give this record: not where a role is not 0, a code with a name is kept as one without, a query has an address that its type
-// excludes, or three reserved bits are above 7.
+// Whether reading can return this record (rule O1).
 pub(crate) fn is_readable(item: Record) -> bool
     ensures { λ r. ⌜ r ≡ readable item ⌝ }
 {
@@ -43,6 +42,7 @@ pub(crate) fn is_readable(item: Record) -> bool
     }
 }
 
+// A query has an address if its type is 1, and not otherwise (rule O1).
 fn query_readable(query: LinkMetricQuery) -> bool
     ensures { λ r. ⌜ r ≡ agrees (query .«neighbor_type») (query .«neighbor_mac») ⌝ }
 {
@@ -53,7 +53,7 @@ fn query_readable(query: LinkMetricQuery) -> bool
     }
 }
 
-// The value of a record goes to the start of a buffer that has room for it.
+// Copies the value of a record to the start of `out`, which has room for it.
 pub(crate) fn put_value(item: Record, out: &mut [u8])
     requires { ⌜ length (bytesOf item) ≤ length (now out) ⌝ }
     ensures { λ _. ⌜ now (out .exit) ≡ bytesOf item ++ drop (length (bytesOf item)) (now (out .entry)) ⌝ }
@@ -191,7 +191,7 @@ fn capability_value(c: Profile2ApCapability) -> Value
     }
 }
 
-// The third byte of a capability: units in bits 7-6, flags in bits 5, 4 and 3, reserved bits 2-0.
+// Byte 2 of a capability: its units, its three flags and its reserved bits (rule K6).
 fn flags_of(c: Profile2ApCapability) -> u8
     ensures { λ r. ⌜ r ≡ flagsOf c ⌝ }
 {
