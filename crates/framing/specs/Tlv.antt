@@ -60,7 +60,8 @@ writtenOf (Written.Refused r) = told r
 abbrev pub longestValue : ℕ
 longestValue = 65535
 
--- Rule B5: writing a TLV whose value has n bytes answers 8, then 7, or the number of bytes written.
+-- Rule B5: a TLV whose value has n bytes is refused by 8, then by 7. Otherwise the answer is the number of bytes
+-- written.
 unfoldable pub writeSize : ℕ → ℕ → Answer ℕ
 writeSize n room = cond (ltb longestValue n) (refuses 8 []) (cond (ltb room (3 + n)) (refuses 7 []) (gives (3 + n)))
 

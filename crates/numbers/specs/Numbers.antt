@@ -1,4 +1,4 @@
--- Rule N1: the number of each refusal, and the values that it carries.
+-- Rule N1: the number for each refusal, and the values that it carries.
 use mathlib.Core.Bool.{Bool, true, false}
 use mathlib.Core.List.{List, [], _∷_}
 use Prim.Native.Nat.{ℕ}
@@ -26,7 +26,7 @@ abbrev pub isGiven : {A : Type 0} → Answer A → Bool
 isGiven (gives a) = true
 isGiven (refuses n vs) = false
 
--- Rule N1: the number of each refusal and what it carries. 1 and 2 carry the shortfall, 13 the length of the message,
+-- Rule N1: the number for each refusal, and what it carries. 1 and 2 carry the shortfall, 13 the length of the message,
 -- and the others nothing. A walk adds an offset in front (rule N3).
 abbrev pub numbered : Refusal → ℕ × List ℕ
 numbered (TooFewBytes missing) = (1, missing ∷ [])

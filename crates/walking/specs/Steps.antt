@@ -22,7 +22,7 @@ walkBy size (gives (passed a next)) on = record { items = a ∷ on next .items; 
 walkBy size (gives (last a end)) on = record { items = a ∷ []; end = gives (size - end) }
 walkBy size (refuses n vs) on = record { items = []; end = refuses n vs }
 
--- the walk by a step over `size` bytes, from the offset `at` on, over a limited number of items
+-- the walk by a step over `size` bytes, from the offset `at` on, over at most a given number of items
 unfoldable pub walkFrom : {A : Type 0} → (ℕ → Answer (Ahead A)) → ℕ → ℕ → ℕ → Walk A
 walkFrom step size zero at = record { items = []; end = gives 0 }
 walkFrom step size (suc most) at = walkBy size (step at) (λ next. walkFrom step size most next)
