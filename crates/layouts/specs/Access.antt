@@ -59,11 +59,11 @@ lengthAt l is s = andThen (findEntry l is s 0) (λ f. mapped (λ m. m .many) (li
 unfoldable pub ofValue : {A : Type 0} → (Layout → List ℕ → Answer A) → ListKind → List ℕ → Answer A
 ofValue f k s = andThen (readAs k s) (λ r. f (k .layout) s)
 
--- Rules E1 and E2, by the code of the kind.
+-- Rules E1 and E2, for the list kinds.
 unfoldable pub locateEntry : ℕ → List ℕ → List ℕ → Answer Span
 locateEntry code is s = andThen (layoutOf code) (λ k. ofValue (λ l t. spanOf l is t) k s)
 
--- Rule E3, by the code of the kind.
+-- Rule E3, for the list kinds.
 unfoldable pub countEntries : ℕ → List ℕ → List ℕ → Answer ℕ
 countEntries code is s = andThen (layoutOf code) (λ k. ofValue (λ l t. lengthAt l is t) k s)
 

@@ -71,7 +71,7 @@ table =
     line 30 refused (c1-of (6 then c2-of (6 then c2-of (bytes 6)))) ∷
     []
 
--- Rule K1: the line with this code; 16 where there is none.
+-- The line with this code; 16 where no list kind has it. Rule K1 asks this of all kinds, in the crate `kinds`.
 abbrev pub lineOf : ℕ → List Line → Answer ListKind
 lineOf n [] = refuses 16 []
 lineOf n (l ∷ ls) = cond (eqb n (l .code)) (gives (l .kind)) (lineOf n ls)

@@ -27,7 +27,8 @@ abbrev pub headOf : Layout → ℕ
 headOf (bytes n) = n
 headOf (entry n w e) = n
 
--- Rule K3: the list at p, by its count. A list to the end has as many whole entries of h bytes as fit.
+-- Rule K3: the list at p, by its count. A list to the end has as many whole entries of h bytes as fit, and none if h is
+-- 0.
 unfoldable pub countAt : Counting → ℕ → List ℕ → ℕ → Answer ListAt
 countAt c1 h s p = reaching (p + 1) s (record { many = numberAt 1 p s; first = p + 1 })
 countAt c2 h s p = reaching (p + 2) s (record { many = numberAt 2 p s; first = p + 2 })
@@ -77,6 +78,6 @@ consumedTo refused e n s = cond (ltb e (length s)) (refuses 4 []) (gives (record
 unfoldable pub readAs : ListKind → List ℕ → Answer Consumed
 readAs k s = andThen (listOf (k .layout) s 0) (λ m. andThen (endOf (k .layout) s 0) (λ e. consumedTo (k .rest) e (m .many) s))
 
--- Rule K1: the value of the kind with this code. No list kind has it: 16.
+-- Rule K1, for the list kinds: the value of the kind with this code.
 unfoldable pub readValue : ℕ → List ℕ → Answer Consumed
 readValue code s = andThen (layoutOf code) (λ k. readAs k s)

@@ -1,5 +1,6 @@
 // The list kinds (rules K2 to K4): values that hold a list of entries, which may hold lists themselves. There is one
 // table of rows. A list reader and an entry reader call each other. Numbers lead to an entry (rule E1).
+// These calls know the list kinds alone, and refuse any other code by 16. The crate `kinds` knows every kind.
 mod access;
 mod lists;
 mod rows;

@@ -29,7 +29,8 @@ pub(crate) fn reach(n: usize, s: &[u8], at: usize) -> Ending
     Ending::At(at + n)
 }
 
-// The list at `at` whose count has w bytes (rule K3). Its entries begin with h bytes.
+// The list at `at` whose count has w bytes (rule K3). Its entries begin with h bytes. A list to the end has no entry if
+// h is 0.
 pub(crate) fn count_at(w: u8, h: usize, s: &[u8], at: usize) -> Listing
     requires { ⌜ at ≤ length (now s) ⌝ }
     ensures { λ r. ⌜ listingOf r ≡ countAt (counting w) h (now (s .entry)) at ⌝ }

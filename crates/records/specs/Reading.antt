@@ -57,7 +57,7 @@ ofKind RecordKind.ClientAssociation s = fixed 13 (eqb (getD s 12 0 % 128) 0) (Re
 ofKind RecordKind.MultiApProfile s = fixed 1 (ltb 0 (getD s 0 0)) (Record.MultiApProfile (profileOf (getD s 0 0))) s
 ofKind RecordKind.Profile2ApCapability s = fixed 4 any (Record.Profile2ApCapability (capabilityIn s)) s
 
--- Rule K1: the kind with this code; 16 where none has it.
+-- The kind with this code; 16 where no record kind has it. Rule K1 asks this of all kinds, in the crate `kinds`.
 abbrev pub withCode : ℕ → List RecordKind → Answer RecordKind
 withCode c [] = refuses 16 []
 withCode c (k ∷ ks) = cond (eqb c (codeOf k)) (gives k) (withCode c ks)
@@ -66,6 +66,6 @@ withCode c (k ∷ ks) = cond (eqb c (codeOf k)) (gives k) (withCode c ks)
 abbrev pub isRecord : ℕ → Bool
 isRecord c = isGiven (withCode c recordKinds)
 
--- Rule K1: the value of the record kind with this code. The order is 16, then 3 or 4, then 5 (rules K7 and N2).
+-- Rule K1, for the record kinds: the value of the kind with this code. The order is 16, 3, 4, 5 (rules K7 and N2).
 unfoldable pub readRecord : ℕ → List ℕ → Answer RecordRead
 readRecord c s = andThen (withCode c recordKinds) (λ k. ofKind k s)

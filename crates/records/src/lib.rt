@@ -1,5 +1,6 @@
 // The record kinds (rule K2), read by their code (rule K1). The crate `record_writing` writes them. The types have the
-// original's names (cmdu_codec.rs).
+// original's names (cmdu_codec.rs). These calls know the record kinds alone, and refuse any other code by 16. The crate
+// `kinds` knows every kind.
 use numbers::Refusal;
 
 mod reading;
