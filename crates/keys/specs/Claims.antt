@@ -5,15 +5,15 @@ use Prim.Native.Nat.{ℕ, _*_, _<_}
 use Rattle.numbers.specs.Firmness.{Firm}
 use Rattle.keys.specs.Keys.{keyOf, Origin, keyFor, senderOf, idOf, senderBytes}
 
--- any two keys that its contract allows are one
+-- Rule A4: any two keys that the contract allows are equal.
 pub record Firmness : Type 0 where
   pub key-of : (s0 s1 s2 s3 s4 s5 id : ℕ) → Firm (λ key. key ≡ keyOf (s0 ∷ s1 ∷ s2 ∷ s3 ∷ s4 ∷ s5 ∷ []) id)
 
--- a key is one sender's and one message id's
+-- Rule T2: no two senders and ids share a key.
 abbrev pub KeyIsOne's : Type 0
 KeyIsOne's = (a b : Origin) → keyFor a ≡ keyFor b → (a .sender ≡ b .sender) × (a .message-id ≡ b .message-id)
 
--- both can be read back from it,
+-- both can be read back from the key,
 abbrev pub OriginRead : Type 0
 OriginRead = (o : Origin) → (senderBytes (senderOf (keyFor o)) ≡ o .sender) × (idOf (keyFor o) ≡ o .message-id)
 

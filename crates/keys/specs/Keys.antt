@@ -1,14 +1,15 @@
--- A key is a sender's six bytes and a message id, written as one number: the bytes in their order, then the id.
+-- Keys (rule T2), and how the sender and the message id are read back from one.
 use mathlib.Core.Path.{_≡_}
 use mathlib.Core.List.{List}
 use Prim.Native.Nat.{ℕ, _+_, _*_, _/_, _%_, _<_}
 use lib.ListN.{length}
 use Rattle.numbers.specs.Bytes.{bigEndian, inBytes, AllBytes}
 
+-- Rule T2: a key is one number, the sender's six bytes in their order and then the two bytes of the id.
 abbrev pub keyOf : List ℕ → ℕ → ℕ
 keyOf sender message-id = bigEndian sender * 65536 + message-id
 
--- whose message: a sender, by its six bytes, and a message id of two
+-- Rule T2: whose message it is, by a sender of six bytes and a message id of two.
 pub record Origin : Type 0 where
   pub sender : List ℕ
   pub message-id : ℕ
@@ -19,7 +20,7 @@ pub record Origin : Type 0 where
 abbrev pub keyFor : Origin → ℕ
 keyFor o = keyOf (o .sender) (o .message-id)
 
--- the way back: the sender is the key's upper 48 bits, as one number or in its six bytes, and the id its lower 16
+-- the way back: the sender is the key's upper 48 bits, as one number or as six bytes; the id is its lower 16 bits
 abbrev pub senderOf : ℕ → ℕ
 senderOf key = key / 65536
 

@@ -1,10 +1,10 @@
-// A key: a sender and a message id as one number. Every fragment of a message is pushed under its key.
+// Keys (rule T2): a sender and a message id as one number. Each fragment of a message is pushed under its key.
 
 ghost use mathlib.Core.Path.{_≡_};
 ghost use mathlib.Core.List.{[], _∷_};
 ghost use Rattle.keys.specs.Keys.{keyOf};
 
-// The key of a sender, by its six bytes in their order, and a message id.
+// Rule T2: the key of a sender, whose six bytes come in their order, and a message id.
 pub fn key_of(s0: u8, s1: u8, s2: u8, s3: u8, s4: u8, s5: u8, message_id: u16) -> u64
     ensures { λ r. ⌜ r ≡ keyOf (s0 ∷ s1 ∷ s2 ∷ s3 ∷ s4 ∷ s5 ∷ []) «message_id» ⌝ }
 {
