@@ -1,4 +1,4 @@
--- "How many": the numbers that pass a test, counted.
+-- How many numbers pass a test. It counts the keys that a sweep drops (rule S2) and the stations held (rule P7).
 use mathlib.Core.Bool.{Bool, cond}
 use Prim.Native.Nat.{ℕ, zero, suc, _+_}
 

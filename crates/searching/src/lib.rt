@@ -1,2 +1,2 @@
-// The least number that passes a test, how many pass, and the laws of both: what every look-up and every count over a table means, whatever the table. No code, only
-// the definitions and what is proved of them.
+// The least number that passes a test, how many numbers pass, and the laws of both. They state every look-up in a table
+// and every count over one. There is no code here, only definitions and what is proved of them.
