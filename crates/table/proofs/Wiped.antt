@@ -22,7 +22,7 @@ module _ {A : Type 0} (owner : ℕ) (blank : A) where
   either-blank true = refl
   either-blank false = refl
 
-  -- an owner is 1 or more, so a list that is longer than that of the owners stays behind its end
+  -- an owner is 1 or more, so a list that is longer than that of the owners stays as it is after the owners' end
   pub wiped-at : 1 ≤ owner → (os : List ℕ) (xs : List A) (i : ℕ) → getD (wiped owner blank os xs) i blank ≡ cond (eqb (getD os i 0) owner) blank (getD xs i blank)
   unfolding wiped
   wiped-at h [] xs i = rw (ne-eqb 0 owner (λ e. omega arith))

@@ -5,7 +5,7 @@ use Rattle.numbers.specs.Firmness.{Firm}
 use Rattle.table.specs.declared.Table.{Table}
 use Rattle.table.specs.Rows.{freshTable, droppedKey}
 
--- each public call by its name: any two tables that its contract allows are one
+-- Rule A4, for each public call by its name: any two tables that its contract allows are equal.
 pub record Firmness : Type 0 where
   pub fresh : Firm {A = Table} (λ r. r ≡ freshTable)
   pub without-key : (t : Table) (row : ℕ) → Firm {A = Table} (λ r. r ≡ droppedKey t row)

@@ -1,4 +1,4 @@
--- The table's rows and places (document 01, "The table").
+-- The table's rows and places (rules T1, T3, T6, T12 and T14).
 use mathlib.Core.List.{List, [], _∷_}
 use mathlib.Core.Bool.{Bool, true, false, cond, not, _&&_}
 use Prim.Native.Nat.{ℕ, _+_, _*_}
@@ -7,7 +7,7 @@ use lib.ListN.{take, drop, getD, set, replicate}
 use Rattle.table.specs.declared.Table.{Table}
 use Rattle.searching.specs.Search.{lowest}
 
--- "Room: 16 keys; 32 places of 1,492 bytes in a lent store of at least 47,744."
+-- Rule T1: a table has 16 rows for keys and 32 places for fragments. The store has 1,492 bytes for each place.
 abbrev pub keys : ℕ
 keys = 16
 
@@ -20,7 +20,8 @@ placeSize = 1492
 abbrev pub storeSize : ℕ
 storeSize = places * placeSize
 
--- what a place holds: a fragment, but for its payload's bytes and its last mark (only fragments that are not marked are kept); its owner is 1 more than the row that it belongs to, and 0 where the place holds nothing
+-- Rules T1 and T3: what a place holds. It is a fragment without its payload, which lies in the store, and without its
+-- last mark, which no kept fragment has. The owner is 1 more than the row of the key, and 0 where the place is free.
 pub record Place : Type 0 where
   pub message-type : ℕ
   pub size : ℕ
@@ -31,9 +32,11 @@ pub record Place : Type 0 where
 abbrev pub ownerOf : ℕ → ℕ
 ownerOf row = row + 1
 
+-- Rule T14: a free place is zero in each field.
 abbrev pub freePlace : Place
 freePlace = record { message-type = 0; size = 0; owner = 0; number = 0; version = 0 }
 
+-- Rule T14: a fresh table holds nothing, and is zero in each field.
 abbrev pub freshTable : Table
 freshTable =
     record {
@@ -47,14 +50,14 @@ freshTable =
       used = replicate keys false;
     }
 
--- the row of a key, the number of keys where the table holds nothing under it
+-- Rule T1: the row of a key, or `keys` where the table holds nothing under it.
 abbrev pub isRowOf : Table → ℕ → ℕ → Bool
 isRowOf t key row = getD (t .used) row false && eqb (getD (t .«row_keys») row 0) key
 
 abbrev pub rowOf : Table → ℕ → ℕ
 rowOf t key = lowest (isRowOf t key) keys
 
--- the lowest row that no key has, the number of keys where all have one
+-- Rule T6: the lowest free row, or `keys` where each row has a key.
 abbrev pub isSpare : Table → ℕ → Bool
 isSpare t row = not (getD (t .used) row false)
 
@@ -72,21 +75,21 @@ placeAt t i =
       version = getD (t .versions) i 0;
     }
 
--- the place in which a row holds the fragment with a number, the number of places where it holds none
+-- Rule T5: the place in which a row holds the fragment with this number, or `places` where it holds none.
 abbrev pub isNumbered : (owner number : ℕ) → Place → Bool
 isNumbered owner number p = eqb (p .owner) owner && eqb (p .number) number
 
 abbrev pub placeOf : Table → ℕ → ℕ → ℕ
 placeOf t row number = lowest (λ i. isNumbered (ownerOf row) number (placeAt t i)) places
 
--- "the lowest free place", the number of places where all are used
+-- Rule T6: the lowest free place, or `places` where none is free.
 abbrev pub isFree : Place → Bool
 isFree p = eqb (p .owner) 0
 
 abbrev pub lowestFree : Table → ℕ
 lowestFree t = lowest (λ i. isFree (placeAt t i)) places
 
--- the table with a key at a row that was spare, and with a fragment at a place
+-- Rule T6: the table with a key at a row that was free, and with a fragment at a place.
 abbrev pub withKey : Table → (row key time : ℕ) → Table
 withKey t row key time =
     record {
@@ -113,13 +116,13 @@ withPlace t i p =
       used = t .used;
     }
 
--- a list of the places after an owner's are freed: a blank stands where the list of owners has this owner
+-- a list of the places once those of an owner are freed: a blank stands where the list of owners has this owner
 unfoldable pub wiped : {A : Type 0} → ℕ → A → List ℕ → List A → List A
 wiped owner blank [] xs = xs
 wiped owner blank (o ∷ os) [] = []
 wiped owner blank (o ∷ os) (x ∷ xs) = cond (eqb o owner) blank x ∷ wiped owner blank os xs
 
--- the table after a row's key is dropped: the row and its places are as fresh ones
+-- Rule T12: the table after a row's key is dropped. The row and its places are as fresh ones.
 unfoldable pub without : Table → ℕ → Table
 without t row =
     record {
@@ -133,10 +136,10 @@ without t row =
       used = set (t .used) row false;
     }
 
--- "the key is dropped", if it is there
+-- Rules T7 and T12: the key of a row is dropped, if the table has this row.
 abbrev pub droppedKey : Table → ℕ → Table
 droppedKey t row = cond (ltb row keys) (without t row) t
 
--- the bytes that place i of the store holds
+-- Rule T1: the payload in place i of the store, from byte 1,492 times i on.
 abbrev pub bytesAt : List ℕ → ℕ → ℕ → List ℕ
 bytesAt store i size = take size (drop (i * placeSize) store)

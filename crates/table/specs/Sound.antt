@@ -1,4 +1,6 @@
--- What holds of every table that the calls make of a fresh one: its lists have their lengths, each place's size and number fit, belong to a row that a key has, and are the only ones with their number there; and no key has two rows.
+-- What holds of every table that the calls make from a fresh one (rules T1, T5 and T6). Its lists have their lengths.
+-- Each place's size and number are in range. A place that is not free belongs to a row that has a key, and no other
+-- place of that row has its number. No key has two rows.
 use mathlib.Core.Path.{_≡_}
 use mathlib.Core.Bool.{true, false}
 use Prim.Native.Nat.{ℕ, _≤_, _<_}
