@@ -6,7 +6,7 @@ use Rattle.table.specs.declared.Table.{Table}
 use Rattle.sweeping.specs.declared.Swept.{Swept}
 use Rattle.sweeping.specs.Sweep.{swept}
 
--- any two tables with a number that its contract allows are one
+-- Rule A4: any two results that the contract allows are equal, in the table and in the number.
 pub record Firmness : Type 0 where
   pub sweep-step : (t : Table) (time : ℕ) → Firm {A = Swept} (λ r. r ≡ swept t time)
 

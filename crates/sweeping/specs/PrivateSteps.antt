@@ -7,7 +7,7 @@ use lib.ListN.{getD}
 use Rattle.table.specs.Rows.{keys}
 use Rattle.sweeping.specs.Sweep.{isOld}
 
--- a row's key is too old, by the lists that are lent
+-- Rule S1: a row's key is too old, by the lists that are lent.
 abbrev pub oldIn : List Bool → List ℕ → (now-ms row : ℕ) → Bool
 oldIn used firsts now-ms row = getD used row false && isOld now-ms (getD firsts row 0)
 

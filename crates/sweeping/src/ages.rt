@@ -1,4 +1,4 @@
-// When a sweep drops a key: its lifetime has passed since its first fragment came.
+// Rule S1: when a sweep drops a key. Its lifetime has passed since its first fragment came.
 use table::KEYS;
 ghost use mathlib.Core.Path.{_≡_};
 ghost use mathlib.Core.Bool.{_&&_};
@@ -7,10 +7,10 @@ ghost use Rattle.table.specs.Rows.{keys};
 ghost use Rattle.sweeping.specs.Sweep.{isOld};
 ghost use Rattle.sweeping.specs.PrivateSteps.{Next};
 
-// How many milliseconds a key stays.
+// Rule S1: after how many milliseconds a key is dropped.
 const LIFETIME: u64 = 3000;
 
-// Whether a key is too old. The clock may have gone back.
+// Rule S1: whether a key is too old. It is not if the clock went back.
 pub(crate) fn is_expired(used: bool, first: u64, time: u64) -> bool
     ensures { λ r. ⌜ r ≡ (used && isOld time first) ⌝ }
 {
@@ -24,7 +24,8 @@ pub(crate) fn is_expired(used: bool, first: u64, time: u64) -> bool
     false
 }
 
-// The next row from `from` on whose key is too old, `KEYS` where there is none. Rows are passed over here, with nothing of the table copied.
+// The next row from `from` on whose key is too old, `KEYS` where there is none. The other rows are passed over here,
+// where nothing of the table is copied.
 pub(crate) fn next_expired<'a>(
     used: &'a [bool; KEYS],
     firsts: &'a [u64; KEYS],

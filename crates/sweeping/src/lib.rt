@@ -1,4 +1,4 @@
-// The sweep of the fragment table: keys that are too old are dropped and counted.
+// The sweep of the fragment table (rules S1 and S2): keys that are too old are dropped and counted.
 
 mod ages;
 
@@ -9,13 +9,13 @@ use table::without_key;
 ghost use mathlib.Core.Path.{_≡_};
 ghost use Rattle.sweeping.specs.Sweep.{swept};
 
-// The table after a sweep, and how many keys were dropped.
+// The table after a sweep, and how many keys it dropped (rule S2).
 pub struct Swept {
     pub table: Table,
     pub dropped: usize,
 }
 
-// The table without the keys that are too old at `time`, and how many they were.
+// Rules S1 and S2: the table without the keys that are too old at `time`, and how many they were.
 pub fn sweep_step(t: Table, time: u64) -> Swept
     ensures { λ r. ⌜ r ≡ swept t time ⌝ }
 {
