@@ -132,7 +132,7 @@ module _ (sizes store payload : List ℕ) where
   pub pasted-out : (piece at : ℕ) (d : List ℕ) → 32 ≤ piece → paste d at payload (length payload) ≡ paste d at (pieceBytes sizes store payload piece) (length (pieceBytes sizes store payload piece))
   pasted-out piece at d h = ap (λ (l : List ℕ). paste d at l (length l)) (sym (piece-out piece h))
 
--- the pieces, one behind the other
+-- the pieces, one after the other
 module _ (sizes owners numbers store : List ℕ) (row number : ℕ) (payload : List ℕ) where
   abbrev upto : ℕ → List ℕ
   upto = piecesTo sizes owners numbers store row number payload

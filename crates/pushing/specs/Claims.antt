@@ -18,16 +18,18 @@ use Rattle.pushing.specs.Push.{way, tableBy, storeBy, outputBy, answerBy
 use Rattle.pushing.specs.Show.{shown}
 use Rattle.pushing.specs.Made.{Made}
 
--- any two outcomes that its contract allows are one: the answer and the table, every byte of the store and of the output
+-- Rule A4: any two outcomes that the contract allows are equal, in the answer, the table, and every byte of the store
+-- and of the output.
 pub record Firmness : Type 0 where
   pub push-step : (t : Table) (store out : List ℕ) (a : Arrival) (payload : List ℕ)
       → Firm {A = AfterPush × List ℕ × List ℕ} (λ o. Goes (way t store a payload (length out)) t store out a payload (o .0 .answer) (o .0 .table) (o .1) (o .2))
 
--- a table that these calls made stays one, by what each call ensures: the next may be called on what the last one left
+-- Rule A1: a table that these calls made stays one, by what each call ensures. So the next call may take what the last
+-- one left.
 abbrev pub FreshMade : Type 0
 FreshMade = (t : Table) → t ≡ freshTable → Made t
 
--- a fragment's number is one byte
+-- a fragment's number is one byte (rule B6)
 abbrev pub PushMade : Type 0
 PushMade = (t : Table) (store out : List ℕ) (a : Arrival) (payload : List ℕ) (answer′ : Pushed) (t′ : Table) (store′ out′ : List ℕ) → Made t → a .fragment .number < 256
     → Goes (way t store a payload (length out)) t store out a payload answer′ t′ store′ out′ → Made t′
@@ -35,7 +37,7 @@ PushMade = (t : Table) (store out : List ℕ) (a : Arrival) (payload : List ℕ)
 abbrev pub SweepMade : Type 0
 SweepMade = (t : Table) (time : ℕ) (t′ : Table) (dropped : ℕ) → Made t → sweptAs t′ dropped ≡ swept t time → Made t′
 
--- and it is sound
+-- such a table is sound (rules T1, T5 and T6)
 abbrev pub MadeSound : Type 0
 MadeSound = (t : Table) → Made t → Sound t
 
@@ -43,22 +45,22 @@ MadeSound = (t : Table) → Made t → Sound t
 abbrev pub Untouched : (key : ℕ) (t t′ : Table) (store store′ : List ℕ) → Type 0
 Untouched key t t′ store store′ = ((number : ℕ) → heldBy t′ store′ key number ≡ heldBy t store key number) × (firstTime t′ key ≡ firstTime t key)
 
--- a push under another key, refused or not, leaves them so
+-- A push under another key, refused or not, leaves them the same. Rules D3 and D5 rest on this.
 abbrev pub PushUntouched : Type 0
 PushUntouched = (t : Table) → Sound t → (store : List ℕ) (a : Arrival) (payload : List ℕ) (room key : ℕ) → (a .key ≡ key → ⊥)
     → Untouched key t (tableBy (way t store a payload room) t a (length payload)) store (storeBy (way t store a payload room) store payload)
 
--- document 02, 2026-05: "From now on a duplicate leaves the kept fragment untouched." A push that is answered `DuplicatedFragment` leaves the table, the store and the output as they were
+-- Rule T5: a push that is answered `DuplicatedFragment` leaves the table, the store and the output as they were.
 abbrev pub DuplicateUntouched : Type 0
 DuplicateUntouched = (t : Table) (store out : List ℕ) (a : Arrival) (payload : List ℕ) (t′ : Table) (store′ out′ : List ℕ)
     → Goes (way t store a payload (length out)) t store out a payload DuplicatedFragment t′ store′ out′ → (t′ ≡ t) × (store′ ≡ store) × (out′ ≡ out)
 
--- document 01, on refusals: "Nothing lent changes." A push that is refused, by any number, leaves all three as they were
+-- Rule A3: a push that is refused, by any number, leaves all three as they were.
 abbrev pub RefusalUntouched : Type 0
 RefusalUntouched = (t : Table) (store out : List ℕ) (a : Arrival) (payload : List ℕ) (refusal : Refusal) (t′ : Table) (store′ out′ : List ℕ)
     → Goes (way t store a payload (length out)) t store out a payload (Refused refusal) t′ store′ out′ → (t′ ≡ t) × (store′ ≡ store) × (out′ ≡ out)
 
--- what is shown of a push is the same whatever the output held
+-- Rules T9 and T10: what is shown after a push is the same whatever the output held before it.
 abbrev pub ShownSame : Type 0
 ShownSame = (t : Table) (store : List ℕ) (a : Arrival) (payload : List ℕ) (room : ℕ) (out : List ℕ)
     → shown (answerBy (way t store a payload room)) payload (outputBy (way t store a payload room) out) ≡ shown (answerBy (way t store a payload room)) payload (outputBy (way t store a payload room) [])

@@ -1,4 +1,4 @@
--- What a key holds, fragment by number, and what the joining rule asks of it (document 01, "The table", "Joining").
+-- What a key holds, fragment by number (rule T3), and what joining asks of it (rules T7 to T9).
 use mathlib.Core.List.{List, [], _++_}
 use mathlib.Core.Bool.{Bool, true, false, cond, not, _&&_}
 use Prim.Native.Nat.{ℕ, zero, suc}
@@ -10,7 +10,7 @@ use Rattle.searching.specs.Search.{lowest, some}
 use Rattle.sweeping.specs.Sweep.{isOld}
 use Rattle.table.specs.Rows.{keys, places, Place, placeAt, placeOf, rowOf, bytesAt}
 
--- "A fragment is its version, type, number, last mark and payload"; the number is where it stands among the key's fragments
+-- Rule T3: a fragment. Its number is no field here: it is where the fragment stands among those of its key.
 pub record Held : Type 0 where
   pub version : ℕ
   pub message-type : ℕ
@@ -29,7 +29,7 @@ abbrev pub isKept : Kept → Bool
 isKept nothing = false
 isKept (kept h) = true
 
--- as it arrives, and as a place keeps it: none that is kept is marked last, because step 3 of push keeps no other
+-- Rule T3: a fragment as it arrives, and as a place keeps it. No kept one is marked last: rule T6 keeps no other.
 abbrev pub heldOf : Fragment → List ℕ → Held
 heldOf f payload = record { version = f .version; message-type = f .«message_type»; last = f .last; payload = payload }
 
@@ -47,7 +47,7 @@ heldIn t store row number = keptAt t store (placeOf t row number)
 abbrev pub heldBy : Table → List ℕ → ℕ → Fragments
 heldBy t store key = heldIn t store (rowOf t key)
 
--- when a key's first fragment came, if the table holds the key
+-- Rule T6: a key's first time, if the table holds the key.
 pub data Since : Type 0 where
   never : Since
   since : ℕ → Since
@@ -55,16 +55,16 @@ pub data Since : Type 0 where
 unfoldable pub firstTime : Table → ℕ → Since
 firstTime t key = cond (ltb (rowOf t key) keys) (since (getD (t .firsts) (rowOf t key) 0)) never
 
--- a sweep drops it
+-- Rule S1: a sweep drops a key with this first time, if it has one.
 abbrev pub due : ℕ → Since → Bool
 due now-ms never = false
 due now-ms (since first) = isOld now-ms first
 
--- "Join it with those kept."
+-- Rule T7: the fragments that the key holds, and the new one.
 abbrev pub andNew : Fragments → ℕ → Held → Fragments
 andNew fs number new k = cond (eqb k number) (kept new) (fs k)
 
--- "version or type not the same in all": one that is there differs from the new one
+-- Rule T8, first test: a fragment has another version or type than the new one.
 abbrev pub unlike : Held → Kept → Bool
 unlike new nothing = false
 unlike new (kept h) = not (eqb (h .version) (new .version) && eqb (h .message-type) (new .message-type))
@@ -72,14 +72,15 @@ unlike new (kept h) = not (eqb (h .version) (new .version) && eqb (h .message-ty
 unfoldable pub inconsistentWith : Held → Fragments → Bool
 inconsistentWith new fs = some (λ k. unlike new (fs k)) 256
 
--- n, if the numbers are 0 to n-1: the lowest number that is not there
+-- Rule T8: the lowest number that is not there. It is n if the numbers are 0 to n - 1.
 unfoldable pub reach : Fragments → ℕ
 reach fs = lowest (λ k. not (isKept (fs k))) 256
 
--- "numbers not exactly 0 to n-1": one is there beyond the lowest that is not
+-- Rule T8, second test: a number is there above the lowest one that is not.
 unfoldable pub gapped : Fragments → Bool
 gapped fs = some (λ k. isKept (fs k) && ltb (reach fs) k) 256
 
+-- Rule T8, third test: a fragment is marked last. The test asks this of the one with the highest number.
 abbrev pub isLast : Kept → Bool
 isLast nothing = false
 isLast (kept h) = h .last
@@ -88,11 +89,11 @@ abbrev pub payloadOf : Kept → List ℕ
 payloadOf nothing = []
 payloadOf (kept h) = h .payload
 
--- the first n of some pieces, one behind the other
+-- the first n of some pieces, one after the other
 unfoldable pub inOrder : (ℕ → List ℕ) → ℕ → List ℕ
 inOrder piece zero = []
 inOrder piece (suc n) = inOrder piece n ++ piece n
 
--- "the payloads in number order", those of numbers below n
+-- Rule T9: the payloads with numbers below n, in the order of their numbers.
 abbrev pub payloads : Fragments → ℕ → List ℕ
 payloads fs = inOrder (λ k. payloadOf (fs k))

@@ -1,4 +1,4 @@
--- "A table is one that the fresh-table call and these calls made."
+-- Rule A1: the tables that push takes. `fresh` makes the first, and `push` and `sweep` make one from another.
 use mathlib.Core.List.{List}
 use Prim.Native.Nat.{ℕ, _<_}
 use lib.ListN.{length}

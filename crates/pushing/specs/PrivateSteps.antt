@@ -48,7 +48,8 @@ lookedIn used row-keys owners numbers key number = record {
   spare = spareRowIn used;
 }
 
--- where the piece with number k lies: in a place, at the number of places where there is none, and one behind that where it is the new fragment
+-- where the piece with number k lies: in a place, at `places` where there is none, and at the number after that where
+-- it is the new fragment
 abbrev pub newPiece : ℕ
 newPiece = places + 1
 
@@ -78,15 +79,15 @@ countFor owners numbers row number = lowest (isGap owners numbers row number) 25
 abbrev pub reachFor : (sizes owners numbers : List ℕ) → (row number size : ℕ) → Reach
 reachFor sizes owners numbers row number size = record { count = countFor owners numbers row number; total = sizeTo sizes owners numbers row number size (countFor owners numbers row number) }
 
--- a number that is there is beyond one that is not: the new one's, or one of a place
+-- Rule T8: a number that is there is above one that is not. It is the new one's, or one of a place.
 abbrev pub gapIn : (owners numbers : List ℕ) → (owner number count : ℕ) → Bool
 gapIn owners numbers owner number count = ltb count number || ltb (beyondIn owners numbers owner count) places
 
--- a last fragment, compared with those that its row holds
+-- Rule T8: a last fragment, compared with those that its row holds.
 abbrev pub comparedIn : (owners versions types : List ℕ) → ℕ → Fragment → Compared
 comparedIn owners versions types row f = record { row = row; number = f .number; unlike = ltb (unlikeIn owners versions types (ownerOf row) (f .version) (f .«message_type»)) places }
 
--- the joining rule for it
+-- Rules T8 and T9: the way of such a fragment.
 abbrev pub joinIn : (sizes owners numbers store payload : List ℕ) → Compared → (room : ℕ) → Way
 joinIn sizes owners numbers store payload last room =
     joinBy (last .unlike) (gapIn owners numbers (ownerOf (last .row)) (last .number) (countFor owners numbers (last .row) (last .number)))
@@ -100,11 +101,11 @@ stepWay found Duplicate joins = duplicate
 stepWay found Keep joins = cond (ltb (found .row) keys) (keepAt (found .free)) (openAt (found .free) (found .spare))
 stepWay found Join joins = joins
 
--- under which row a fragment is kept
+-- Rule T6: the row under which a fragment is kept.
 abbrev pub underRow : LookedUp → ℕ
 underRow found = cond (ltb (found .row) keys) (found .row) (found .spare)
 
--- the row whose key a way drops, the number of keys where it drops none
+-- Rule T7: the row whose key a way drops, or `keys` where it drops none.
 abbrev pub dropBy : Way → ℕ → ℕ
 dropBy (refuse n values) row = keys
 dropBy duplicate row = keys

@@ -1,4 +1,4 @@
--- The showing call (document 01, "The table"): "A single fragment's message is shown as the caller's payload, any other as the first bytes of the output buffer".
+-- Rule T10: the bytes of a message that are shown after a push.
 use mathlib.Core.List.{List, []}
 use mathlib.Core.Bool.{cond}
 use Prim.Native.Nat.{ℕ}
@@ -7,11 +7,12 @@ use lib.ListN.{length, take}
 use Rattle.numbers.specs.Numbers.{Answer, gives, refuses}
 use Rattle.pushing.specs.Push.{PushAnswer, waiting, duplicated, inconsistent, missing, missingLast, single, joined}
 
--- "A stated length beyond that slice shows its empty start"
+-- Rule T10: the first n bytes of a slice, or none where the slice has fewer.
 abbrev pub startOf : ℕ → List ℕ → List ℕ
 startOf n s = cond (leb n (length s)) (take n s) []
 
--- "an answer without a message shows the payload's [empty start]"
+-- Rule T10: a single fragment is shown from the payload, a joined message from the output. Where there is no message,
+-- no byte is shown.
 abbrev pub shown : Answer PushAnswer → List ℕ → List ℕ → List ℕ
 shown (gives waiting) payload out = []
 shown (gives duplicated) payload out = []

@@ -1,4 +1,4 @@
-// Which way a push goes: decided by what was looked up, before anything changes.
+// Which way a push goes (rules T4 to T7). What was looked up decides it, before anything changes.
 use crate::look::LookedUp;
 use numbers::Refusal;
 use table::KEYS;
@@ -10,16 +10,17 @@ ghost use Rattle.pushing.specs.Push.{Way, keepWay, wayBy};
 ghost use Rattle.pushing.specs.PrivateSteps.{stepWay, underRow};
 
 pub(crate) enum Step {
-    // nothing changes
+    // refused by 11, 12 or 10 (rules T4 and T6): nothing changes
     Refuse(Refusal),
+    // rule T5: the key holds this number already, and nothing changes
     Duplicate,
-    // the fragment goes to the lowest free place, under its key's row, or the lowest spare one
+    // rule T6: the fragment goes to the lowest free place, under its key's row or the lowest free one
     Keep,
-    // the fragment is marked last: it is joined with those kept
+    // rule T7: the fragment is marked last, and is joined with those that its key holds
     Join,
 }
 
-// Step 3 of push: a fragment that is not marked last is kept, if there is room.
+// Rule T6, step 3 of push: a fragment that is not marked last is kept, if there is room.
 fn keep(found: LookedUp) -> Step
     ensures { λ r. ⌜ ((joins : Way) → stepWay found r joins ≡ keepWay found) ⌝ }
 {
@@ -35,7 +36,7 @@ fn keep(found: LookedUp) -> Step
     Step::Keep
 }
 
-// The steps of push in their order, for a store and a payload of these lengths.
+// Rules T4 to T7: the steps of push in their order, for a store and a payload of these lengths.
 pub(crate) fn choose(found: LookedUp, stored: usize, size: usize, last: bool) -> Step
     ensures { λ r. ⌜ ((joins : Way) → stepWay found r joins ≡ wayBy stored size (found .place) last (keepWay found) joins) ⌝ }
 {
@@ -54,7 +55,7 @@ pub(crate) fn choose(found: LookedUp, stored: usize, size: usize, last: bool) ->
     keep(found)
 }
 
-// The row under which a fragment is kept.
+// Rule T6: the row under which a fragment is kept.
 pub(crate) fn under_row(found: LookedUp) -> usize
     ensures { λ r. ⌜ r ≡ underRow found ⌝ }
 {

@@ -1,4 +1,5 @@
-// Step 4 of push: a fragment marked last is joined with those kept. Each number is looked up as it is needed; no ordered copy is made.
+// Rules T7 to T9, step 4 of push: a fragment marked last is joined with those that its key holds. Each number is
+// looked up when it is needed. The fragments are never copied to be sorted.
 use crate::Fragment;
 use crate::Pushed;
 use crate::look::find_beyond;
@@ -19,10 +20,10 @@ ghost use Rattle.pushing.specs.Joining.{inOrder};
 ghost use Rattle.pushing.specs.Push.{over, joinBy};
 ghost use Rattle.pushing.specs.PrivateSteps.{fragmentAt, sizeAt, pieceBytes, piecesTo, reachFor, gapIn, comparedIn, joinIn, Judges, Ends};
 
-// Where the new fragment stands among the places: behind `PLACES`, which stands for none.
+// What stands for the new fragment among the places: the number after `PLACES`, which stands for none.
 const NEW_PIECE: usize = PLACES + 1;
 
-// Where the piece with number k lies.
+// Where the piece with number k lies: in a place, `PLACES` where there is none, `NEW_PIECE` for the new fragment.
 pub(crate) fn piece_at<'a>(
     owners: &'a [u8; PLACES],
     numbers: &'a [u8; PLACES],
@@ -45,7 +46,7 @@ fn wide(size: u16) -> usize
     size as usize
 }
 
-// The bytes of a piece; size is the new fragment's.
+// How many bytes a piece has; `size` is the new fragment's.
 pub(crate) fn size_at(sizes: &[u16; PLACES], size: usize, piece: usize) -> usize
     ensures { λ r. ⌜ r ≡ sizeAt (now (sizes .entry)) size piece ⌝ }
 {
@@ -55,7 +56,7 @@ pub(crate) fn size_at(sizes: &[u16; PLACES], size: usize, piece: usize) -> usize
     size
 }
 
-// How many numbers from 0 on are there without a gap, and how many bytes they have.
+// How many numbers from 0 on are there without a gap, and how many bytes their payloads have.
 pub(crate) struct Reach {
     pub count: usize,
     pub total: usize,
@@ -85,7 +86,7 @@ pub(crate) fn reach_of<'a>(
     Reach { count: k, total }
 }
 
-// Whether a number is there beyond one that is not.
+// Rule T8: whether a number is there above one that is not.
 pub(crate) fn is_gapped<'a>(
     owners: &'a [u8; PLACES],
     numbers: &'a [u8; PLACES],
@@ -102,7 +103,8 @@ pub(crate) fn is_gapped<'a>(
     find_beyond(owners, numbers, owner, count) < PLACES
 }
 
-// What joining is decided by: the three tests of the joining rule, how many numbers from 0 on are there, and how many bytes they have.
+// What decides the joining: the three tests of rule T8, how many numbers from 0 on are there, and how many bytes their
+// payloads have.
 pub(crate) struct Seen {
     pub unlike: bool,
     pub gapped: bool,
@@ -111,14 +113,14 @@ pub(crate) struct Seen {
     pub total: usize,
 }
 
-// What joining comes to: so many pieces go to the output, and the key of a row is dropped, none's at `KEYS`.
+// What joining comes to: the answer, how many pieces go to the output, and which row is dropped, `KEYS` for none.
 pub(crate) struct Verdict {
     pub answer: Pushed,
     pub pieces: usize,
     pub dropped: usize,
 }
 
-// An answer without joined bytes: the key is dropped.
+// Rule T7: an answer without joined bytes. The key is dropped.
 fn ended(row: usize, answer: Pushed) -> Verdict
     ensures { λ r. ⌜ (r .answer ≡ answer) × (r .pieces ≡ 0) × (r .dropped ≡ row) ⌝ }
 {
@@ -129,7 +131,7 @@ fn ended(row: usize, answer: Pushed) -> Verdict
     }
 }
 
-// The joining rule, and refusal 13 for an output with too little room.
+// Rules T8 and T9, with refusal 13 for an output that is shorter than the message.
 pub(crate) fn judge(s: Seen, row: usize, room: usize) -> Verdict
     ensures { λ r. ⌜ ((piece : ℕ → List ℕ) → s .total ≡ length (inOrder piece (s .count)) → Judges (joinBy (s .unlike) (s .gapped) (s .marked) (s .count) (inOrder piece (s .count)) room) row (s .count) room piece r) ⌝ }
 {
@@ -159,7 +161,7 @@ pub(crate) fn judge(s: Seen, row: usize, room: usize) -> Verdict
     ended(row, Pushed::MissingLastFragment)
 }
 
-// A piece's bytes go to the output; the answer is where they end.
+// Copies a piece's bytes to the output, and returns where they end.
 pub(crate) fn put_piece(
     sizes: &[u16; PLACES],
     store: &[u8],
@@ -181,14 +183,14 @@ pub(crate) fn put_piece(
     at + payload.len()
 }
 
-// Which pieces: those with numbers below count that a row holds, the new fragment's among them.
+// Which pieces: those with numbers below `count`, of a row's fragments and the new one.
 pub(crate) struct Pieces {
     pub row: usize,
     pub number: u8,
     pub count: usize,
 }
 
-// The pieces, one after the other.
+// Rule T9: the pieces go to the start of the output, in the order of their numbers.
 pub(crate) fn join_into<'a>(
     sizes: &'a [u16; PLACES],
     owners: &'a [u8; PLACES],
@@ -212,7 +214,7 @@ pub(crate) fn join_into<'a>(
     }
 }
 
-// A last fragment that was compared with those that its row holds.
+// A last fragment that was compared with those that its row holds (rule T8).
 pub(crate) struct Compared {
     pub row: usize,
     pub number: u8,
@@ -239,7 +241,7 @@ pub(crate) fn compare<'a>(
     }
 }
 
-// Step 4 of push: a fragment marked last ends its key's message, unless the output is too small.
+// Rules T7 to T9, step 4 of push: a fragment marked last ends its key's message, unless the output is too short.
 pub(crate) fn finish<'a>(
     sizes: &'a [u16; PLACES],
     owners: &'a [u8; PLACES],

@@ -1,4 +1,5 @@
-// A push to the fragment table: a fragment is kept, or joined with those kept under its key, or refused.
+// A push to the fragment table (rules T4 to T9): a fragment is kept, joined with those of its key, found to be there
+// already, or refused.
 
 mod choose;
 mod join;
@@ -22,7 +23,7 @@ ghost use lib.ListN.{length};
 ghost use Rattle.pushing.specs.Push.{way, Goes};
 ghost use Rattle.pushing.specs.Made.{Made};
 
-// What a fragment is, but for its payload.
+// Rule T3: a fragment without its payload.
 #[repr(C)]
 pub struct Fragment {
     pub message_type: u16,
@@ -31,7 +32,7 @@ pub struct Fragment {
     pub last: bool,
 }
 
-// A fragment as it comes in: under which key (see key_of of the crate keys), and when, in milliseconds.
+// A fragment as it comes in: under which key (rule T2; key_of in the crate keys), and when, in milliseconds.
 #[repr(C)]
 pub struct Arrival {
     pub key: u64,
@@ -39,16 +40,16 @@ pub struct Arrival {
     pub fragment: Fragment,
 }
 
-// What push answers.
+// What push answers (rules T4 to T9).
 pub enum Pushed {
     WaitingForMoreFragments,
     DuplicatedFragment,
     InconsistentMetadata,
     MissingFragments,
     MissingLastFragment,
-    // the message is the payload that was pushed, of this length
+    // rule T9: the message is the payload that was pushed, which has this length
     Single(usize),
-    // the message is the first bytes of the output, this many
+    // rule T9: the message is at the start of the output, and has this length
     Joined(usize),
     Refused(Refusal),
 }
@@ -58,7 +59,8 @@ pub struct AfterPush {
     pub answer: Pushed,
 }
 
-// A fragment comes in: the table after it, and what there is to say. The store keeps the payloads, the output gets a message that was joined.
+// Rules T4 to T9: a fragment comes in. Returns the table after it, and the answer. The store keeps payloads, and the
+// output gets a joined message.
 pub fn push_step(
     t: Table,
     store: &mut [u8],

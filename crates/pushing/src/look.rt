@@ -1,4 +1,4 @@
-// Looking up in the table: one pass for each question, over the lists that it asks, which are lent.
+// Looking up in the table: one pass for each question, over the lists that it needs, which are lent.
 use table::KEYS;
 use table::PLACES;
 ghost use mathlib.Core.Path.{_≡_};
@@ -28,7 +28,7 @@ pub(crate) fn find_key<'a>(used: &'a [bool; KEYS], row_keys: &'a [u64; KEYS], ke
     i
 }
 
-// The lowest row that no key has, `KEYS` where all have one.
+// Rule T6: the lowest free row, `KEYS` where each row has a key.
 pub(crate) fn find_spare(used: &[bool; KEYS]) -> usize
     ensures { λ r. ⌜ (r ≡ spareRowIn (now (used .entry))) × (r ≤ keys) ⌝ }
 {
@@ -42,7 +42,7 @@ pub(crate) fn find_spare(used: &[bool; KEYS]) -> usize
     i
 }
 
-// The lowest free place, `PLACES` where all are used.
+// Rule T6: the lowest free place, `PLACES` where none is free.
 pub(crate) fn find_free(owners: &[u8; PLACES]) -> usize
     ensures { λ r. ⌜ (r ≡ lowestFreeIn (now (owners .entry))) × (r ≤ places) ⌝ }
 {
@@ -81,7 +81,7 @@ pub(crate) fn find_numbered<'a>(
     i
 }
 
-// Of the owner, and of another version or type.
+// Rule T8: whether a fragment is the owner's and has another version or type.
 pub(crate) fn is_unlike(
     of: u8,
     own_version: u8,
@@ -101,7 +101,7 @@ pub(crate) fn is_unlike(
     false
 }
 
-// The lowest place of an owner's fragment with another version or type, `PLACES` where there is none.
+// Rule T8: the lowest place of an owner's fragment with another version or type, `PLACES` where there is none.
 pub(crate) fn find_unlike<'a>(
     owners: &'a [u8; PLACES],
     versions: &'a [u8; PLACES],
@@ -139,7 +139,7 @@ pub(crate) fn is_beyond(of: u8, own: u8, owner: u8, number: usize) -> bool
     false
 }
 
-// The lowest place of an owner's fragment with a number above this one, `PLACES` where there is none.
+// Rule T8: the lowest place of an owner's fragment with a number above this one, `PLACES` where there is none.
 pub(crate) fn find_beyond<'a>(
     owners: &'a [u8; PLACES],
     numbers: &'a [u8; PLACES],
@@ -158,7 +158,7 @@ pub(crate) fn find_beyond<'a>(
     i
 }
 
-// The place in which a row holds a number, `PLACES` where it holds none; a new key's row, `KEYS`, holds nothing.
+// Rule T5: the place in which a row holds a number, `PLACES` where there is none. `KEYS`, a new key's row, holds none.
 fn held_at<'a>(owners: &'a [u8; PLACES], numbers: &'a [u8; PLACES], row: usize, number: u8) -> usize
     requires { ⌜ (keys ≤ row → places ≤ numberedIn (now owners) (now numbers) (ownerOf row) number) ⌝ }
     ensures { λ r. ⌜ r ≡ numberedIn (now (owners .entry)) (now (numbers .entry)) (ownerOf row) number ⌝ }
@@ -169,7 +169,7 @@ fn held_at<'a>(owners: &'a [u8; PLACES], numbers: &'a [u8; PLACES], row: usize, 
     PLACES
 }
 
-// What a push is decided by, one number for each question.
+// What decides a push, one number for each question.
 pub(crate) struct LookedUp {
     // the row of its key
     pub row: usize,
@@ -177,7 +177,7 @@ pub(crate) struct LookedUp {
     pub place: usize,
     // the lowest free place
     pub free: usize,
-    // the lowest row that no key has
+    // the lowest free row
     pub spare: usize,
 }
 

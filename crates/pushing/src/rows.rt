@@ -21,7 +21,7 @@ pub(crate) fn copy(src: &[u8], from: usize, n: usize, dst: &mut [u8], at: usize)
     }
 }
 
-// The table with a fragment in a place, under a row that has its key, or that gets it.
+// Rule T6: the table with a fragment in a place, under a row that has its key or gets it.
 pub(crate) fn with_fragment(
     t: Table,
     place: usize,
