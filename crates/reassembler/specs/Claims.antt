@@ -13,7 +13,7 @@ use Rattle.pushing.specs.Show.{shown}
 use Rattle.sweeping.specs.Sweep.{swept, sweptAs}
 use Rattle.reassembler.specs.Showing.{shownFrom}
 
--- each public call by its name: any two outcomes that its contract allows are one
+-- Rule A4, for each public call by its name: any two outcomes that its contract allows are equal.
 pub record Firmness : Type 0 where
   -- the answer, and what the caller's table, the store and the output hold
   pub push : (t : Table) (store out : List ℕ) (a : Arrival) (payload : List ℕ)

@@ -1,8 +1,9 @@
--- Which of its two slices the showing call shows (document 01, "The table"): "A single fragment's message is shown as the caller's payload, any other as the first bytes of the output buffer".
+-- Rule T10: in which of its two slices the part lies that the showing call returns.
 use Rattle.numbers.specs.Numbers.{Answer, gives, refuses}
 use Rattle.pushing.specs.Push.{PushAnswer, waiting, duplicated, inconsistent, missing, missingLast, single, joined}
 
--- "an answer without a message shows the payload's [empty start]"
+-- Rule T10: a joined message lies in the output, a single fragment in the payload. Where there is no message, the
+-- empty part lies in the payload.
 abbrev pub shownFrom : {S : Type 0} → Answer PushAnswer → S → S → S
 shownFrom (gives waiting) payload out = payload
 shownFrom (gives duplicated) payload out = payload

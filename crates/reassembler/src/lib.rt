@@ -1,4 +1,4 @@
-// The fragment table as a caller uses it: push and sweep alter the caller's own table, show gives the message of an answer.
+// The fragment table as a caller uses it: push and sweep change a lent table, show returns the message of an answer.
 
 use pushing::Arrival;
 use pushing::Pushed;
@@ -11,7 +11,8 @@ ghost use Rattle.pushing.specs.Show.{shown};
 ghost use Rattle.pushing.specs.Made.{Made};
 ghost use Rattle.reassembler.specs.Showing.{shownFrom};
 
-// The message of an answer: of a single fragment it is the payload, of others the output's first bytes. The slices are those that push was given.
+// Rule T10: the message of an answer. For a single fragment it is the payload, for a joined message the start of the
+// output. The slices are those that push was lent.
 pub fn show<'a>(answer: Pushed, payload: &'a [u8], out: &'a [u8]) -> &'a [u8]
     ensures { λ r. ⌜ now r ≡ shown (pushedOf answer) (now (payload .entry)) (now (out .entry)) ⌝ }
     ensures place { λ r. ⌜ r .ptr ≡ shownFrom (pushedOf answer) (payload .entry) (out .entry) .ptr ⌝ }
@@ -38,7 +39,7 @@ pub fn show<'a>(answer: Pushed, payload: &'a [u8], out: &'a [u8]) -> &'a [u8]
     }
 }
 
-// Push, altering the caller's table itself: a thin shell over push_step.
+// Rules T4 to T9: a push to the lent table, which is changed in place. push_step does the work.
 pub fn push(t: &mut Table, store: &mut [u8], out: &mut [u8], a: Arrival, payload: &[u8]) -> Pushed
     requires { ⌜ Made (now t) ⌝ }
     ensures { λ r. ⌜ Goes (way (now (t .entry)) (now (store .entry)) a (now (payload .entry)) (length (now (out .entry)))) (now (t .entry)) (now (store .entry)) (now (out .entry)) a (now (payload .entry)) r (now (t .exit)) (now (store .exit)) (now (out .exit)) ⌝ }
@@ -48,7 +49,8 @@ pub fn push(t: &mut Table, store: &mut [u8], out: &mut [u8], a: Arrival, payload
     stepped.answer
 }
 
-// Sweep, altering the caller's table itself: a thin shell over sweep_step. The answer is how many keys were dropped.
+// Rules S1 and S2: a sweep of the lent table, which is changed in place. sweep_step does the work. Returns how many
+// keys were dropped.
 pub fn sweep(t: &mut Table, time: u64) -> usize
     ensures { λ r. ⌜ sweptAs (now (t .exit)) r ≡ swept (now (t .entry)) time ⌝ }
 {
