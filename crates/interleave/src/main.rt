@@ -1,5 +1,6 @@
-// Three senders push a message of three fragments each, in every order that keeps each sender's own: 1,680 orders. In each, every sender must get the same
-// answers and the same message. Prints how many orders were played and how many differed.
+// Rule D3, run: three senders push a message of three fragments each, in every order that keeps each sender's own.
+// There are 1,680 such orders. In each, every sender must get the same answers and the same message. Prints how many
+// orders were played and how many differed.
 use libc::STDOUT_FILENO;
 use pushing::AfterPush;
 use pushing::Arrival;
@@ -10,7 +11,7 @@ use table::Table;
 ghost use Prim.Native.Nat.{_<_};
 ghost use Rattle.pushing.specs.Made.{Made};
 
-// A push to a table that these calls made gives such a table.
+// A push to a table that these calls made leaves such a table (rule A1).
 fn pushed_on(t: Table, store: &mut [u8], out: &mut [u8], a: Arrival, payload: &[u8]) -> AfterPush
     requires { ⌜ Made t × (a .fragment .number < 256) ⌝ }
     ensures { λ r. ⌜ Made (r .table) ⌝ }
@@ -71,7 +72,7 @@ fn folded(start: u64, bytes: &[u8]) -> u64 {
     sum
 }
 
-// What the three senders were told, each folded into one number.
+// What the three senders were answered, folded into one number for each.
 struct Sums {
     first: u64,
     second: u64,
@@ -100,7 +101,7 @@ fn with_reply(s: Sums, sender: u64, what: u64) -> Sums {
     }
 }
 
-// The senders use one message id, so that only their addresses tell their messages apart.
+// The senders use one message id, so that only their addresses keep their messages apart (rule T2).
 fn arrival(sender: u64, number: u64, time: u64) -> Arrival
     ensures { λ r. ⌜ r .fragment .number < 256 ⌝ }
 {
@@ -157,7 +158,7 @@ fn is_fair(order: u64) -> bool {
     false
 }
 
-// How many orders were played, and how many of them told a sender something else.
+// How many orders were played, and in how many of them a sender was answered something else.
 struct Score {
     played: u64,
     differed: u64,
