@@ -19,7 +19,7 @@ pub struct Served {
     pub used: usize,
 }
 
-// Bytes that a joined message can have: every place's fragment, and the last one, which needs none.
+// Rule T9: how many bytes the longest message has, with a fragment from each place and the last one.
 const OUTPUT: usize = STORE_SIZE + PLACE_SIZE;
 
 fn key_in(line: &[u8]) -> u64 {
@@ -35,7 +35,7 @@ fn key_in(line: &[u8]) -> u64 {
     )
 }
 
-// The fragment of a line; bit 7 of the flags marks the last.
+// The fragment of a line; bit 7 of the flags marks the last (rule B6).
 fn fragment_in(line: &[u8]) -> Fragment
     ensures { λ r. ⌜ r .number < 256 ⌝ }
 {
@@ -57,7 +57,7 @@ fn arrival_in(line: &[u8]) -> Arrival
     }
 }
 
-// Which of the words below an answer is told by.
+// Which of the words below stands for an answer.
 fn word_of(answer: Pushed) -> usize {
     match answer {
         Pushed::WaitingForMoreFragments => 0,
@@ -100,7 +100,7 @@ fn put_answer<'a>(
     answer_lines::put_shown(text, a, b' ', reassembler::show(answer, payload, out))
 }
 
-// The calls that make a table, with what the next one has to know of it.
+// The calls that make a table (rule A1), with what the next call has to know of it.
 fn made_fresh() -> Table
     ensures { λ r. ⌜ Made r ⌝ }
 {
@@ -129,7 +129,7 @@ fn made_push(
     AfterPush { table: t, answer }
 }
 
-// How many bytes a push lends: what field number n says, or so many where the line has no such field.
+// How many bytes a push lends: what field n says, or `otherwise` where the line has no such field.
 fn lent(line: &[u8], n: usize, otherwise: usize) -> usize {
     if command_lines::field(line, n).len() == 0 {
         return otherwise;
@@ -137,7 +137,7 @@ fn lent(line: &[u8], n: usize, otherwise: usize) -> usize {
     command_lines::size_in(line, n)
 }
 
-// p: a fragment comes in. Two more fields say how many bytes of output and of store are lent.
+// p: a push (rules T4 to T10). Two more fields say how many bytes of output and of store are lent.
 fn push(
     t: Table,
     line: &[u8],
@@ -162,7 +162,7 @@ fn push(
     }
 }
 
-// v: a sweep, and how many keys it dropped.
+// v: a sweep, and how many keys it dropped (rule S2).
 fn sweep(t: Table, time: u64, text: &mut Answers, used: usize) -> Served
     requires { ⌜ Made t ⌝ }
     ensures { λ r. ⌜ Made (r .table) × (r .used ≤ 65536) ⌝ }
@@ -202,7 +202,8 @@ fn answer_shown(t: Table, line: &[u8], store: &[u8], text: &mut Answers, used: u
     }
 }
 
-// Which field of a line has the payload of a push, the only one of these commands with bytes; 0 for a letter that is none of theirs.
+// Which field of a line has the payload of a push, the only one of these commands with bytes. 0 for a letter that is
+// none of theirs.
 pub fn field_of_bytes(letter: u8) -> usize
     ensures { λ r. ⌜ r ≤ 8 ⌝ }
 {
@@ -220,7 +221,7 @@ pub fn start() -> Served
     Served { table: t, used: 0 }
 }
 
-// One line about the table answered.
+// Answers one line about the table.
 pub fn answer(
     s: Served,
     line: &[u8],
