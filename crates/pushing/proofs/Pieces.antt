@@ -1,4 +1,5 @@
--- The pieces of a message, as the code finds them in the lists of places, are the fragments of the joining rule by their numbers.
+-- The pieces of a message, as the code finds them in the lists of places, are the fragments that rules T8 and T9 join,
+-- by their numbers.
 use mathlib.Core.Path.{_≡_, refl, sym, ap, _∙_}
 use mathlib.Core.List.{List, [], _++_}
 use mathlib.Core.Bool.{Bool, true, false, cond, not, _&&_, _||_, false≢true}
@@ -309,7 +310,7 @@ module _ (t : Table) (store : List ℕ) (row : ℕ) (f : Fragment) (payload : Li
         by-new true e = beyond-new (ltb-true _ _ e)
         by-new false e = beyond-is (ltb-false _ _ e)
 
-    -- what the joining rule says of them, in the code's words
+    -- what rules T8 and T9 say of them, in the code's words
     pub judged : f .last ≡ true → (room : ℕ) → joinIn (t .sizes) (t .owners) (t .numbers) store payload (comparedIn (t .owners) (t .versions) (t .«message_types») row f) room ≡ joinedWith t store row f payload room
     unfolding joinWay
     judged last room =

@@ -17,7 +17,7 @@ use Rattle.pushing.specs.Joining.{Held, Fragments, heldOf, heldIn, andNe
 use Rattle.pushing.specs.Push.{PushAnswer, waiting, duplicated, inconsistent, missing, missingLast, single, joined, Way, refuse, duplicate, keepAt, openAt, end, lookedUp, keepWay, messageWay, joinWay, joinedWith, wayBy, way, over, outputBy, answerBy}
 use Rattle.pushing.specs.Show.{startOf, shown}
 
--- step 3
+-- step 3 (rule T6)
 module _ (found : LookedUp) where
   pub keep-full : 32 ≤ found .free → keepWay found ≡ refuse 10 []
   unfolding keepWay
@@ -37,7 +37,7 @@ module _ (found : LookedUp) where
       unfolding keepWay
       keep-new h = rw (lt-leb _ _ h₁, le-ltb _ _ h₂, lt-leb _ _ h)
 
--- step 4
+-- step 4 (rules T7 to T9)
 module _ (n : ℕ) (bytes : List ℕ) (room : ℕ) where
   pub last-single : n ≤ 1 → messageWay n bytes room ≡ end (single (length bytes)) []
   unfolding messageWay
