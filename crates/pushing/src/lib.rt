@@ -60,7 +60,8 @@ pub struct AfterPush {
 }
 
 // Rules T4 to T9: a fragment comes in. Returns the table after it, and the answer. The store keeps payloads, and the
-// output gets a joined message.
+// output gets a joined message. Its arms stay here, though they make it long: a function that took the table by value
+// would hold one more copy of it on the stack.
 pub fn push_step(
     t: Table,
     store: &mut [u8],
