@@ -16,10 +16,13 @@ use records::Record;
 use records::SupportedFreqBand;
 ghost use mathlib.Core.Path.{_≡_};
 ghost use mathlib.Core.Logic.{_⊎_};
+ghost use Prim.Native.Nat.{_<_};
 ghost use Rattle.records.specs.Kinds.{codeOf, kindOf};
 
-// The address in field n.
-pub fn address_in(line: &[u8], n: usize) -> MacAddr {
+// The address in field n: six bytes.
+pub fn address_in(line: &[u8], n: usize) -> MacAddr
+    ensures { λ r. ⌜ (r .b0 < 256) × (r .b1 < 256) × (r .b2 < 256) × (r .b3 < 256) × (r .b4 < 256) × (r .b5 < 256) ⌝ }
+{
     let s = command_lines::field(line, n);
     MacAddr {
         b0: command_lines::pair(s, 0),
