@@ -48,7 +48,7 @@ pub record Line : Type 0 where
 abbrev line : ℕ → Rest → Layout → Line
 line n r l = record { code = n; kind = record { layout = l; rest = r } }
 
--- Rule K2: the list kinds, with their codes and layouts. Rule K4: 6, 7 and 30 refuse left-over bytes.
+-- Rule K2: the list kinds, with their codes and layouts. Rule K4: 6, 7, 9, 10 and 30 refuse left-over bytes.
 abbrev pub table : List Line
 table =
     -- SupportedService
@@ -57,6 +57,10 @@ table =
     line 6 refused (6 then to-end-of (bytes 6)) ∷
     -- Ieee1905NeighborDevice
     line 7 refused (6 then to-end-of (bytes 7)) ∷
+    -- LinkMetricTx
+    line 9 refused (12 then to-end-of (bytes 29)) ∷
+    -- LinkMetricRx
+    line 10 refused (12 then to-end-of (bytes 23)) ∷
     -- Ipv4
     line 23 handed-back (c1-of (6 then c1-of (bytes 9))) ∷
     -- Ipv6

@@ -87,6 +87,10 @@ pub(crate) fn row_of(code: u8) -> ListKindRow
         6 => ListKindRow::List(one(6, 0, 6), true),
         // Ieee1905NeighborDevice
         7 => ListKindRow::List(one(6, 0, 7), true),
+        // LinkMetricTx
+        9 => ListKindRow::List(one(12, 0, 29), true),
+        // LinkMetricRx
+        10 => ListKindRow::List(one(12, 0, 23), true),
         // Ipv4
         23 => ListKindRow::List(two(0, 1, 6, 1, 9), false),
         // Ipv6

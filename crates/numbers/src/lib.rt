@@ -44,6 +44,8 @@ pub enum Refusal {
     NoStationRoom,
     // 18: a text that is not UTF-8 (rule E5)
     NotText,
+    // 19: more than 1,024 pairs, or reports that can't be made into one (rules Q4 and Q7)
+    NoReport,
 }
 
 // The number of a refusal (rule N1).
@@ -69,6 +71,7 @@ pub fn number_of(refusal: Refusal) -> u8
         Refusal::UnknownKind => 16,
         Refusal::NoStationRoom => 17,
         Refusal::NotText => 18,
+        Refusal::NoReport => 19,
     }
 }
 
@@ -96,6 +99,7 @@ pub fn carried_by(refusal: Refusal) -> usize
         Refusal::UnknownKind => 0,
         Refusal::NoStationRoom => 0,
         Refusal::NotText => 0,
+        Refusal::NoReport => 0,
     }
 }
 

@@ -23,32 +23,42 @@ returns-3 c = rw (c .before .match .keys3) (ap (λ l. gives (kindWith l true)) (
 
 returns-4 : tie.Need-returns-4
 unfolding layoutOf
-returns-4 c = rw (c .before .match .keys4) (ap (λ l. gives (kindWith l false)) (c .two .ensures))
+returns-4 c = rw (c .before .match .keys4) (ap (λ l. gives (kindWith l true)) (c .one4 .ensures))
 
 returns-5 : tie.Need-returns-5
 unfolding layoutOf
-returns-5 c = rw (c .before .match .keys5) (ap (λ l. gives (kindWith l false)) (c .two2 .ensures))
+returns-5 c = rw (c .before .match .keys5) (ap (λ l. gives (kindWith l true)) (c .one5 .ensures))
 
 returns-6 : tie.Need-returns-6
 unfolding layoutOf
-returns-6 c = rw (c .before .match .keys6) (ap (λ l. gives (kindWith l false)) (c .two3 .ensures))
+returns-6 c = rw (c .before .match .keys6) (ap (λ l. gives (kindWith l false)) (c .two .ensures))
 
 returns-7 : tie.Need-returns-7
 unfolding layoutOf
-returns-7 c = rw (c .before .match .keys7) (ap (λ l. gives (kindWith l false)) (c .three .ensures))
+returns-7 c = rw (c .before .match .keys7) (ap (λ l. gives (kindWith l false)) (c .two2 .ensures))
 
 returns-8 : tie.Need-returns-8
 unfolding layoutOf
-returns-8 c = rw (c .before .match .keys8) (ap (λ l. gives (kindWith l false)) (c .three2 .ensures))
+returns-8 c = rw (c .before .match .keys8) (ap (λ l. gives (kindWith l false)) (c .two3 .ensures))
 
 returns-9 : tie.Need-returns-9
 unfolding layoutOf
-returns-9 c = rw (c .before .match .keys9) (ap (λ l. gives (kindWith l true)) (c .three3 .ensures))
+returns-9 c = rw (c .before .match .keys9) (ap (λ l. gives (kindWith l false)) (c .three .ensures))
 
 returns-10 : tie.Need-returns-10
 unfolding layoutOf
-returns-10 c = let r = c .match .rest in
+returns-10 c = rw (c .before .match .keys10) (ap (λ l. gives (kindWith l false)) (c .three2 .ensures))
+
+returns-11 : tie.Need-returns-11
+unfolding layoutOf
+returns-11 c = rw (c .before .match .keys11) (ap (λ l. gives (kindWith l true)) (c .three3 .ensures))
+
+returns-12 : tie.Need-returns-12
+unfolding layoutOf
+returns-12 c = let r = c .match .rest in
     simp (
+      ne-eqb _ _ (r .0 .0 .0 .0 .0 .0 .0 .0 .0 .0 .1),
+      ne-eqb _ _ (r .0 .0 .0 .0 .0 .0 .0 .0 .0 .1),
       ne-eqb _ _ (r .0 .0 .0 .0 .0 .0 .0 .0 .1),
       ne-eqb _ _ (r .0 .0 .0 .0 .0 .0 .0 .1),
       ne-eqb _ _ (r .0 .0 .0 .0 .0 .0 .1),
@@ -73,6 +83,8 @@ row-of-spec =
     (λ c κs. search needs)
     (λ c κs. search needs)
     (λ c κs. search needs)
+    (λ c κs. search needs)
+    (λ c κs. search needs)
     returns
     returns-2
     returns-3
@@ -82,4 +94,6 @@ row-of-spec =
     returns-7
     returns-8
     returns-9
-    returns-10)
+    returns-10
+    returns-11
+    returns-12)
