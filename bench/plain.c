@@ -169,6 +169,8 @@ static inline __attribute__((always_inline)) AshlarKind kind_in(uint8_t code, co
     case 0x80: return n < 1 || n - 1 < v[0] ? refused(3) : listed(v[0], 1 + v[0], n);
     case 6: return to_end(6, 6, n);
     case 7: return to_end(6, 7, n);
+    case 9: return to_end(12, 29, n);
+    case 10: return to_end(12, 23, n);
     case 21: return identification(v, n);
     case 22: return url(v, n);
     case 0xD4: return inventory(v, n);
@@ -189,7 +191,7 @@ AshlarKind plain_read_kind(uint8_t code, const uint8_t *v, size_t n) { return ki
 
 static bool is_kind(uint8_t code) {
     static const uint64_t known[4] = {
-        1ull << 0 | 1ull << 1 | 1ull << 2 | 1ull << 4 | 1ull << 6 | 1ull << 7 | 1ull << 8 | 1ull << 12 | 1ull << 13 | 1ull << 15 | 1ull << 16 | 1ull << 21 | 1ull << 22 | 1ull << 23 | 1ull << 24 | 1ull << 26 | 1ull << 30,
+        1ull << 0 | 1ull << 1 | 1ull << 2 | 1ull << 4 | 1ull << 6 | 1ull << 7 | 1ull << 8 | 1ull << 9 | 1ull << 10 | 1ull << 12 | 1ull << 13 | 1ull << 15 | 1ull << 16 | 1ull << 21 | 1ull << 22 | 1ull << 23 | 1ull << 24 | 1ull << 26 | 1ull << 30,
         0,
         1ull << 0 | 1ull << 3 | 1ull << 18 | 1ull << 51 | 1ull << 52 | 1ull << 55,
         1ull << 20,

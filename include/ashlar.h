@@ -6,7 +6,7 @@
    payload of a message is a row of TLVs. Each has a type byte, the length of its value in two bytes, higher
    byte first, and the value. The last TLV is the end marker, of type 0 and without a value. Bytes that a
    bridge added after it are padding. ashlar_walk counts the TLVs, and ashlar_walk_into lists them.
-   ashlar_find looks in such a list for a TLV of one of 24 kinds, and ashlar_read_kind reads its value. Three
+   ashlar_find looks in such a list for a TLV of one of 26 kinds, and ashlar_read_kind reads its value. Three
    kinds hold text, as names and addresses of devices: ashlar_text says where a text lies in such a value.
    ashlar_radio and ashlar_radio_text say where a radio and its text lie in an inventory.
 
@@ -83,7 +83,8 @@ typedef enum {
     /* A value ends inside its kind's layout, as where a count promises more entries than there are: skip the
        TLV. */
     ASHLAR_CUT_SHORT = 3,
-    /* A value has bytes after its layout, in a kind that allows none (0, 6, 7, 30): skip the TLV. */
+    /* A value has bytes after its layout, in a kind that allows none (0, 6, 7, 9, 10, 30): skip the
+       TLV. */
     ASHLAR_LEFT_OVER = 4,
     /* A role that is not 0, an association byte that is neither 0x80 nor 0, or profile 0: skip the TLV. */
     ASHLAR_BAD_VALUE = 5,
@@ -116,12 +117,14 @@ typedef enum {
        leaves and it joins again. */
     ASHLAR_NO_STATION_ROOM = 17,
     /* A text of a value is not valid UTF-8 (RFC 3629): skip the TLV. */
-    ASHLAR_NOT_TEXT = 18
+    ASHLAR_NOT_TEXT = 18,
+    /* A value has more than 1,024 pairs, or two reports can't be made into one. */
+    ASHLAR_NO_REPORT = 19
 } AshlarRefusal;
 
 /* ---- Kinds ---- */
 
-/* The 24 kinds by the type byte of their TLVs (rules K2 to K6). A list begins with a count in one byte unless
+/* The 26 kinds by the type byte of their TLVs (rules K2 to K6). A list begins with a count in one byte unless
    said otherwise; in kind 30 the inner counts have two. A text is UTF-8, and its bytes are kept as they are:
    zeros, a byte order mark and noncharacters too. Only a text in a field of 64 bytes ends at its first zero
    byte, and what follows that byte is not looked at (rules E5 and E6). */
@@ -133,6 +136,8 @@ typedef enum {
     ASHLAR_NON_1905_NEIGHBOR_DEVICES = 6,     /* an address, then a list of addresses to the end */
     ASHLAR_1905_NEIGHBOR_DEVICE = 7,          /* an address, then a list of 7 bytes each to the end */
     ASHLAR_LINK_METRIC_QUERY = 8,             /* a type byte; an address only if it is 1; a metrics byte */
+    ASHLAR_LINK_METRIC_TX = 9,                /* two addresses, then a list of pairs of 29 bytes to the end */
+    ASHLAR_LINK_METRIC_RX = 10,               /* two addresses, then a list of pairs of 23 bytes to the end */
     ASHLAR_LINK_METRIC_RESULT_CODE = 12,      /* 1 byte */
     ASHLAR_SEARCHED_ROLE = 13,                /* 1 byte, 0 */
     ASHLAR_SUPPORTED_ROLE = 15,               /* 1 byte, 0 */

@@ -2,7 +2,7 @@
 """docs/RULES.md as a plain program: answers the commands of COMMANDS.md, with the numbers of rule N1 after `no`.
 
 Usage: oracle/model.py [LEVEL] < COMMANDS
-LEVEL is the last request that counts for the kinds that there are, 4 without it: from 4 on kinds 21, 22 and 0xD4, from 8
+LEVEL is the last request that counts for the kinds that there are, 8 without it: from 4 on kinds 21, 22 and 0xD4, from 8
 on 9 and 10, from 13 on no kind 30. All other rules hold at any level.
 
 The model tries out the driver and the command language. It is a second opinion beside the proved library on the
@@ -15,7 +15,7 @@ import sys
 STORE_PLACES, STORE_KEYS, PLACE = 32, 16, 1492
 MOST_STATIONS = 128
 # The last request that counts, where none is named.
-LEVEL = 4
+LEVEL = 8
 EXPIRES = 3000
 # Of the command language: bytes of a line, and bytes that come out of one.
 LONGEST_LINE, MOST_BYTES = 32768, 66000
@@ -135,6 +135,7 @@ COUNTED = {
 }
 # To the end: bytes in front, bytes of an entry.
 TO_THE_END = {6: (6, 6), 7: (6, 7)}
+PAIRS = {9: (12, 29), 10: (12, 23)}
 NOTHING_AFTER = {0, 30}
 # Kinds that hold text (rules E5 to E8): fixed fields of 64 bytes, the whole value, strings with their lengths.
 TEXTS = set()
@@ -146,8 +147,10 @@ def use_level(level):
     TEXTS.clear()
     if level >= 4:
         TEXTS.update((21, 22, 0xD4))
+    for kind in PAIRS:
+        TO_THE_END.pop(kind, None)
     if level >= 8:
-        TO_THE_END.update({9: (12, 29), 10: (12, 23)})
+        TO_THE_END.update(PAIRS)
     if level >= 13:
         COUNTED.pop(30, None)
     RECORD_KINDS[:] = sorted([*FIXED, QUERY])

@@ -82,8 +82,8 @@ static uint8_t *bytes(size_t n) {
 }
 
 static uint8_t code(void) {
-    static const uint8_t codes[24] = {0, 1, 2, 4, 6, 7, 8, 12, 13, 15, 16, 21, 22, 23, 24, 26, 30, 0x80, 0x83, 0x92, 0xB3, 0xB4, 0xB7, 0xD4};
-    return below(4) ? codes[below(24)] : (uint8_t)any();
+    static const uint8_t codes[26] = {0, 1, 2, 4, 6, 7, 8, 9, 10, 12, 13, 15, 16, 21, 22, 23, 24, 26, 30, 0x80, 0x83, 0x92, 0xB3, 0xB4, 0xB7, 0xD4};
+    return below(4) ? codes[below(26)] : (uint8_t)any();
 }
 
 /* a text of up to so many bytes: the first and last characters of each length, zeros, now and then what is no
@@ -112,10 +112,12 @@ static size_t string(uint8_t *at, size_t head) {
     return head + 1 + at[head];
 }
 
-/* a value of a kind that holds text, now and then cut, or with bytes after it; of any other kind any bytes */
+/* a value of a kind that holds text, now and then cut, or with bytes after it; of a kind of pairs often whole ones; of
+   any other kind any bytes */
 static uint8_t *value(uint8_t k, size_t *n) {
     static uint8_t made[PAGE];
     size_t size = 0;
+    if ((k == 9 || k == 10) && below(2)) return bytes(*n = 12 + below(60) * (k == 9 ? 29 : 23));
     if (k != 21 && k != 22 && k != 0xD4) return bytes(*n = below(4) ? below(40) : below(2000));
     if (k == 22) size = letters(made, 1000);
     for (; k == 21 && size < 192; size += 64) {

@@ -35,7 +35,7 @@ use Rattle.stations.specs.Rows.{freshStations, answerTo, tableAfter, heldRow, c
 use Rattle.stations.specs.Events.{answerFrom, tableFrom}
 use Rattle.c_answers.specs.Numbers.{headerNumbers, walkNumbers, kindNumbers, foundNumbers, partNumbers, pushNumbers, shownIn}
 use Rattle.c_stations.specs.Numbers.{noAddress, eventNumbers, appliedNumbers, whereNumbers, rowNumbers}
-use Rattle.examples.specs.Given.{association, associated, padded, able, codesBelow, one-record, a-list, and-more, entry-of, mac, kept-mac, home, guest, services, plain-neighbours, neighbours, by-dhcp, static, ipv4, by-itself, ipv6, bridges, operational, configured, beyond, e-acute, identification, inventory, text-of, on-the-edge, past-the-edge, with-a-byte, with-none, two-tlvs, join-of, leave-of, with-7, with-128, rows-below, LetIn, ZeroThenLastOne}
+use Rattle.examples.specs.Given.{association, associated, padded, able, codesBelow, one-record, a-list, and-more, entry-of, mac, kept-mac, home, guest, services, plain-neighbours, neighbours, sent-over, received-over, links-sent, links-received, by-dhcp, static, ipv4, by-itself, ipv6, bridges, operational, configured, beyond, e-acute, identification, inventory, text-of, on-the-edge, past-the-edge, with-a-byte, with-none, two-tlvs, join-of, leave-of, with-7, with-128, rows-below, LetIn, ZeroThenLastOne}
 
 pub record OfFraming : Type 0 where
   -- Rule B3: no byte, and two bytes, are fewer than three: 1 with the shortfall.
@@ -96,7 +96,7 @@ pub record OfWalks : Type 0 where
 
 pub record OfKinds : Type 0 where
   -- Rule K2: all codes that a kind has.
-  pub the-24 : codesBelow 256 ≡ 0xD4 ∷ 0xB7 ∷ 0xB4 ∷ 0xB3 ∷ 0x92 ∷ 0x83 ∷ 0x80 ∷ 30 ∷ 26 ∷ 24 ∷ 23 ∷ 22 ∷ 21 ∷ 16 ∷ 15 ∷ 13 ∷ 12 ∷ 8 ∷ 7 ∷ 6 ∷ 4 ∷ 2 ∷ 1 ∷ 0 ∷ []
+  pub all-codes : codesBelow 256 ≡ 0xD4 ∷ 0xB7 ∷ 0xB4 ∷ 0xB3 ∷ 0x92 ∷ 0x83 ∷ 0x80 ∷ 30 ∷ 26 ∷ 24 ∷ 23 ∷ 22 ∷ 21 ∷ 16 ∷ 15 ∷ 13 ∷ 12 ∷ 10 ∷ 9 ∷ 8 ∷ 7 ∷ 6 ∷ 4 ∷ 2 ∷ 1 ∷ 0 ∷ []
   -- Rules K2 and K5: 0x80 says joined, 0x00 left, and any other byte is refused by 5.
   pub joined : readKind 0x92 (association 0x80) ≡ one-record (associated AssociationState.JoinedBss) 13 0
   pub left : readKind 0x92 (association 0x00) ≡ one-record (associated AssociationState.LeftBss) 13 0
@@ -133,6 +133,13 @@ pub record OfKinds : Type 0 where
   pub ieee1905-neighbours : readKind 7 neighbours ≡ a-list 2 20 0
   pub cut-neighbour : readKind 7 (and-more neighbours) ≡ refuses 4 []
   pub last-neighbour : entry-of 7 (1 ∷ []) neighbours ≡ mac 3 ++ (0x80 ∷ [])
+  pub sent-links : readKind 9 links-sent ≡ a-list 2 70 0
+  pub cut-sent-link : readKind 9 (and-more links-sent) ≡ refuses 4 []
+  pub last-sent-link : entry-of 9 (1 ∷ []) links-sent ≡ sent-over 5 6
+  pub received-links : readKind 10 links-received ≡ a-list 2 58 0
+  pub cut-received-link : readKind 10 (and-more links-received) ≡ refuses 4 []
+  pub last-received-link : entry-of 10 (1 ∷ []) links-received ≡ received-over 5 6
+  pub no-links : readKind 10 (mac 1 ++ mac 2) ≡ a-list 0 12 0
   pub ipv4-interfaces : readKind 23 (and-more ipv4) ≡ a-list 1 26 1
   pub last-ipv4 : entry-of 23 (0 ∷ 1 ∷ []) ipv4 ≡ static
   pub ipv6-interfaces : readKind 24 (and-more ipv6) ≡ a-list 1 57 1
@@ -151,9 +158,13 @@ pub record OfKinds : Type 0 where
   pub cut-record : readKind 1 (0x02 ∷ []) ≡ refuses 3 []
   pub cut-list : readKind 23 (0x01 ∷ mac 1) ≡ refuses 3 []
   pub cut-front : readKind 6 (0x02 ∷ []) ≡ refuses 3 []
+  pub cut-sent-front : readKind 9 (replicate 11 0x02) ≡ refuses 3 []
+  pub cut-received-front : readKind 10 (replicate 11 0x02) ≡ refuses 3 []
   pub no-such-entry : locateKind 0x80 (2 ∷ []) services ≡ refuses 6 []
   pub no-numbers : locateKind 0x80 [] services ≡ refuses 6 []
   pub one-number-too-many : locateKind 0x80 (1 ∷ 0 ∷ []) services ≡ refuses 6 []
+  pub entry-in-a-sent-link : locateKind 9 (0 ∷ 0 ∷ []) links-sent ≡ refuses 6 []
+  pub entry-in-a-received-link : locateKind 10 (0 ∷ 0 ∷ []) links-received ≡ refuses 6 []
   pub entry-of-a-record : locateKind 1 (0 ∷ []) (mac 1) ≡ refuses 6 []
   pub entry-of-a-cut-record : locateKind 1 (0 ∷ []) (0x02 ∷ []) ≡ refuses 3 []
   pub entry-of-no-kind : locateKind 3 (0 ∷ []) [] ≡ refuses 16 []

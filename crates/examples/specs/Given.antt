@@ -95,6 +95,25 @@ plain-neighbours = mac 1 ++ (mac 2 ++ mac 3)
 abbrev pub neighbours : List ℕ
 neighbours = mac 1 ++ (mac 2 ++ (0x00 ∷ (mac 3 ++ (0x80 ∷ []))))
 
+-- IEEE 1905.1: errors and packets of a link, 7 of 1,000
+abbrev pub seven-errors : List ℕ
+seven-errors = (0x00 ∷ 0x00 ∷ 0x00 ∷ 0x07 ∷ []) ++ (0x00 ∷ 0x00 ∷ 0x03 ∷ 0xE8 ∷ [])
+
+-- Rule Q1: pairs of a link over 802.11ac (0x0105) between two interfaces. Of what was sent, with no bridge between, and
+-- then throughput, availability and rate; of what was received, and then a signal strength of -60.
+abbrev pub sent-over : ℕ → ℕ → List ℕ
+sent-over own other = mac own ++ (mac other ++ (0x01 ∷ 0x05 ∷ 0x00 ∷ (seven-errors ++ (0x02 ∷ 0x58 ∷ 0x00 ∷ 0x5A ∷ 0x03 ∷ 0x62 ∷ []))))
+
+abbrev pub received-over : ℕ → ℕ → List ℕ
+received-over own other = mac own ++ (mac other ++ (0x01 ∷ 0x05 ∷ (seven-errors ++ (0xC4 ∷ []))))
+
+-- the addresses of two devices, and two links between them
+abbrev pub links-sent : List ℕ
+links-sent = mac 1 ++ (mac 2 ++ (sent-over 3 4 ++ sent-over 5 6))
+
+abbrev pub links-received : List ℕ
+links-received = mac 1 ++ (mac 2 ++ (received-over 3 4 ++ received-over 5 6))
+
 -- IEEE 1905.1a: how an address was had (1 by DHCP, 2 static), the address, and the server that gave it
 abbrev pub by-dhcp : List ℕ
 by-dhcp = 0x01 ∷ (192 ∷ 168 ∷ 1 ∷ 23 ∷ (192 ∷ 168 ∷ 1 ∷ 1 ∷ []))

@@ -9,10 +9,13 @@ ghost use Prim.Native.Nat.{_≤_};
 // No value has as many entries and ends of lists.
 const TURNS: usize = 1000000;
 
-// What stands in front of the list.
+// What stands in front of the list: an address or two, or nothing.
 fn front_of(code: u8, data: &[u8]) -> &[u8] {
     if code == 6 || code == 7 {
         return command_lines::part(data, 0, 6);
+    }
+    if code == 9 || code == 10 {
+        return command_lines::part(data, 0, 12);
     }
     command_lines::part(data, 0, 0)
 }

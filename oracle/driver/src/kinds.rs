@@ -34,12 +34,24 @@ pub trait Shown: TLVTrait {
     fn texts(&self) -> Option<Texts<'_>> {
         None
     }
+
+    /// Of link metrics, their pairs.
+    fn pairs(&self) -> Option<Pairs> {
+        None
+    }
 }
 
 /// Texts as the original keeps them.
 pub struct Texts<'a> {
     pub own: Vec<&'a String>,
     pub radios: Vec<&'a String>,
+}
+
+/// The fields of pairs that a report is over, as the original reads them: errors and packets, and the signal strengths
+/// of what was received.
+pub struct Pairs {
+    pub figures: Vec<(u32, u32)>,
+    pub signals: Option<Vec<i8>>,
 }
 
 fn mac(address: MacAddr) -> String {
@@ -354,6 +366,11 @@ impl Shown for LinkMetricTx {
     fn entries(&self) -> Vec<Entry> {
         self.interface_pairs.iter().map(|pair| leaf(pair.serialize())).collect()
     }
+
+    fn pairs(&self) -> Option<Pairs> {
+        let figures = self.interface_pairs.iter().map(|pair| (pair.packet_errors, pair.transmitted_packets)).collect();
+        Some(Pairs { figures, signals: None })
+    }
 }
 
 impl Shown for LinkMetricRx {
@@ -365,11 +382,16 @@ impl Shown for LinkMetricRx {
     fn entries(&self) -> Vec<Entry> {
         self.interface_pairs.iter().map(|pair| leaf(pair.serialize())).collect()
     }
+
+    fn pairs(&self) -> Option<Pairs> {
+        let figures = self.interface_pairs.iter().map(|pair| (pair.packet_errors, pair.packets_received)).collect();
+        Some(Pairs { figures, signals: Some(self.interface_pairs.iter().map(|pair| pair.rssi).collect()) })
+    }
 }
 
 /// The last request that counts; it decides which kinds there are. Without one that is named, the one that `model.py`
 /// takes.
-pub static LEVEL: AtomicU8 = AtomicU8::new(4);
+pub static LEVEL: AtomicU8 = AtomicU8::new(8);
 
 /// What is asked of a kind; one match on the code for all of it.
 pub trait Ask {

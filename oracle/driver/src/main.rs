@@ -6,7 +6,7 @@ mod table;
 mod words;
 
 use driver::cmdu::{CMDU, TLV};
-use kinds::{Ask, Entry, Shown, from_fields, of_kind};
+use kinds::{Ask, Entry, Pairs, Shown, from_fields, of_kind};
 use pnet::datalink::MacAddr;
 use std::io::{BufRead, Write};
 use std::panic::{AssertUnwindSafe, catch_unwind};
@@ -14,6 +14,8 @@ use table::Table;
 use words::{Bad, Fields, LONGEST_LINE, bytes, checksum, number, shown, six, word};
 
 const NO: &str = "no";
+/// Pairs that a report is over, at most (rule Q4).
+const MOST_PAIRS: usize = 1024;
 
 /// TLVs from the start up to the end marker, or until no byte is left: each with its offset; or the offset of the one
 /// that doesn't read.
@@ -194,6 +196,25 @@ fn text(kind: u8, of_radio: bool, number: usize, input: &[u8]) -> String {
     of_kind(kind, Text(input, of_radio, number)).flatten().unwrap_or(NO.into())
 }
 
+/// A report over the pairs as the original reads them. It has no report of its own: limit and sums are the driver's.
+struct Report<'a>(&'a [u8]);
+
+impl Ask for Report<'_> {
+    type Answer = Option<String>;
+    fn ask<T: Shown>(self) -> Option<String> {
+        let (_, record) = T::parse(self.0).ok()?;
+        let Pairs { figures, signals } = record.pairs().filter(|pairs| pairs.figures.len() <= MOST_PAIRS)?;
+        let errors: u64 = figures.iter().map(|pair| u64::from(pair.0)).sum();
+        let packets: u64 = figures.iter().map(|pair| u64::from(pair.1)).sum();
+        let strength = signals.map_or(String::new(), |signals| {
+            let lowest = signals.iter().min().map_or("-".into(), i8::to_string);
+            let sum: i32 = signals.iter().map(|signal| i32::from(*signal)).sum();
+            format!(" {lowest} {sum}")
+        });
+        Some(format!("ok {} {errors} {packets}{strength}", figures.len()))
+    }
+}
+
 /// Every entry in order, each before those below it: its numbers, its length, its bytes.
 fn gather(entries: &[Entry], path: &mut Vec<u16>, count: &mut usize, all: &mut Vec<u8>) {
     for (index, entry) in entries.iter().enumerate() {
@@ -331,6 +352,10 @@ fn answer(table: &mut Table, line: &str) -> Result<String, Bad> {
         "U" => {
             let which = number(&mut fields)?;
             text(0xd4, true, which, &bytes(word(&mut fields)?)?)
+        }
+        "m" => {
+            let kind = number(&mut fields)?;
+            of_kind(kind, Report(&bytes(word(&mut fields)?)?)).flatten().unwrap_or(NO.into())
         }
         "d" => {
             let kind = number(&mut fields)?;
