@@ -1,0 +1,57 @@
+-- What is claimed of this crate's calls and definitions; proofs/Claims.antt proves it.
+use mathlib.Core.Path.{_≡_}
+use mathlib.Core.Bool.{true}
+use mathlib.Core.List.{List, _++_, List·Permᴰ}
+use Prim.Native.Nat.{ℕ, _+_, _≤_}
+use lib.ListN.{length}
+use Rattle.numbers.specs.Bytes.{AllBytes}
+use Rattle.numbers.specs.Numbers.{gives}
+use Rattle.numbers.specs.Firmness.{Firm}
+use Rattle.links.specs.declared.LinkKind.{LinkKind}
+use Rattle.links.specs.declared.LinkReport.{LinkReport}
+use Rattle.links.specs.Pairs.{pairsIn, txRead, txPairOf, rxRead, rxPairOf}
+use Rattle.links.specs.Reports.{mostPairs, reportedOf, reportOf, reportOver, someValueGives, merged}
+
+-- Rule A4, for each public call by its name: any two answers that its contract allows are one.
+pub record Firmness : Type 0 where
+  pub report : (kind : LinkKind) (value : List ℕ) → Firm (λ r. reportedOf r ≡ reportOf kind value)
+  pub merge : (one other : LinkReport) → Firm (λ r. reportedOf r ≡ merged one other)
+  pub tx-pair : (value : List ℕ) (number : ℕ) → Firm (λ r. txRead r ≡ txPairOf value number)
+  pub rx-pair : (value : List ℕ) (number : ℕ) → Firm (λ r. rxRead r ≡ rxPairOf value number)
+
+-- Rule Q5: the order of the pairs makes no difference.
+abbrev pub AnyOrder : Type 0
+AnyOrder = (k : LinkKind) (s t : List ℕ) (ps qs : List (List ℕ)) → pairsIn k s ≡ gives ps → pairsIn k t ≡ gives qs →
+    List·Permᴰ ps qs → reportOf k s ≡ reportOf k t
+
+-- Rule Q6: the report of every value passes the test.
+abbrev pub ValuesPass : Type 0
+ValuesPass = (k : LinkKind) (s : List ℕ) (r : LinkReport) → AllBytes s → reportOf k s ≡ gives r → someValueGives r ≡ true
+
+-- Rule Q6: and no other does. For each report that passes there is a value of bytes that gives it.
+pub record GivenBy (r : LinkReport) : Type 0 where
+  pub value : List ℕ
+  pub bytes : AllBytes value
+  pub reports : reportOf (r .kind) value ≡ gives r
+
+abbrev pub NoOthers : Type 0
+NoOthers = (r : LinkReport) → someValueGives r ≡ true → GivenBy r
+
+-- Rule Q7: the report made from those of two values is the report over the pairs of both.
+abbrev pub MadeFromTwo : Type 0
+MadeFromTwo = (k : LinkKind) (s t : List ℕ) (ps qs : List (List ℕ)) (a b : LinkReport) → AllBytes s → AllBytes t →
+    pairsIn k s ≡ gives ps → pairsIn k t ≡ gives qs → reportOf k s ≡ gives a → reportOf k t ≡ gives b →
+    length ps + length qs ≤ mostPairs → merged a b ≡ gives (reportOver k (ps ++ qs))
+
+-- Rule Q7: either order gives the same.
+abbrev pub EitherOrder : Type 0
+EitherOrder = (a b : LinkReport) → merged a b ≡ merged b a
+
+-- everything that is claimed of this crate
+pub record Claims : Type 0 where
+  pub firmness : Firmness
+  pub any-order : AnyOrder
+  pub values-pass : ValuesPass
+  pub no-others : NoOthers
+  pub made-from-two : MadeFromTwo
+  pub either-order : EitherOrder

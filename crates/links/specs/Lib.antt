@@ -1,0 +1,4 @@
+pub mod Pairs
+pub mod Reports
+pub mod PrivatePairs
+pub mod Claims
