@@ -10,6 +10,8 @@ ghost use lib.IntN.{_+ℤ_};
 ghost use mir.Syntax.{w32};
 ghost use mir.Val.{SFits};
 ghost use Rattle.numbers.specs.Numbers.{gives, mapped};
+ghost use Rattle.links.specs.declared.LinkKind.the-variants.{Rx};
+ghost use Rattle.links.specs.declared.Lowest.the-variants.{Signal};
 ghost use Rattle.links.specs.Pairs.{pairsIn};
 ghost use Rattle.links.specs.Reports.{lower, lowerOf, noPairs, onePair, added, reportOver, signalsFit, someValueGives, sameKind, mergeable};
 ghost use Rattle.links.specs.PrivatePairs.{pairBytes};
@@ -184,16 +186,20 @@ fn signals_fit(kind: LinkKind, n: u16, lowest: Lowest, sum: i32) -> bool
                 if n == 0 {
                     return false;
                 }
-                sum_between(n as i32, l as i32, sum)
+                sum_between(n, l, sum)
             }
         },
     }
 }
 
-// Whether n signals of which l is the lowest, n not 0, can have this sum.
-fn sum_between(n: i32, l: i32, sum: i32) -> bool {
-    if n * l <= sum {
-        return sum <= l + (n - 1) * 127;
+// Whether n signal strengths of which l is the lowest can have this sum. All of them are at least l, and one is l.
+fn sum_between(n: u16, l: i8, sum: i32) -> bool
+    requires { ⌜ (0 < n) × (n ≤ 1024) ⌝ }
+    ensures { λ b. ⌜ b ≡ signalsFit Rx n (Signal l) sum ⌝ }
+{
+    let lowest = l as i32;
+    if (n as i32) * lowest <= sum {
+        return sum <= lowest + ((n - 1) as i32) * 127;
     }
     false
 }

@@ -1,0 +1,6 @@
+-- What the proofs of several functions use, and what is proved of the definitions besides.
+pub mod Signed
+pub mod Joining
+pub mod Machine
+pub mod Passing
+pub mod Between
