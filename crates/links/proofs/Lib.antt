@@ -2,5 +2,7 @@
 pub mod Signed
 pub mod Joining
 pub mod Machine
-pub mod Passing
 pub mod Between
+pub mod Passing
+pub mod Witness
+pub mod Merging

@@ -1,26 +1,22 @@
+-- `links::merge` meets its contract: by the test.
+use mathlib.Core.Path.{sym, ap, _∙_}
 use borrow.Author.Needs.{needs}
+use Rattle.numbers.specs.Numbers.{gives}
+use Rattle.links.proofs.Merging.{added-fits, merged-gives, merged-refuses}
 use Rattle.links.proofs.merge.Statement.{statement}
 use Rattle.links.proofs.merge.Tie as tie
-use Rattle.links.proofs.merge.Reads as reads
-use Rattle.links.proofs.merge.Lts as lts
-use Rattle.links.proofs.totals.add.Reads as add-reads
-use Rattle.links.proofs.totals.can_merge.Reads as can-merge-reads
 
--- src/lib.rt:102:8
-can-merge-requires : tie.Need-can-merge-requires
-can-merge-requires c κs = search needs
-
--- src/lib.rt:103:31
 add-requires : tie.Need-add-requires
-add-requires c κs = ?
+add-requires c κs = let x = c .before .before .args in added-fits (x .one) (x .other) (sym (c .before .can-merge .ensures) ∙ c .if1 .taken)
 
--- src/lib.rt:103:9
 returns : tie.Need-returns
-returns c = ?
+returns c =
+    let test = c .before .before in
+    let x = test .before .args in
+    ap gives (c .add .ensures) ∙ sym (merged-gives (x .one) (x .other) (sym (test .can-merge .ensures) ∙ c .before .if1 .taken))
 
--- src/lib.rt:99:1
 returns-2 : tie.Need-returns-2
-returns-2 c = ?
+returns-2 c = let x = c .before .before .args in sym (merged-refuses (x .one) (x .other) (sym (c .before .can-merge .ensures) ∙ c .if1 .left))
 
 pub merge-spec : {M : Type 1} → statement M
-merge-spec = tie.close (tie.spec can-merge-requires add-requires returns returns-2)
+merge-spec = tie.close (tie.spec (λ c κs. search needs) add-requires returns returns-2)

@@ -1,76 +1,70 @@
+-- `links::totals::signals_fit` meets its contract: by the lowest, the kind and whether there are pairs.
+use mathlib.Core.Path.{_≡_, sym, ap, _∙_}
+use mathlib.Core.Bool.{Bool, false}
+use Prim.Native.Nat.{ℕ, zero, suc}
+use native.Mathlib.Omega.{arith}
 use borrow.Author.Needs.{needs}
+use lib.IntN.{ℤ}
+use mir.Syntax.{w8, w32}
+use mir.Val.{SFits, toZ, ofZ}
+use mir.Facts.{toZ-ofZ}
+use Rattle.links.specs.declared.LinkKind.the-variants.{Rx}
+use Rattle.links.specs.declared.Lowest.the-variants.{Absent, Signal}
+use Rattle.links.specs.Reports.{isZero, signalsFit}
+use Rattle.links.proofs.Merging.{zero-test}
 use Rattle.links.proofs.totals.signals_fit.Statement.{statement}
 use Rattle.links.proofs.totals.signals_fit.Tie as tie
-use Rattle.links.proofs.totals.signals_fit.Reads as reads
-use Rattle.links.proofs.totals.signals_fit.Lts as lts
-use Rattle.links.proofs.totals.sum_between.Reads as sum-between-reads
 
--- src/totals.rt:174:27
-enum-told : tie.Need-enum-told
-enum-told c = search needs
+-- with pairs, a report of kind 10 has a lowest
+none-with-pairs : (n : ℕ) (s : ℤ) → (n ≡ 0 → ⊥) → false ≡ signalsFit Rx n Absent s
+none-with-pairs zero s h = absurd (h (omega arith))
+none-with-pairs (suc n) s h = λ i. false
 
--- src/totals.rt:175:29
-enum-told-2 : tie.Need-enum-told-2
-enum-told-2 c = search needs
-
--- src/totals.rt:177:20
-enum-told-3 : tie.Need-enum-told-3
-enum-told-3 c = search needs
-
--- src/totals.rt:178:21
 returns : tie.Need-returns
-returns c = ?
+returns c =
+    let start = c .before .before .before .before .before in
+    let x = start .args in
+    zero-test (x .sum) (start .fits .sum) ∙
+    sym (λ i. signalsFit (c .before .enum-told3 .given .1 i) (c .if1 .taken i) (c .before .before .before .enum-told .given .1 i) (x .sum))
 
--- src/totals.rt:183:24
-enum-known-lowest : tie.Need-enum-known-lowest
-enum-known-lowest c = search needs
-
--- src/totals.rt:184:29
-enum-told-4 : tie.Need-enum-told-4
-enum-told-4 c = search needs
-
--- src/totals.rt:186:20
-enum-told-5 : tie.Need-enum-told-5
-enum-told-5 c = search needs
-
--- src/totals.rt:187:21
-returns-2 : tie.Need-returns-2
-returns-2 c = search needs
-
--- src/totals.rt:189:17
-sum-between-requires : tie.Need-sum-between-requires
-sum-between-requires c κs = search needs
-
--- src/totals.rt:169:1
 returns-3 : tie.Need-returns-3
-returns-3 c = ?
+returns-3 c =
+    let start = c .before .before .before .before in
+    let x = start .args in
+    zero-test (x .sum) (start .fits .sum) ∙ sym (λ i. signalsFit (c .enum-told2 .given .1 i) (x .n) (c .before .before .enum-told .given .1 i) (x .sum))
 
--- src/totals.rt:169:1
 returns-4 : tie.Need-returns-4
-returns-4 c = ?
+returns-4 c =
+    let start = c .before .before .before .before .before in
+    let x = start .args in
+    none-with-pairs (x .n) (x .sum) (c .if1 .left) ∙
+    sym (λ i. signalsFit (c .before .enum-told3 .given .1 i) (x .n) (c .before .before .before .enum-told .given .1 i) (x .sum))
 
--- src/totals.rt:169:1
-returns-5 : tie.Need-returns-5
-returns-5 c = search needs
-
--- src/totals.rt:169:1
 returns-6 : tie.Need-returns-6
-returns-6 c = ?
+returns-6 c =
+    let told = c .before .before .before .before in
+    let start = told .before .before .before in
+    let x = start .args in
+    let l = told .before .lowest .given in
+    let fits : SFits w8 (l .0 .0) = record { sfits = told .known-told .given .0 .1 } in
+    c .sum-between .ensures ∙
+    (λ i. signalsFit Rx (x .n) (Signal (toZ-ofZ {w = w8} fits i)) (toZ-ofZ {w = w32} (start .fits .sum) i)) ∙
+    sym (λ i. signalsFit (c .before .before .enum-told5 .given .1 i) (x .n) (l .1 i) (x .sum))
 
 pub signals-fit-spec : {M : Type 1} → statement M
 signals-fit-spec =
     tie.close
     (tie.spec
-    enum-told
-    enum-told-2
-    enum-told-3
+    (λ c. search needs)
+    (λ c. search needs)
+    (λ c. search needs)
     returns
-    enum-known-lowest
-    enum-told-4
-    enum-told-5
-    returns-2
-    sum-between-requires
+    (λ c. search needs)
+    (λ c. search needs)
+    (λ c. search needs)
+    (λ c. search needs)
+    (λ c κs. search needs)
     returns-3
     returns-4
-    returns-5
+    (λ c. search needs)
     returns-6)

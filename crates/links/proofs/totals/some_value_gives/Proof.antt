@@ -1,39 +1,51 @@
+-- `links::totals::some_value_gives` meets its contract: test by test.
+use mathlib.Core.Path.{_≡_, ap, _∙_}
+use Prim.Native.Nat.{_*_}
 use borrow.Author.Needs.{needs}
+use borrow.Author.Tests.{le-leb, lt-leb}
+use mir.Syntax.{w32}
+use mir.Val.{SFits}
+use mir.Facts.{toZ-ofZ}
+use Rattle.links.specs.Reports.{signalsFit, someValueGives}
+use Rattle.links.proofs.Merging.{fails, holds}
 use Rattle.links.proofs.totals.some_value_gives.Statement.{statement}
 use Rattle.links.proofs.totals.some_value_gives.Tie as tie
-use Rattle.links.proofs.totals.some_value_gives.Reads as reads
-use Rattle.links.proofs.totals.some_value_gives.Lts as lts
-use Rattle.links.proofs.totals.signals_fit.Reads as signals-fit-reads
 
--- src/totals.rt:152:9
 returns : tie.Need-returns
-returns c = ?
+unfolding someValueGives
+returns c = let r = c .before .before .args .r in fails _ (lt-leb (r .pairs) 1024 (c .if1 .taken))
 
--- src/totals.rt:154:17
-cast-most : tie.Need-cast-most
-cast-most c = search needs
-
--- src/totals.rt:154:16
-mul-most : tie.Need-mul-most
-mul-most c = search needs
-
--- src/totals.rt:156:9
 returns-2 : tie.Need-returns-2
-returns-2 c = ?
+unfolding someValueGives
+returns-2 c =
+    let few = c .before .before .before in
+    let r = few .before .before .args .r in
+    holds (le-leb (r .pairs) 1024 (few .if1 .left)) (fails _ (lt-leb (r .errors) (r .pairs * 4294967295) (c .if2 .taken)))
 
--- src/totals.rt:159:9
 returns-3 : tie.Need-returns-3
-returns-3 c = ?
+unfolding someValueGives
+returns-3 c =
+    let errors = c .before .before in
+    let few = errors .before .before .before in
+    let r = few .before .before .args .r in
+    holds (le-leb (r .pairs) 1024 (few .if1 .left))
+    (holds (le-leb (r .errors) (r .pairs * 4294967295) (errors .if2 .left))
+    (fails _ (lt-leb (r .packets) (r .pairs * 4294967295) (c .if3 .taken))))
 
--- src/totals.rt:163:5
-signals-fit-requires : tie.Need-signals-fit-requires
-signals-fit-requires c κs = search needs
-
--- src/totals.rt:148:1
 returns-4 : tie.Need-returns-4
-returns-4 c = ?
+unfolding someValueGives
+returns-4 c =
+    let packets = c .before .before in
+    let errors = packets .before .before in
+    let few = errors .before .before .before in
+    let r = few .before .before .args .r in
+    let fits : SFits w32 (r .sum) = record { sfits = c .before .struct-told .given .1 .1 .1 .1 .1 .0 .1 } in
+    holds (le-leb (r .pairs) 1024 (few .if1 .left))
+    (holds (le-leb (r .errors) (r .pairs * 4294967295) (errors .if2 .left))
+    (holds (le-leb (r .packets) (r .pairs * 4294967295) (packets .if3 .left))
+    (c .signals-fit .ensures ∙ ap (signalsFit (r .kind) (r .pairs) (r .low)) (toZ-ofZ {w = w32} fits))))
 
 pub some-value-gives-spec : {M : Type 1} → statement M
 some-value-gives-spec =
     tie.close
-    (tie.spec returns cast-most mul-most returns-2 returns-3 signals-fit-requires returns-4)
+    (tie.spec returns (λ c. search needs) (λ c. search needs) returns-2 returns-3 (λ c κs. search needs) returns-4)
