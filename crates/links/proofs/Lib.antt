@@ -6,3 +6,4 @@ pub mod Between
 pub mod Passing
 pub mod Witness
 pub mod Merging
+pub mod Reading
