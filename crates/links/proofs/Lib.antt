@@ -7,3 +7,4 @@ pub mod Passing
 pub mod Witness
 pub mod Merging
 pub mod Reading
+pub mod Loop

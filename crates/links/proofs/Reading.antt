@@ -3,7 +3,9 @@ use mathlib.Core.Path.{_≡_, refl, sym, ap, _∙_}
 use mathlib.Core.List.{List, [], _∷_}
 use Prim.Native.Nat.{ℕ, zero, suc, _+_, _*_, _-_, _<_, _≤_}
 use native.Mathlib.Omega.{arith}
-use lib.ListN.{length, take, drop, getD}
+use borrow.Author.Tests.{le-leb, lt-leb}
+use lib.ListN.{length, take, drop, getD, length-drop}
+use lib.Seq.{length-take-le}
 use Rattle.numbers.specs.Numbers.{Answer, gives, refuses, andThen, mapped}
 use Rattle.numbers.proofs.Firm.{never}
 use Rattle.numbers.proofs.Answers.{given, gave, follows, stops, mapped-given, mapped-refused}
@@ -17,6 +19,7 @@ use Rattle.layouts.proofs.Values.{ended}
 use Rattle.links.specs.declared.LinkKind.{LinkKind}
 use Rattle.links.specs.declared.LinkKind.the-variants.{Tx, Rx}
 use Rattle.links.specs.Pairs.{linkCode, pairsIn, pairAt}
+use Rattle.links.specs.Reports.{mostPairs, reportOver, reportOf}
 use Rattle.links.specs.PrivatePairs.{pairBytes}
 
 abbrev linkLayout : LinkKind → Layout
@@ -126,6 +129,11 @@ by-entry k s i = go (readAs (linkKind k) s) refl
         stops (pairsIn k s) n vs (λ ps. nthOf ps i) (refused-all partsIn k s n vs x) ∙
         sym (mapped-refused (λ e. partOf (gives e) s) (locateEntry (linkCode k) (i ∷ []) s) n vs (refused-all (λ l t. spanOf l (i ∷ []) t) k s n vs x))
 
+-- pair i of n ends in the value
+pub below : (k : LinkKind) (i n : ℕ) (s : List ℕ) → i < n → 12 + n * pairBytes k ≤ length s → 12 + i * pairBytes k + pairBytes k ≤ length s
+below Tx i n s h g = omega (arith, h, g)
+below Rx i n s h g = omega (arith, h, g)
+
 -- an entry that is found is a whole pair in the value
 pub record Whole (k : LinkKind) (s : List ℕ) (e : Span) : Type 0 where
   pub long : e .end ≡ e .start + pairBytes k
@@ -139,16 +147,12 @@ whole k s i e x =
     let is = l .by-number i ∙ mapped-given (λ e. partOf (gives e) s) (spanOf (linkLayout k) (i ∷ []) s) e (g .then) in
     let less : i < length (l .pairs) = found (l .pairs) i (partOf (gives e) s) is in
     let at : pairSpan k i ≡ e = given (pairSpan k i) e (sym (l .spans i less) ∙ g .then) in
-    record { long = rw (← at); inside = rw (← at) (below k i (length (l .pairs)) less (l .inside)) }
+    record { long = rw (← at); inside = rw (← at) (below k i (length (l .pairs)) s less (l .inside)) }
   where
     found : (ps : List (List ℕ)) (i : ℕ) (p : List ℕ) → nthOf ps i ≡ gives p → i < length ps
     found [] i p x = never p 6 [] (sym x)
     found (q ∷ ps) zero p x = omega arith
     found (q ∷ ps) (suc i) p x = omega (arith, found ps i p x)
-
-    below : (k : LinkKind) (i n : ℕ) → i < n → 12 + n * pairBytes k ≤ length s → 12 + i * pairBytes k + pairBytes k ≤ length s
-    below Tx i n h g = omega (arith, h, g)
-    below Rx i n h g = omega (arith, h, g)
 
 -- pair i, as code reads it
 pub each-part : (k : LinkKind) (s : List ℕ) (r : Consumed) (l : Laid k s r) (i : ℕ) → i < length (l .pairs) →
@@ -167,3 +171,32 @@ each-part k s r l i h =
 
     long : gives (partOf (gives (pairSpan k i)) s) ≡ gives (take (pairBytes k) (drop (12 + i * pairBytes k) s))
     long = ap (λ n. gives (take n (drop (12 + i * pairBytes k) s))) size
+
+-- a pair that is asked for, by where it is found
+pub pair-given : (k : LinkKind) (s : List ℕ) (i : ℕ) (e : Span) → locateEntry (linkCode k) (i ∷ []) s ≡ gives e →
+    pairAt k s i ≡ gives (partOf (gives e) s)
+pair-given k s i e x = by-entry k s i ∙ mapped-given (λ e. partOf (gives e) s) (locateEntry (linkCode k) (i ∷ []) s) e x
+
+pub pair-refused : (k : LinkKind) (s : List ℕ) (i n : ℕ) (vs : List ℕ) → locateEntry (linkCode k) (i ∷ []) s ≡ refuses n vs →
+    pairAt k s i ≡ refuses n vs
+pair-refused k s i n vs x = by-entry k s i ∙ mapped-refused (λ e. partOf (gives e) s) (locateEntry (linkCode k) (i ∷ []) s) n vs x
+
+pub long-part : (k : LinkKind) (s : List ℕ) (e : Span) → Whole k s e → pairBytes k ≤ length (partOf (gives e) s)
+long-part k s e w =
+    let n = length-take-le (e .end - e .start) (drop (e .start) s) (rw length-drop (omega (arith, w .long, w .inside))) in
+    omega (arith, n, w .long)
+
+-- the report over a value, by its pairs
+pub few-reported : (k : LinkKind) (s : List ℕ) (ps : List (List ℕ)) → pairsIn k s ≡ gives ps → length ps ≤ mostPairs →
+    reportOf k s ≡ gives (reportOver k ps)
+unfolding reportOf
+few-reported k s ps x few = rw (x, le-leb (length ps) mostPairs few)
+
+pub too-many : (k : LinkKind) (s : List ℕ) (ps : List (List ℕ)) → pairsIn k s ≡ gives ps → mostPairs < length ps →
+    reportOf k s ≡ refuses 19 []
+unfolding reportOf
+too-many k s ps x many = rw (x, lt-leb (length ps) mostPairs many)
+
+pub not-reported : (k : LinkKind) (s : List ℕ) (n : ℕ) (vs : List ℕ) → pairsIn k s ≡ refuses n vs → reportOf k s ≡ refuses n vs
+unfolding reportOf
+not-reported k s n vs x = rw x

@@ -36,7 +36,7 @@ pub one-number : (a b : List ℕ) → length a ≡ length b → AllBytes a → A
 one-number a b l h k e = sym (bytes-back a h) ∙ rw (l, e) (bytes-back b k)
 
 -- a part of bytes is bytes
-part-bytes : (w p : ℕ) (s : List ℕ) → AllBytes s → AllBytes (take w (drop p s))
+pub part-bytes : (w p : ℕ) (s : List ℕ) → AllBytes s → AllBytes (take w (drop p s))
 part-bytes w p s h = start w (drop p s) (λ i. rw getD-drop (h (p + i)))
   where
     start : (w : ℕ) (s : List ℕ) → AllBytes s → AllBytes (take w s)
