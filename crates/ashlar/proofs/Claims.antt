@@ -26,6 +26,9 @@ firmness = record {
   ashlar-station-at = λ t station. by-equation _;
   ashlar-station-count = λ t. by-equation _;
   ashlar-station-row = λ t n. by-equation _;
+  ashlar-link-report-tx = λ value. by-equation _;
+  ashlar-link-report-rx = λ value. by-equation _;
+  ashlar-link-merge = λ one other. by-equation _;
 }
 
 pub claims : Claims

@@ -29,6 +29,10 @@ use Rattle.stations.specs.Events.{answerFrom, tableFrom}
 use Rattle.c_stations.specs.declared.AshlarHeard.{AshlarHeard}
 use Rattle.c_stations.specs.declared.AshlarApplied.{AshlarApplied}
 use Rattle.c_stations.specs.Numbers.{associationWith, eventNumbers, appliedNumbers, whereNumbers, rowNumbers}
+use Rattle.links.specs.declared.LinkKind.the-variants.{Tx, Rx}
+use Rattle.links.specs.Reports.{reportOf}
+use Rattle.c_links.specs.declared.AshlarReport.{AshlarReport}
+use Rattle.c_links.specs.Numbers.{reportNumbers, mergedFrom}
 
 -- Rule A4: for each call, by its name, any two answers that its contract allows are one. What the call leaves in the
 -- list, the tables, the store and the output is part of the answer.
@@ -64,6 +68,9 @@ pub record Firmness : Type 0 where
       → Firm (λ r. r ≡ whereNumbers (whereShown (whereOf t (addressNumber station))))
   pub ashlar-station-count : (t : Stations) → Firm (λ r. r ≡ countOf t)
   pub ashlar-station-row : (t : Stations) (n : ℕ) → Firm (λ r. r ≡ rowNumbers (rowShown (rowAt t n)))
+  pub ashlar-link-report-tx : (value : List ℕ) → Firm (λ r. r ≡ reportNumbers (reportOf Tx value))
+  pub ashlar-link-report-rx : (value : List ℕ) → Firm (λ r. r ≡ reportNumbers (reportOf Rx value))
+  pub ashlar-link-merge : (one other : AshlarReport) → Firm (λ r. r ≡ reportNumbers (mergedFrom one other))
 
 -- everything that is claimed of this crate
 pub record Claims : Type 0 where

@@ -1,5 +1,5 @@
 // The hot calls for C (rule C1): each is a thin shell over the layer's own call. Its answer crosses in numbers, as
-// `c_answers` or `c_stations` says.
+// `c_answers`, `c_stations` or `c_links` says.
 use c_answers::AshlarFound;
 use c_answers::AshlarHeader;
 use c_answers::AshlarKind;
@@ -7,11 +7,13 @@ use c_answers::AshlarPart;
 use c_answers::AshlarPushed;
 use c_answers::AshlarShown;
 use c_answers::AshlarWalk;
+use c_links::AshlarReport;
 use c_stations::AshlarApplied;
 use c_stations::AshlarAt;
 use c_stations::AshlarHeard;
 use c_stations::AshlarRow;
 use layouts::Path;
+use links::LinkKind;
 use pushing::Arrival;
 use records::MacAddr;
 use stations::Stations;
@@ -35,8 +37,11 @@ ghost use Rattle.stations.specs.Addresses.{addressNumber};
 ghost use Rattle.stations.specs.Whereabouts.{eventOf};
 ghost use Rattle.stations.specs.Rows.{freshStations, whereOf, answerTo, tableAfter, rowAt, countOf, whereShown, rowShown};
 ghost use Rattle.stations.specs.Events.{answerFrom, tableFrom};
+ghost use Rattle.links.specs.declared.LinkKind.the-variants.{Tx, Rx};
+ghost use Rattle.links.specs.Reports.{reportOf};
 ghost use Rattle.c_answers.specs.Numbers.{headerNumbers, walkNumbers, kindNumbers, foundNumbers, partNumbers, Numbered, shownIn};
 ghost use Rattle.c_stations.specs.Numbers.{associationWith, eventNumbers, appliedNumbers, whereNumbers, rowNumbers};
+ghost use Rattle.c_links.specs.Numbers.{reportNumbers, mergedFrom};
 
 // The header of the CMDU at the start of the bytes (rule B6).
 #[no_mangle]
@@ -212,4 +217,28 @@ pub extern "C" fn ashlar_station_row(t: &Stations, n: usize) -> AshlarRow
     ensures { λ r. ⌜ r ≡ rowNumbers (rowShown (rowAt (now (t .entry)) n)) ⌝ }
 {
     c_stations::row_numbers(stations::row(t, n))
+}
+
+// The report over the pairs of a value of kind 9, what was sent (rule Q4).
+#[no_mangle]
+pub extern "C" fn ashlar_link_report_tx(value: &[u8]) -> AshlarReport
+    ensures { λ r. ⌜ r ≡ reportNumbers (reportOf Tx (now (value .entry))) ⌝ }
+{
+    c_links::report_numbers(links::report(LinkKind::Tx, value))
+}
+
+// The report over the pairs of a value of kind 10, what was received (rule Q4).
+#[no_mangle]
+pub extern "C" fn ashlar_link_report_rx(value: &[u8]) -> AshlarReport
+    ensures { λ r. ⌜ r ≡ reportNumbers (reportOf Rx (now (value .entry))) ⌝ }
+{
+    c_links::report_numbers(links::report(LinkKind::Rx, value))
+}
+
+// Two reports made into one (rule Q7).
+#[no_mangle]
+pub extern "C" fn ashlar_link_merge(one: AshlarReport, other: AshlarReport) -> AshlarReport
+    ensures { λ r. ⌜ r ≡ reportNumbers (mergedFrom one other) ⌝ }
+{
+    c_links::report_numbers(c_links::merge_from(one, other))
 }
