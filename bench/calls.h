@@ -22,6 +22,9 @@ __typeof__(ashlar_station_event_from) plain_station_event_from;
 __typeof__(ashlar_station_at) plain_station_at;
 __typeof__(ashlar_station_count) plain_station_count;
 __typeof__(ashlar_station_row) plain_station_row;
+__typeof__(ashlar_link_report_tx) plain_link_report_tx;
+__typeof__(ashlar_link_report_rx) plain_link_report_rx;
+__typeof__(ashlar_link_merge) plain_link_merge;
 
 #ifdef PLAIN
 #define CALL(name) plain_##name

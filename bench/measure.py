@@ -50,6 +50,8 @@ ROWS = [
     ("A join of a new station, 127 held", "join-new", None, None, 1500),
     ("A stale leave, 128 held", "leave-stale", None, None, 1500),
     ("Where a station is that is not held, 128 held", "where-none", None, None, 1500),
+    ("A report over 1,024 pairs of kind 10", "report-1024", 2, None, None),
+    ("Two reports of 512 pairs made into one", "merge", 2, None, None),
 ]
 # no payload is copied in these
 UNCOPIED = ("url-1400", "join-known", "join-new", "leave-stale", "where-none")
@@ -209,8 +211,8 @@ A row is counted only if all programs give the same answer.
   of its payload, which by itself takes {copies[16]:,.0f} for 16 bytes and {copies[1492]:,.0f} for 1,492. A text may take 3 for each
   byte. A call of the station table may take 1,500; the station is the one that is found last.
 - Some rows have no original: it reads a header only together with what follows it, it cuts and replaces texts, and it
-  has no station table. Its find returns the value itself; ours and plain C say where it lies, so their turns copy it
-  out.
+  has neither a station table nor link reports. Its find returns the value itself; ours and plain C say where it lies,
+  so their turns copy it out.
 
 | Work | Plain C | Original | Ours | to plain C | to the original | Bar | |
 |---|---:|---:|---:|---:|---:|---|---|

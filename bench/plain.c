@@ -416,3 +416,46 @@ AshlarRow plain_station_row(const AshlarStations *t, size_t n) {
     if (n >= ASHLAR_STATIONS || !t->stations[n]) return (AshlarRow){.held = false};
     return (AshlarRow){address_of(t->stations[n] - 1), address_of(t->points[n]), true};
 }
+
+/* ---- Link reports ---- */
+
+static AshlarReport no_report(uint8_t number) { return (AshlarReport){.refusal = number}; }
+
+static uint32_t be32(const uint8_t *p) { return (uint32_t)p[0] << 24 | (uint32_t)p[1] << 16 | (uint32_t)p[2] << 8 | p[3]; }
+
+/* the pairs have so many bytes, with errors and then packets at these places */
+static inline __attribute__((always_inline)) AshlarReport report(uint8_t kind, size_t pair, size_t errors, const uint8_t *v, size_t n) {
+    AshlarKind k = to_end(12, pair, n);
+    if (k.refusal) return no_report(k.refusal);
+    if (k.entries > ASHLAR_PAIRS) return no_report(19);
+    AshlarReport r = {.count = (uint16_t)k.entries, .kind = kind};
+    for (const uint8_t *p = v + 12; p < v + n; p += pair) {
+        r.errors += be32(p + errors);
+        r.packets += be32(p + errors + 4);
+        if (kind == ASHLAR_LINK_METRIC_TX) continue;
+        int8_t signal = (int8_t)p[22];
+        r.sum += signal;
+        if (!r.has_lowest || signal < r.lowest) r.lowest = signal;
+        r.has_lowest = true;
+    }
+    return r;
+}
+
+AshlarReport plain_link_report_tx(const uint8_t *v, size_t n) { return report(ASHLAR_LINK_METRIC_TX, 29, 15, v, n); }
+
+AshlarReport plain_link_report_rx(const uint8_t *v, size_t n) { return report(ASHLAR_LINK_METRIC_RX, 23, 14, v, n); }
+
+/* whether some value gives this report */
+static bool is_given(AshlarReport r) {
+    uint64_t most = r.count * 0xFFFFFFFFull;
+    if (r.kind != ASHLAR_LINK_METRIC_TX && r.kind != ASHLAR_LINK_METRIC_RX) return false;
+    if (r.count > ASHLAR_PAIRS || r.errors > most || r.packets > most) return false;
+    if (r.kind == ASHLAR_LINK_METRIC_TX || !r.count) return !r.has_lowest && !r.lowest && !r.sum;
+    return r.has_lowest && r.count * r.lowest <= r.sum && r.sum <= r.lowest + (r.count - 1) * 127;
+}
+
+AshlarReport plain_link_merge(AshlarReport a, AshlarReport b) {
+    if (a.kind != b.kind || a.count + b.count > ASHLAR_PAIRS || !is_given(a) || !is_given(b)) return no_report(19);
+    bool second = !a.has_lowest || (b.has_lowest && b.lowest < a.lowest);
+    return (AshlarReport){a.errors + b.errors, a.packets + b.packets, a.sum + b.sum, (uint16_t)(a.count + b.count), a.kind, second ? b.lowest : a.lowest, a.has_lowest || b.has_lowest, 0};
+}

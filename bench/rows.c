@@ -174,6 +174,31 @@ static void lookup(int turns, uint8_t station) {
     printf("%d %d\n", a.held, a.point.bytes[5]);
 }
 
+/* so many pairs of kind 10, after two addresses */
+static void pairs(size_t many) {
+    while (size < 12 + many * 23) byte((uint8_t)(size * size / 5));
+}
+
+static void shown(AshlarReport r) {
+    printf("%d %d %lu %lu %d %d %d, %d\n", r.kind, r.count, r.errors, r.packets, r.has_lowest, r.lowest, r.sum, r.refusal);
+}
+
+static void link_report(int turns) {
+    AshlarReport r = {0};
+    for (int i = 0; i < turns; i++) r = CALL(link_report_rx)(payload, size);
+    shown(r);
+}
+
+/* the report over all pairs, made from those over the first 512 and over the others */
+static void link_merge(int turns) {
+    size_t first = 12 + 512 * 23;
+    AshlarReport r = {0}, a = CALL(link_report_rx)(payload, first);
+    memmove(payload + 12, payload + first, size - first);
+    AshlarReport b = CALL(link_report_rx)(payload, size - first + 12);
+    for (int i = 0; i < turns; i++) r = CALL(link_merge)(a, b);
+    shown(r);
+}
+
 int main(int argc, char **argv) {
     if (argc < 3) return 2;
     const char *row = argv[1];
@@ -203,6 +228,8 @@ int main(int argc, char **argv) {
     else if (!strcmp(row, "join-new")) event(turns, ASHLAR_STATIONS - 1, ASHLAR_STATIONS - 1, 201, true);
     else if (!strcmp(row, "leave-stale")) event(turns, ASHLAR_STATIONS, ASHLAR_STATIONS - 1, 201, false);
     else if (!strcmp(row, "where-none")) lookup(turns, ASHLAR_STATIONS);
+    else if (!strcmp(row, "report-1024")) pairs(1024), link_report(turns);
+    else if (!strcmp(row, "merge")) pairs(1024), link_merge(turns);
     else return 2;
     return 0;
 }

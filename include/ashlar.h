@@ -19,6 +19,11 @@
    ashlar_station_event takes an event, and ashlar_station_event_from reads it from a TLV's value first.
    ashlar_station_at says where a station is. ashlar_station_count and ashlar_station_row list all stations.
 
+   Devices measure their links to neighbours. A TLV of kind 9 says what was sent, one of kind 10 what was
+   received, each by a list of pairs: an interface and a neighbour's, with errors and packets between them.
+   ashlar_link_report_tx and ashlar_link_report_rx add up the pairs of a value, and ashlar_link_merge makes
+   one report of two.
+
    Where bytes arrive piece by piece: a header or a payload that ends too early is refused with the number of
    bytes that are missing. A receive loop waits for that many more and calls again.
 
@@ -61,6 +66,7 @@ extern "C" {
 #define ASHLAR_TABLE 496                /* bytes of an AshlarTable */
 #define ASHLAR_STATIONS 128             /* stations that a station table holds, at most (rule P1) */
 #define ASHLAR_STATION_TABLE 2048       /* bytes of an AshlarStations */
+#define ASHLAR_PAIRS 1024               /* pairs that a report is over, at most (rule Q4) */
 #define ASHLAR_OLD 3000                 /* milliseconds after which ashlar_sweep drops a message (rule S1) */
 /* TLVs of a payload of `size` bytes, at most: ashlar_walk_into never refuses a list of that length with 14 */
 #define ASHLAR_TLVS(size) ((size) / 3)
@@ -332,6 +338,21 @@ typedef struct {
     bool held;             /* whether the row holds a station; an address of zeros can be a station's too */
 } AshlarRow;
 
+/* The pairs of a link metric, added up (rules Q4 to Q7). The totals are exact, and nothing is divided: the
+   share of errors is errors / packets, which a caller divides where packets is not 0, and the mean signal
+   strength is sum / count. Where refused, everything else is 0. */
+typedef struct {
+    uint64_t errors;  /* the sum of the pairs' errors */
+    uint64_t packets; /* the sum of their packets */
+    int32_t sum;      /* for kind 10, the sum of their signal strengths; else 0 */
+    uint16_t count;   /* how many pairs there are: at most ASHLAR_PAIRS */
+    uint8_t kind;     /* ASHLAR_LINK_METRIC_TX or ASHLAR_LINK_METRIC_RX */
+    int8_t lowest;    /* for kind 10, the lowest of their signal strengths, from -128 to 127; 0 where there is
+                         none */
+    bool has_lowest;  /* whether there is a lowest: for kind 10, whether there is a pair; for 9 false */
+    uint8_t refusal;  /* an AshlarRefusal */
+} AshlarReport;
+
 /* ---- Calls ---- */
 
 /* Reads the header of a CMDU, the first eight of the bytes. What follows these is not looked at (rule B6).
@@ -412,6 +433,21 @@ size_t ashlar_station_count(const AshlarStations *table);
 /* The station in row n, from 0, and its access point. Free rows lie between others: call it for each n below
    ASHLAR_STATIONS to list every station once. A row past these is free (rule P7). */
 AshlarRow ashlar_station_row(const AshlarStations *table, size_t n);
+
+/* Adds up the pairs of the value of a TLV of kind 9. A value without pairs has a report too: its totals are 0
+   (rule Q4). Refusals: 3, 4, then 19 for more than ASHLAR_PAIRS pairs. */
+AshlarReport ashlar_link_report_tx(const uint8_t *value, size_t value_length);
+
+/* The same for kind 10, with the signal strengths. Each is its byte as a number from -128 to 127 (rule Q2).
+   Refusals: 3, 4, 19. */
+AshlarReport ashlar_link_report_rx(const uint8_t *value, size_t value_length);
+
+/* Makes one report of two of one kind, as of two shifts or two devices: the report over the pairs of both, in
+   either order (rule Q7). It can be merged again. Refusals: 19, where the kinds differ, where there are more
+   than ASHLAR_PAIRS pairs together, or where no value gives one of the two (rules Q6 and C4). Such a report
+   has totals that so many pairs can't have, a kind that is neither 9 nor 10, or a lowest other than 0 without
+   its flag. One that was refused is among them, for its kind is 0. `refusal` is not looked at. */
+AshlarReport ashlar_link_merge(AshlarReport one, AshlarReport other);
 
 #ifdef __cplusplus
 }

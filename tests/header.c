@@ -474,10 +474,103 @@ static void crowd(void) {
     check("ashlar_station_count: with a free row", ashlar_station_count(&stations) == ASHLAR_STATIONS - 1);
 }
 
+/* ---- Link reports ---- */
+
+/* the pairs of link metrics, after two addresses: errors, packets and, for kind 10, a signal strength */
+static uint8_t metrics[12 + (ASHLAR_PAIRS + 1) * 29];
+
+static void number_at(uint8_t *at, uint32_t n) {
+    for (int i = 0; i < 4; i++) at[i] = (uint8_t)(n >> (24 - 8 * i));
+}
+
+static void sent(size_t i, uint32_t errors, uint32_t packets) {
+    uint8_t *pair = metrics + 12 + 29 * i;
+    memset(pair, 0xEE, 29);
+    number_at(pair + 15, errors), number_at(pair + 19, packets);
+}
+
+static void received(size_t i, uint32_t errors, uint32_t packets, int8_t signal) {
+    uint8_t *pair = metrics + 12 + 23 * i;
+    memset(pair, 0xEE, 22);
+    number_at(pair + 14, errors), number_at(pair + 18, packets);
+    pair[22] = (uint8_t)signal;
+}
+
+static bool same_report(AshlarReport a, AshlarReport b) {
+    return a.errors == b.errors && a.packets == b.packets && a.sum == b.sum && a.count == b.count && a.kind == b.kind && a.lowest == b.lowest && a.has_lowest == b.has_lowest && a.refusal == b.refusal;
+}
+
+static void unreported(const char *name, AshlarReport r, uint8_t refusal) {
+    refusals |= 1u << r.refusal;
+    check(name, same_report(r, (AshlarReport){.refusal = refusal}));
+}
+
+static void link_reports(void) {
+    check("AshlarReport: its size", sizeof(AshlarReport) == 32);
+    sent(0, 0x01020304, 0xFFFFFFFF), sent(1, 0x10203040, 0xFFFFFFFF);
+    AshlarReport r = ashlar_link_report_tx(metrics, 12 + 2 * 29);
+    check("AshlarReport: errors, packets", r.errors == 0x11223344 && r.packets == 0x1FFFFFFFE);
+    check("AshlarReport: count, kind, refusal", r.count == 2 && r.kind == ASHLAR_LINK_METRIC_TX && r.refusal == ASHLAR_OK);
+    check("ashlar_link_report_tx: no signal strength", !r.has_lowest && r.lowest == 0 && r.sum == 0);
+    unreported("ashlar_link_report_tx: 3, fewer bytes than two addresses", ashlar_link_report_tx(metrics, 11), ASHLAR_CUT_SHORT);
+    unreported("ashlar_link_report_tx: 4, a cut pair", ashlar_link_report_tx(metrics, 12 + 29 + 28), ASHLAR_LEFT_OVER);
+    unreported("ashlar_link_report_tx: 19 with a pair more", ashlar_link_report_tx(metrics, sizeof metrics), ASHLAR_NO_REPORT);
+    unreported("ashlar_link_report_tx: 4 before 19", ashlar_link_report_tx(metrics, sizeof metrics - 1), ASHLAR_LEFT_OVER);
+    check("ASHLAR_PAIRS: so many pairs", ashlar_link_report_tx(metrics, sizeof metrics - 29).count == ASHLAR_PAIRS);
+
+    received(0, 5, 0x01000000, -1), received(1, 6, 0x00020000, -128), received(2, 7, 0x00000300, 127);
+    r = ashlar_link_report_rx(metrics, 12 + 3 * 23);
+    check("ashlar_link_report_rx: errors, packets, count, kind", r.errors == 18 && r.packets == 0x01020300 && r.count == 3 && r.kind == ASHLAR_LINK_METRIC_RX);
+    check("AshlarReport: lowest, has_lowest, sum", r.lowest == -128 && r.has_lowest && r.sum == -2 && r.refusal == ASHLAR_OK);
+    unreported("ashlar_link_report_rx: 3, fewer bytes than two addresses", ashlar_link_report_rx(metrics, 11), ASHLAR_CUT_SHORT);
+    unreported("ashlar_link_report_rx: 4, a cut pair", ashlar_link_report_rx(metrics, 12 + 23 + 1), ASHLAR_LEFT_OVER);
+    unreported("ashlar_link_report_rx: 19 with a pair more", ashlar_link_report_rx(metrics, 12 + (ASHLAR_PAIRS + 1) * 23), ASHLAR_NO_REPORT);
+    check("ashlar_link_report_rx: a signal strength of 0 is the lowest", (received(1, 0, 0, 0), received(2, 0, 0, 1), r = ashlar_link_report_rx(metrics + 23, 12 + 2 * 23), r.has_lowest && r.lowest == 0 && r.sum == 1));
+    check("ashlar_link_report_rx: without pairs there is no lowest", same_report(ashlar_link_report_rx(metrics, 12), (AshlarReport){.kind = ASHLAR_LINK_METRIC_RX}));
+    check("ashlar_link_report_tx: without pairs every total is 0", same_report(ashlar_link_report_tx(metrics, 12), (AshlarReport){.kind = ASHLAR_LINK_METRIC_TX}));
+}
+
+/* with one field changed the report is no value's, whichever of the two it is */
+static void unmerged(const char *name, AshlarReport r, AshlarReport other) {
+    unreported(name, ashlar_link_merge(r, other), ASHLAR_NO_REPORT);
+    unreported(name, ashlar_link_merge(other, r), ASHLAR_NO_REPORT);
+}
+
+static void merges(void) {
+    for (size_t i = 0; i < ASHLAR_PAIRS; i++) received(i, (uint32_t)(i * 77777777), (uint32_t)(i * 99999999), (int8_t)(i * 37));
+    AshlarReport whole = ashlar_link_report_rx(metrics, 12 + ASHLAR_PAIRS * 23), none = ashlar_link_report_rx(metrics, 12), x, y, r;
+    bool good = true;
+    for (size_t first = 0; first <= ASHLAR_PAIRS; first += 64) {
+        /* a value needs two addresses in front: the pair before stands in their place */
+        x = ashlar_link_report_rx(metrics, 12 + first * 23), y = ashlar_link_report_rx(metrics + first * 23, 12 + (ASHLAR_PAIRS - first) * 23);
+        good &= same_report(ashlar_link_merge(x, y), whole) && same_report(ashlar_link_merge(y, x), whole);
+    }
+    check("ashlar_link_merge: the report over the pairs of both, in either order", good && whole.refusal == ASHLAR_OK && whole.count == ASHLAR_PAIRS);
+    check("ashlar_link_merge: with a report without pairs it is the other", same_report(ashlar_link_merge(none, whole), whole) && same_report(ashlar_link_merge(none, none), none));
+    x = ashlar_link_report_rx(metrics, 12 + 3 * 23), y = ashlar_link_report_tx(metrics, 12);
+    unmerged("ashlar_link_merge: 19, more pairs together", x, whole);
+    unmerged("ashlar_link_merge: 19, two kinds", x, y);
+    r = (AshlarReport){.refusal = ASHLAR_LEFT_OVER};
+    unmerged("ashlar_link_merge: 19, one that was refused", r, x);
+    unmerged("ashlar_link_merge: 19, both were refused", r, r);
+    r = none, r.kind = 8;
+    unmerged("ashlar_link_merge: 19, no kind", r, r);
+    unmerged("ashlar_link_merge: 19, a lowest without its flag", (r = none, r.lowest = -1, r), none);
+    unmerged("ashlar_link_merge: 19, no lowest", (r = x, r.has_lowest = false, r.lowest = 0, r), none);
+    unmerged("ashlar_link_merge: 19, a lowest for kind 9", (r = y, r.has_lowest = true, r), y);
+    unmerged("ashlar_link_merge: 19, too many errors", (r = x, r.errors = 3 * 0xFFFFFFFFull + 1, r), none);
+    unmerged("ashlar_link_merge: 19, too many packets", (r = x, r.packets = 3 * 0xFFFFFFFFull + 1, r), none);
+    unmerged("ashlar_link_merge: 19, a sum that is too low", (r = x, r.sum = 3 * r.lowest - 1, r), none);
+    unmerged("ashlar_link_merge: 19, a sum that is too high", (r = x, r.sum = r.lowest + 2 * 127 + 1, r), none);
+    r = x, r.errors = r.packets = 3 * 0xFFFFFFFFull, r.sum = r.lowest + 2 * 127, r.refusal = 99;
+    AshlarReport most = ashlar_link_merge(none, r);
+    check("ashlar_link_merge: the highest totals, and a refusal that isn't looked at", (r.refusal = ASHLAR_OK, same_report(most, r)));
+}
+
 int main(void) {
     for (size_t i = 0; i < sizeof payload; i++) payload[i] = (uint8_t)(i + 1);
-    headings(), walks(), paddings(), reads(), texts(), finds(), fields(), duplicates(), pushes(), limits(), sweeps(), moves(), values(), crowd();
-    check("every refusal that a call can give came: 1 to 6 and 10 to 18", (refusals & ~1u) == 0x7FC7E);
+    headings(), walks(), paddings(), reads(), texts(), finds(), fields(), duplicates(), pushes(), limits(), sweeps(), moves(), values(), crowd(), link_reports(), merges();
+    check("every refusal that a call can give came: 1 to 6 and 10 to 19", (refusals & ~1u) == 0xFFC7E);
     check("every answer of push came: 0 to 7", answers == 0xFF);
     check("every answer of an event came: 0 to 5", events == 0x3F);
     return failed != 0;

@@ -7,10 +7,10 @@
 #include <string.h>
 #include <sys/mman.h>
 
-enum { PAGE = 4096, READ_HEADER = 0, WALK, WALK_INTO, READ_KIND, FIND, TEXT, RADIO, RADIO_TEXT, PUSH, SHOW, SWEEP, STATION_EVENT, STATION_EVENT_FROM, STATION_AT, STATION_COUNT, STATION_ROW, KINDS };
+enum { PAGE = 4096, READ_HEADER = 0, WALK, WALK_INTO, READ_KIND, FIND, TEXT, RADIO, RADIO_TEXT, PUSH, SHOW, SWEEP, STATION_EVENT, STATION_EVENT_FROM, STATION_AT, STATION_COUNT, STATION_ROW, LINK_REPORT_TX, LINK_REPORT_RX, LINK_MERGE, KINDS };
 
 static const char *const names[KINDS] = {
-    "read_header", "walk", "walk_into", "read_kind", "find", "text", "radio", "radio_text", "push", "show", "sweep", "station_event", "station_event_from", "station_at", "station_count", "station_row"};
+    "read_header", "walk", "walk_into", "read_kind", "find", "text", "radio", "radio_text", "push", "show", "sweep", "station_event", "station_event_from", "station_at", "station_count", "station_row", "link_report_tx", "link_report_rx", "link_merge"};
 /* which numbers each call may give by rules N1 and N2, a bit for each; 0 is no refusal */
 static const unsigned numbers[KINDS] = {
     1u << 0 | 1u << 1,
@@ -29,6 +29,9 @@ static const unsigned numbers[KINDS] = {
     1u << 0,
     1u << 0,
     1u << 0,
+    1u << 0 | 1u << 3 | 1u << 4 | 1u << 19,
+    1u << 0 | 1u << 3 | 1u << 4 | 1u << 19,
+    1u << 0 | 1u << 19,
 };
 static unsigned long calls[KINDS], wrong[KINDS];
 static unsigned seen[KINDS], answers, events;
@@ -58,7 +61,7 @@ static Room room(size_t most) {
 
 static void told(int call, unsigned number, bool same) {
     calls[call]++;
-    if (number > 18 || !(numbers[call] >> number & 1) || !same) wrong[call]++;
+    if (number > 19 || !(numbers[call] >> number & 1) || !same) wrong[call]++;
     else seen[call] |= 1u << number;
 }
 
@@ -329,10 +332,61 @@ static void of_stations(void) {
     else if (!below(20)) fresh_stations();
 }
 
+/* ---- Link reports ---- */
+
+/* reports that were given, to be merged */
+enum { KEPT = 8 };
+static AshlarReport kept[KEPT];
+
+static bool same_report(AshlarReport a, AshlarReport b) {
+    return a.errors == b.errors && a.packets == b.packets && a.sum == b.sum && a.count == b.count && a.kind == b.kind && a.lowest == b.lowest && a.has_lowest == b.has_lowest &&
+           a.refusal == b.refusal;
+}
+
+/* some pairs after two addresses, now and then about as many as a report may have, cut, or with bytes after them */
+static void link_report(void) {
+    bool rx = below(2);
+    size_t many = below(8) ? below(20) : ASHLAR_PAIRS - 4 + below(8), n = 12 + many * (rx ? 23 : 29);
+    n = !below(6) ? below(n) : !below(6) ? n + below(23) : n;
+    uint8_t *v = bytes(n);
+    AshlarReport a = rx ? ashlar_link_report_rx(v, n) : ashlar_link_report_tx(v, n), b = rx ? plain_link_report_rx(v, n) : plain_link_report_tx(v, n);
+    told(rx ? LINK_REPORT_RX : LINK_REPORT_TX, a.refusal, same_report(a, b));
+    kept[below(KEPT)] = a;
+}
+
+/* a report as it was given; or one that is no value's by a little, or just is one: a total at its bound or one above it,
+   a field that another report has; or any at all */
+static AshlarReport lent(void) {
+    AshlarReport r = kept[below(KEPT)], other = kept[below(KEPT)];
+    uint64_t most = r.count * 0xFFFFFFFFull + below(2);
+    switch (below(12)) {
+    case 0: r.errors = most; break;
+    case 1: r.packets = most; break;
+    case 2: r.sum = r.count * r.lowest - (int)below(2); break;
+    case 3: r.sum = r.lowest + (r.count - 1) * 127 + (int)below(2); break;
+    case 4: r.lowest = other.lowest, r.has_lowest = other.has_lowest; break;
+    case 5: r.count = below(2) ? other.count : (uint16_t)any(); break;
+    case 6: r.kind = (uint8_t)(8 + below(4)); break;
+    case 7: r.has_lowest = !r.has_lowest; break;
+    case 8: r.refusal = (uint8_t)any(); break;
+    case 9:
+        r = (AshlarReport){any() << below(32), any() << below(32), (int32_t)any(), (uint16_t)below(1100), (uint8_t)(9 + below(2)), (int8_t)any(), below(2), 0};
+        break;
+    }
+    return r;
+}
+
+static void link_merge(void) {
+    AshlarReport a = lent(), b = lent();
+    if (!below(4)) b.kind = a.kind;
+    AshlarReport r = ashlar_link_merge(a, b);
+    told(LINK_MERGE, r.refusal, same_report(r, plain_link_merge(a, b)));
+}
+
 int main(int argc, char **argv) {
     unsigned long many = argc > 1 ? strtoul(argv[1], 0, 10) : 20000, seed = argc > 2 ? strtoul(argv[2], 0, 10) : 1;
     state = seed * 0x9E3779B97F4A7C15ull | 1;
-    payloads = room(PAGE), lists = room(1100 * sizeof(AshlarTlv)), expected = room(1100 * sizeof(AshlarTlv));
+    payloads = room(8 * PAGE), lists = room(1100 * sizeof(AshlarTlv)), expected = room(1100 * sizeof(AshlarTlv));
     for (int i = 0; i < 2; i++) stores[i] = room(ASHLAR_STORE + 1), outs[i] = room(6000), stations[i] = (AshlarStations *)(room(sizeof(AshlarStations)).end - sizeof(AshlarStations));
     fresh();
     fresh_stations();
@@ -345,7 +399,9 @@ int main(int argc, char **argv) {
         else if (which < 46) find();
         else if (which < 50) text();
         else if (which < 80) push();
-        else if (which < 98) of_stations();
+        else if (which < 93) of_stations();
+        else if (which < 95) link_report();
+        else if (which < 98) link_merge();
         else if (below(200)) sweep();
         else fresh();
     }
@@ -353,7 +409,7 @@ int main(int argc, char **argv) {
     for (int k = 0; k < KINDS; k++) {
         failed += wrong[k] != 0;
         printf("%s ashlar_%s, %lu calls, %lu wrong, numbers", wrong[k] ? "FAILED" : "ok", names[k], calls[k], wrong[k]);
-        for (int n = 0; n <= 18; n++)
+        for (int n = 0; n <= 19; n++)
             if (seen[k] >> n & 1) printf(" %d", n);
         printf("\n");
     }
