@@ -50,7 +50,7 @@ ROWS = [
     ("A join of a new station, 127 held", "join-new", None, None, 1500),
     ("A stale leave, 128 held", "leave-stale", None, None, 1500),
     ("Where a station is that is not held, 128 held", "where-none", None, None, 1500),
-    ("A report over 1,024 pairs of kind 10", "report-1024", 2, None, None),
+    ("A report over 1,024 pairs of kind 10", "report-1024", 3, None, None),
     ("Two reports of 512 pairs made into one", "merge", 2, None, None),
 ]
 # no payload is copied in these
