@@ -24,6 +24,7 @@ pub struct AshlarReport {
     pub refusal: u8,
 }
 
+// The code of this kind (rule K2).
 fn code_of(kind: LinkKind) -> u8
     ensures { λ r. ⌜ r ≡ linkCode kind ⌝ }
 {
@@ -33,6 +34,7 @@ fn code_of(kind: LinkKind) -> u8
     }
 }
 
+// The lowest, or 0 where there is none.
 fn low_number(lowest: Lowest) -> i8
     ensures { λ r. ⌜ r ≡ lowNumber lowest ⌝ }
 {
@@ -42,6 +44,7 @@ fn low_number(lowest: Lowest) -> i8
     }
 }
 
+// Whether there is a lowest.
 fn has_low(lowest: Lowest) -> bool
     ensures { λ r. ⌜ r ≡ hasLow lowest ⌝ }
 {
