@@ -8,3 +8,5 @@ pub mod Witness
 pub mod Merging
 pub mod Reading
 pub mod Loop
+pub mod Values
+pub mod Claims

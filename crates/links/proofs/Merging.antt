@@ -17,7 +17,7 @@ use Rattle.links.specs.declared.LinkReport.{LinkReport}
 use Rattle.links.specs.Reports.{added, reportOver, isZero, someValueGives, mostPairs, sameKind, mergeable, merged}
 use Rattle.links.proofs.Joining.{over-append}
 use Rattle.links.proofs.Passing.{AllPairs, of-errors, of-packets, pairs-are, total-fits, sum-fits}
-use Rattle.links.proofs.Witness.{two, no-others}
+use Rattle.links.proofs.Witness.{two, list-length, some-list}
 
 -- a test of several, by its first
 pub fails : {a : Bool} (b : Bool) → a ≡ false → false ≡ (a && b)
@@ -61,13 +61,12 @@ added-fits a b h =
     let kinds = two (sameKind (a .kind) (b .kind)) (leb (a .pairs + b .pairs) mostPairs && (someValueGives a && someValueGives b)) h in
     let few = two (leb (a .pairs + b .pairs) mostPairs) (someValueGives a && someValueGives b) (kinds .1) in
     let given = two (someValueGives a) (someValueGives b) (few .1) in
-    let x = no-others a (given .0) in
-    let y = no-others b (given .1) in
+    let x = some-list a (given .0) in
+    let y = some-list b (given .1) in
     let y-is : reportOver (a .kind) (y .list) ≡ b = ap (λ k. reportOver k (y .list)) (sym (same-kinds (a .kind) (b .kind) (kinds .0))) ∙ y .is in
     let is : reportOver (a .kind) (x .list ++ y .list) ≡ added a b = over-append (a .kind) (x .list) (y .list) ∙ (λ i. added (x .is i) (y-is i)) in
-    let n : length (x .list) ≡ a .pairs = sym (pairs-are (a .kind) (x .list)) ∙ ap (λ r. r .pairs) (x .is) in
-    let m : length (y .list) ≡ b .pairs = sym (pairs-are (b .kind) (y .list)) ∙ ap (λ r. r .pairs) (y .is) in
-    let all : length (x .list ++ y .list) ≤ mostPairs = omega (arith, n, m, length-append (x .list) (y .list), leb-true (a .pairs + b .pairs) mostPairs (few .0)) in
+    let all : length (x .list ++ y .list) ≤ mostPairs =
+    omega (arith, list-length a x, list-length b y, length-append (x .list) (y .list), leb-true (a .pairs + b .pairs) mostPairs (few .0)) in
     subst Fit is (over-fits (a .kind) (x .list ++ y .list) (all-append (x .list) (y .list) (x .bytes) (y .bytes)) all)
 
 -- by the test

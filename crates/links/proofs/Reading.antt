@@ -19,13 +19,13 @@ use Rattle.layouts.proofs.Values.{ended}
 use Rattle.links.specs.declared.LinkKind.{LinkKind}
 use Rattle.links.specs.declared.LinkKind.the-variants.{Tx, Rx}
 use Rattle.links.specs.Pairs.{linkCode, pairsIn, pairAt}
-use Rattle.links.specs.Reports.{mostPairs, reportOver, reportOf}
+use Rattle.links.specs.Reports.{mostPairs, reportOver, reportIfFew, reportOf}
 use Rattle.links.specs.PrivatePairs.{pairBytes}
 
-abbrev linkLayout : LinkKind → Layout
+abbrev pub linkLayout : LinkKind → Layout
 linkLayout k = entry 12 to-end (bytes (pairBytes k))
 
-abbrev linkKind : LinkKind → ListKind
+abbrev pub linkKind : LinkKind → ListKind
 linkKind k = record { layout = linkLayout k; rest = refused }
 
 layout-is : (k : LinkKind) → layoutOf (linkCode k) ≡ gives (linkKind k)
@@ -74,7 +74,7 @@ module _ {A : Type 0} (f : Layout → List ℕ → Answer A) (k : LinkKind) (s :
   asks : andThen (layoutOf (linkCode k)) (λ l. ofValue f l s) ≡ ofValue f (linkKind k) s
   asks = follows (layoutOf (linkCode k)) (linkKind k) (λ l. ofValue f l s) (layout-is k)
 
-  asked : (r : Consumed) → readAs (linkKind k) s ≡ gives r → andThen (layoutOf (linkCode k)) (λ l. ofValue f l s) ≡ f (linkLayout k) s
+  pub asked : (r : Consumed) → readAs (linkKind k) s ≡ gives r → andThen (layoutOf (linkCode k)) (λ l. ofValue f l s) ≡ f (linkLayout k) s
   unfolding ofValue
   asked r x = asks ∙ follows (readAs (linkKind k) s) r (λ r. f (linkLayout k) s) x
 
@@ -189,12 +189,12 @@ long-part k s e w =
 -- the report over a value, by its pairs
 pub few-reported : (k : LinkKind) (s : List ℕ) (ps : List (List ℕ)) → pairsIn k s ≡ gives ps → length ps ≤ mostPairs →
     reportOf k s ≡ gives (reportOver k ps)
-unfolding reportOf
+unfolding reportOf reportIfFew
 few-reported k s ps x few = rw (x, le-leb (length ps) mostPairs few)
 
 pub too-many : (k : LinkKind) (s : List ℕ) (ps : List (List ℕ)) → pairsIn k s ≡ gives ps → mostPairs < length ps →
     reportOf k s ≡ refuses 19 []
-unfolding reportOf
+unfolding reportOf reportIfFew
 too-many k s ps x many = rw (x, lt-leb (length ps) mostPairs many)
 
 pub not-reported : (k : LinkKind) (s : List ℕ) (n : ℕ) (vs : List ℕ) → pairsIn k s ≡ refuses n vs → reportOf k s ≡ refuses n vs

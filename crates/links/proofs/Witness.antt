@@ -30,7 +30,7 @@ pub record ListGives (r : LinkReport) : Type 0 where
   pub each-long : (i : ℕ) → i < length list → length (getD list i []) ≡ pairBytes (r .kind)
   pub is : reportOver (r .kind) list ≡ r
 
-abbrev zeros : ℕ → List ℕ → List ℕ
+abbrev pub zeros : ℕ → List ℕ → List ℕ
 zeros zero s = s
 zeros (suc n) s = 0 ∷ zeros n s
 
@@ -106,7 +106,7 @@ next-bytes : (b : ℕ) (s : List ℕ) → b < 256 → AllBytes s → AllBytes (b
 next-bytes b s h g zero = h
 next-bytes b s h g (suc i) = g i
 
-zeros-bytes : (n : ℕ) (s : List ℕ) → AllBytes s → AllBytes (zeros n s)
+pub zeros-bytes : (n : ℕ) (s : List ℕ) → AllBytes s → AllBytes (zeros n s)
 zeros-bytes zero s h = h
 zeros-bytes (suc n) s h = next-bytes 0 (zeros n s) (omega arith) (zeros-bytes n s h)
 
@@ -114,7 +114,7 @@ number-bytes : (w n : ℕ) (s : List ℕ) → AllBytes s → AllBytes (inBytes w
 number-bytes zero n s h = h
 number-bytes (suc w) n s h = rw append-assoc (number-bytes w (n / 256) (n % 256 ∷ s) (next-bytes (n % 256) s (omega arith) h))
 
-no-bytes : AllBytes []
+pub no-bytes : AllBytes []
 no-bytes i = omega arith
 
 totals-bytes : (t : Total → ℕ) (s : List ℕ) → AllBytes s → AllBytes (inBytes 4 (t of-errors) ++ (inBytes 4 (t of-packets) ++ s))
@@ -240,9 +240,17 @@ by-fields Rx (suc n) t (Signal l) s ht h =
     let sums = two (leZ (pos (suc n) *ℤ l) s) (leZ s (l +ℤ pos (n * 127))) (parts .1) in
     signals-given n t l s ht (signal .0) (signal .1) (sums .0) (sums .1)
 
-pub no-others : (r : LinkReport) → someValueGives r ≡ true → ListGives r
+-- as many pairs as the report says, which are few
+pub list-length : (r : LinkReport) (l : ListGives r) → length (l .list) ≡ r .pairs
+list-length r l = sym (pairs-are (r .kind) (l .list)) ∙ ap (λ r. r .pairs) (l .is)
+
+pub few-pairs : (r : LinkReport) → someValueGives r ≡ true → r .pairs ≤ mostPairs
 unfolding someValueGives
-no-others r h = by-fields (r .kind) (r .pairs) (λ f. inReport f r) (r .low) (r .sum) fit (packets .1)
+few-pairs r h = leb-true (r .pairs) mostPairs (two (leb (r .pairs) mostPairs) _ h .0)
+
+pub some-list : (r : LinkReport) → someValueGives r ≡ true → ListGives r
+unfolding someValueGives
+some-list r h = by-fields (r .kind) (r .pairs) (λ f. inReport f r) (r .low) (r .sum) fit (packets .1)
   where
     signals : Bool
     signals = signalsFit (r .kind) (r .pairs) (r .low) (r .sum)

@@ -61,12 +61,16 @@ unfoldable pub reportOver : LinkKind → List (List ℕ) → LinkReport
 reportOver k [] = noPairs k
 reportOver k (p ∷ ps) = added (onePair k p) (reportOver k ps)
 
--- Rule Q4: the report over a value. Above 1,024 pairs: 19.
+-- Rule Q4: above 1,024 pairs, 19.
 abbrev pub mostPairs : ℕ
 mostPairs = 1024
 
+unfoldable pub reportIfFew : LinkKind → List (List ℕ) → Answer LinkReport
+reportIfFew k ps = cond (leb (length ps) mostPairs) (gives (reportOver k ps)) (refuses 19 [])
+
+-- Rule Q4: the report over a value. A value that doesn't read: 3 or 4.
 unfoldable pub reportOf : LinkKind → List ℕ → Answer LinkReport
-reportOf k s = andThen (pairsIn k s) (λ ps. cond (leb (length ps) mostPairs) (gives (reportOver k ps)) (refuses 19 []))
+reportOf k s = andThen (pairsIn k s) (λ ps. reportIfFew k ps)
 
 -- Rule Q6: lowest and sum. There are none in kind 9 and without pairs. Otherwise n·l ≤ sum ≤ l + (n - 1)·127.
 abbrev pub isZero : ℤ → Bool
