@@ -240,5 +240,5 @@ pub extern "C" fn ashlar_link_report_rx(value: &[u8]) -> AshlarReport
 pub extern "C" fn ashlar_link_merge(one: AshlarReport, other: AshlarReport) -> AshlarReport
     ensures { λ r. ⌜ r ≡ reportNumbers (mergedFrom one other) ⌝ }
 {
-    c_links::report_numbers(c_links::merge_from(one, other))
+    c_links::merge_numbers(one, other)
 }

@@ -1,21 +1,19 @@
 -- The claims of specs/Claims.antt, proved.
 use mathlib.Core.Path.{_≡_, refl}
 use Rattle.numbers.specs.Numbers.{gives}
-use Rattle.numbers.proofs.Firm.{by-equation, by-telling}
+use Rattle.numbers.proofs.Firm.{by-equation}
 use Rattle.links.specs.declared.LinkKind.{LinkKind}
 use Rattle.links.specs.declared.LinkKind.the-variants.{Tx, Rx}
 use Rattle.links.specs.declared.Lowest.{Lowest}
 use Rattle.links.specs.declared.Lowest.the-variants.{Absent, Signal}
 use Rattle.links.specs.declared.LinkReport.{LinkReport}
-use Rattle.links.specs.Reports.{reportedOf}
-use Rattle.links.proofs.Firm.{reported-one}
 use Rattle.c_links.specs.Numbers.{reportNumbers, reportFrom}
 use Rattle.c_links.specs.Claims.{Firmness, ComesBack, RefusedNeverDoes, MergesAsTheLayer, Claims}
 
 firmness : Firmness
 firmness = record {
   report-numbers = λ reported. by-equation _;
-  merge-from = λ one other. by-telling reportedOf reported-one _;
+  merge-numbers = λ one other. by-equation _;
 }
 
 -- r with this kind and this lowest, in each of the four cases

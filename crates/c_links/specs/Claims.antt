@@ -13,7 +13,7 @@ use Rattle.c_links.specs.Numbers.{reportNumbers, reportFrom, mergedFrom}
 -- Rule A4: for each public call, by its name, any two answers that its contract allows are one.
 pub record Firmness : Type 0 where
   pub report-numbers : (reported : Reported) → Firm (λ r. r ≡ reportNumbers (reportedOf reported))
-  pub merge-from : (one other : AshlarReport) → Firm (λ r. reportedOf r ≡ mergedFrom one other)
+  pub merge-numbers : (one other : AshlarReport) → Firm (λ r. r ≡ reportNumbers (mergedFrom one other))
 
 -- Rule C4: a report that crossed to C comes back as it was, and a refusal that crossed comes back as no report.
 abbrev pub ComesBack : Type 0

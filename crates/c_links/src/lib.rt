@@ -128,7 +128,7 @@ fn report_from(lent: AshlarReport) -> Reported
 }
 
 // Two reports that a C caller lends, made into one (rule Q7).
-pub fn merge_from(one: AshlarReport, other: AshlarReport) -> Reported
+fn merge_from(one: AshlarReport, other: AshlarReport) -> Reported
     ensures { λ r. ⌜ reportedOf r ≡ mergedFrom one other ⌝ }
 {
     match report_from(one) {
@@ -138,4 +138,11 @@ pub fn merge_from(one: AshlarReport, other: AshlarReport) -> Reported
         },
         Reported::Refused(refusal) => Reported::Refused(refusal),
     }
+}
+
+// The same in numbers.
+pub fn merge_numbers(one: AshlarReport, other: AshlarReport) -> AshlarReport
+    ensures { λ r. ⌜ r ≡ reportNumbers (mergedFrom one other) ⌝ }
+{
+    report_numbers(merge_from(one, other))
 }
