@@ -1,2 +1,3 @@
 pub mod Folding
 pub mod Separators
+pub mod Signed

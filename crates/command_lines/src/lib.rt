@@ -3,8 +3,9 @@
 // such line is ever generated.
 ghost use mathlib.Core.Path.{_≡_};
 ghost use Prim.Native.Nat.{_+_, _-_, _≤_, _<_, _%_, min};
+ghost use lib.IntN.{pos, negℤ};
 ghost use lib.ListN.{length, getD, take, drop};
-ghost use Rattle.command_lines.specs.Decimal.{withDigit, numberOf};
+ghost use Rattle.command_lines.specs.Decimal.{withDigit, numberOf, signedOf, nearest};
 ghost use Rattle.command_lines.specs.Fields.{fieldIn, pastFirst};
 ghost use Rattle.command_lines.specs.PrivatePlaces.{Place};
 
@@ -160,6 +161,52 @@ pub fn byte_in(line: &[u8], n: usize) -> u8
     ensures { λ r. ⌜ r ≡ numberOf (fieldIn 32 n (now (line .entry))) % 256 ⌝ }
 {
     byte_of(number_in(line, n))
+}
+
+// A number below zero, by its distance from it. One that does not fit is the lowest that does.
+fn below_zero(n: u64) -> i32
+    ensures { λ r. ⌜ r ≡ nearest 2147483647 (negℤ (pos n)) ⌝ }
+{
+    if n < 2147483648 {
+        0 - (n as i32)
+    } else {
+        -2147483648
+    }
+}
+
+// A number that is not below zero. One that does not fit is the greatest that does.
+fn above_zero(n: u64) -> i32
+    ensures { λ r. ⌜ r ≡ nearest 2147483647 (pos n) ⌝ }
+{
+    if n < 2147483648 { n as i32 } else { 2147483647 }
+}
+
+// A number that may have a `-` in front.
+fn signed_number(s: &[u8]) -> i32
+    ensures { λ r. ⌜ r ≡ nearest 2147483647 (signedOf (now (s .entry))) ⌝ }
+{
+    if byte_at(s, 0) == b'-' {
+        return below_zero(number(part(s, 1, s.len())));
+    }
+    above_zero(number(s))
+}
+
+pub fn i32_in(line: &[u8], n: usize) -> i32
+    ensures { λ r. ⌜ r ≡ nearest 2147483647 (signedOf (fieldIn 32 n (now (line .entry)))) ⌝ }
+{
+    signed_number(field(line, n))
+}
+
+pub fn i8_of(n: i32) -> i8
+    ensures { λ r. ⌜ r ≡ nearest 127 n ⌝ }
+{
+    if n < -128 {
+        return -128;
+    }
+    if 127 < n {
+        return 127;
+    }
+    n as i8
 }
 
 fn digit(c: u8) -> u8
