@@ -9,11 +9,13 @@ The model tries out the driver and the command language. It is a second opinion 
 numbers, which the original doesn't have, and on the stations, which it doesn't have either. The generator takes its
 layouts from here.
 """
+import collections
 import itertools
 import sys
 
 STORE_PLACES, STORE_KEYS, PLACE = 32, 16, 1492
 MOST_STATIONS = 128
+MOST_PAIRS = 1024
 # The last request that counts, where none is named.
 LEVEL = 8
 EXPIRES = 3000
@@ -501,6 +503,65 @@ class Stations:
         return self.join(*words[1:3]) if command == "j" else self.leave(*words[1:3])
 
 
+# --- link quality (rules Q1 to Q7) ---
+
+# What is said over pairs: the lowest signal strength is None where there is none.
+Report = collections.namedtuple("Report", "kind pairs errors packets lowest sum")
+MOST_OF_A_PAIR = 0xffffffff  # errors or packets
+
+
+def report_over(kind, data):
+    if kind not in (9, 10):
+        raise Bad
+    consumed(kind, data)
+    front, size = TO_THE_END[kind]
+    pairs = [data[at:at + size] for at in range(front, len(data), size)]
+    if len(pairs) > MOST_PAIRS:
+        raise Refused(19)
+    at = {9: 15, 10: 14}[kind]
+    errors = sum(int.from_bytes(pair[at:at + 4], "big") for pair in pairs)
+    packets = sum(int.from_bytes(pair[at + 4:at + 8], "big") for pair in pairs)
+    signals = [int.from_bytes(pair[22:], "big", signed=True) for pair in pairs if kind == 10]
+    return Report(kind, len(pairs), errors, packets, min(signals, default=None), sum(signals))
+
+
+def some_value_gives(report):
+    """Rule Q6."""
+    most = report.pairs * MOST_OF_A_PAIR
+    if report.pairs > MOST_PAIRS or report.errors > most or report.packets > most:
+        return False
+    if report.kind == 9 or report.pairs == 0:
+        return report.lowest is None and report.sum == 0
+    if report.lowest is None:
+        return False
+    return report.pairs * report.lowest <= report.sum <= report.lowest + (report.pairs - 1) * 127
+
+
+def merged(one, other):
+    if one.kind != other.kind or one.pairs + other.pairs > MOST_PAIRS:
+        raise Refused(19)
+    if not some_value_gives(one) or not some_value_gives(other):
+        raise Refused(19)
+    lowest = min((low for low in (one.lowest, other.lowest) if low is not None), default=None)
+    return Report(one.kind, *(a + b for a, b in zip(one[1:4], other[1:4])), lowest, one.sum + other.sum)
+
+
+def report_in(words):
+    lowest = None if words[4] == "-" else int(words[4])
+    return Report(*map(int, words[:4]), lowest, int(words[5]))
+
+
+def report_text(report):
+    """A report as six fields: those of `M`."""
+    return " ".join("-" if field is None else str(field) for field in report)
+
+
+def reported(report):
+    """A report as an answer: without its kind, and of kind 9 without signal strengths."""
+    fields = report_text(report).split(" ")[1:]
+    return " ".join(["ok"] + (fields if report.kind == 10 else fields[:3]))
+
+
 # --- commands ---
 
 def listed(tlvs, size):
@@ -531,6 +592,8 @@ def answer(table, stations, line):
     if command == "f":
         kind = int(words[1])
         return "ok " + shown(write_tlv(kind, value_of_fields(kind, words[3:]), int(words[2])))
+    if command == "M":
+        return reported(merged(report_in(words[1:7]), report_in(words[7:13])))
     data = to_bytes(last)
     if command == "t":
         kind, length, used = read_tlv(data)
@@ -551,6 +614,8 @@ def answer(table, stations, line):
         return ("ok %d %d %s" % (used, len(data) - used, fields(kind, data))).rstrip()
     if command == "s":
         return "ok " + shown(write_tlv(kind, data[:consumed(kind, data)], int(words[2])))
+    if command == "m":
+        return reported(report_over(kind, data))
     if command == "e":
         numbers = [] if words[2] == "-" else [int(word) for word in words[2].split(".")]
         return "ok " + shown(entry_at(kind, data, numbers))

@@ -33,6 +33,33 @@ told() { # NAME STATUS
     fi
 }
 
+# Commands that the original has no answer to, of these rules: so many from oracle/generate, by the name of the script, to
+# the program drive and to the plain model of oracle/model.py. Both answer alike, and every answer comes.
+answers_as_model() { # NAME COMMANDS SEED ANSWERS..
+    local name=$1 many=$2 seed=$3 work answer
+    shift 3
+    work=$(mktemp -d)
+    if ! command -v python3 >/dev/null 2>&1; then
+        echo "the commands and the model are Python programs, and there is no python3"
+        told "$name: drive answers as the plain model does" 1
+        return
+    fi
+    oracle/generate "$name" "$seed" "$many" >"$work/commands"
+    program drive <"$work/commands" >"$work/drive"
+    python3 oracle/model.py <"$work/commands" >"$work/model"
+    many=$(wc -l <"$work/commands")
+    cmp -s "$work/drive" "$work/model" && [ "$(wc -l <"$work/model")" -eq "$many" ]
+    told "$name: drive answers $many commands as the plain model does" $?
+    # the first one that is answered otherwise
+    paste -d '\n' "$work/commands" "$work/drive" "$work/model" |
+        awk 'NR % 3 == 1 { command = $0 } NR % 3 == 2 { drive = $0 } NR % 3 == 0 && drive != $0 { print "    " command "\n    drive: " drive "\n    model: " $0; exit }'
+    for answer; do
+        grep -qx -- "$answer" "$work/drive"
+        told "$name: '$answer' comes" $?
+    done
+    rm -rf "$work"
+}
+
 # A C program over the archive of exported calls: tests/NAME.c and the sources named, built, and run with the arguments.
 # It prints lines that begin 'ok ' or 'FAILED ', which are counted; the last line has the counts.
 c_program() { # NAME SOURCES ARGUMENTS..
