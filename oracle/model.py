@@ -508,17 +508,18 @@ class Stations:
 # What is said over pairs: the lowest signal strength is None where there is none.
 Report = collections.namedtuple("Report", "kind pairs errors packets lowest sum")
 MOST_OF_A_PAIR = 0xffffffff  # errors or packets
+# Where the errors of a pair stand; its packets follow.
+ERRORS_AT = {9: 15, 10: 14}
 
 
 def report_over(kind, data):
-    if kind not in (9, 10):
+    if kind not in PAIRS:
         raise Bad
     consumed(kind, data)
-    front, size = TO_THE_END[kind]
-    pairs = [data[at:at + size] for at in range(front, len(data), size)]
+    (front, size), at = PAIRS[kind], ERRORS_AT[kind]
+    pairs = [data[start:start + size] for start in range(front, len(data), size)]
     if len(pairs) > MOST_PAIRS:
         raise Refused(19)
-    at = {9: 15, 10: 14}[kind]
     errors = sum(int.from_bytes(pair[at:at + 4], "big") for pair in pairs)
     packets = sum(int.from_bytes(pair[at + 4:at + 8], "big") for pair in pairs)
     signals = [int.from_bytes(pair[22:], "big", signed=True) for pair in pairs if kind == 10]

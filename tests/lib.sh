@@ -33,17 +33,17 @@ told() { # NAME STATUS
     fi
 }
 
-# Commands that the original has no answer to, of these rules: so many from oracle/generate, by the name of the script, to
-# the program drive and to the plain model of oracle/model.py. Both answer alike, and every answer comes.
+# Commands that are compared with no original: so many, made by oracle/generate under the script's name, to the program
+# drive and to the plain model of oracle/model.py. Both answer alike, and each of these answers comes.
 answers_as_model() { # NAME COMMANDS SEED ANSWERS..
     local name=$1 many=$2 seed=$3 work answer
     shift 3
-    work=$(mktemp -d)
     if ! command -v python3 >/dev/null 2>&1; then
         echo "the commands and the model are Python programs, and there is no python3"
         told "$name: drive answers as the plain model does" 1
         return
     fi
+    work=$(mktemp -d)
     oracle/generate "$name" "$seed" "$many" >"$work/commands"
     program drive <"$work/commands" >"$work/drive"
     python3 oracle/model.py <"$work/commands" >"$work/model"
