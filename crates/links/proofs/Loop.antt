@@ -1,5 +1,5 @@
 -- The report over the pairs of a value, as a loop makes it, pair after pair.
-use mathlib.Core.Path.{_≡_, refl, sym, ap, subst, _∙_}
+use mathlib.Core.Path.{_≡_, sym, ap, subst, _∙_}
 use mathlib.Core.List.{List, [], _∷_}
 use Prim.Native.Nat.{ℕ, zero, suc, _+_, _*_, _-_, _<_, _≤_}
 use native.Mathlib.Omega.{arith}
@@ -18,7 +18,7 @@ use Rattle.links.specs.PrivatePairs.{pairBytes}
 use Rattle.links.proofs.Joining.{over-next}
 use Rattle.links.proofs.Passing.{AllPairs}
 use Rattle.links.proofs.Merging.{Fit, over-fits}
-use Rattle.links.proofs.Reading.{Whole, below, Read, read, each-part}
+use Rattle.links.proofs.Reading.{Whole, below, read, each-part}
 
 abbrev pub listed : Answer (List (List ℕ)) → List (List ℕ)
 listed (gives ps) = ps

@@ -14,7 +14,7 @@ use Rattle.layouts.specs.Reading.{Consumed, readAs, readValue}
 use Rattle.layouts.specs.Access.{Span, spanOf, ofValue, partOf, nthOf, partsIn, locateEntry}
 use Rattle.layouts.proofs.Claims as lists
 use Rattle.layouts.proofs.Within.{end-within, ends-in}
-use Rattle.layouts.proofs.Spans.{plain-start, nth-past}
+use Rattle.layouts.proofs.Spans.{plain-start}
 use Rattle.layouts.proofs.Values.{ended}
 use Rattle.links.specs.declared.LinkKind.{LinkKind}
 use Rattle.links.specs.declared.LinkKind.the-variants.{Tx, Rx}

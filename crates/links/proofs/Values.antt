@@ -1,16 +1,15 @@
 -- A value made of pairs: 12 bytes in front, then the pairs joined. These are its pairs.
-use mathlib.Core.Path.{_≡_, refl, sym, ap, subst, _∙_}
-use mathlib.Core.Bool.{cond}
+use mathlib.Core.Path.{_≡_, refl, sym, ap, _∙_}
 use mathlib.Core.List.{List, [], _∷_, _++_, map, flatten}
 use Prim.Native.Nat.{ℕ, zero, suc, _+_, _*_, _-_, _/_, _≤_, _<_}
 use native.Mathlib.Omega.{arith}
-use borrow.Author.Tests.{le-leb, le-ltb}
+use borrow.Author.Tests.{le-ltb}
 use lib.ListN.{length, take, drop, getD, length-append, length-drop}
 use lib.Seq.{take-at, drop-at, drop-drop}
 use Rattle.numbers.specs.Bytes.{AllBytes}
-use Rattle.numbers.specs.Numbers.{Answer, gives, mapped}
+use Rattle.numbers.specs.Numbers.{gives, mapped}
 use Rattle.numbers.proofs.Answers.{follows, mapped-given}
-use Rattle.layouts.specs.Layouts.{to-end, bytes, entry}
+use Rattle.layouts.specs.Layouts.{to-end, bytes}
 use Rattle.layouts.specs.Reading.{reaching, ListAt, listOf, countAt, entriesEnd, endOf, consumedTo, readAs}
 use Rattle.layouts.specs.Access.{Spans, before, partOf, spansFrom, spansIn, partsIn}
 use Rattle.layouts.proofs.Within.{reaches}

@@ -19,7 +19,7 @@ use Rattle.links.specs.declared.Lowest.the-variants.{Absent, Signal}
 use Rattle.links.specs.declared.LinkReport.{LinkReport}
 use Rattle.links.specs.Reports.{reportOver, isZero, signalsFit, someValueGives, aSignal, mostPairs}
 use Rattle.links.specs.PrivatePairs.{pairBytes}
-use Rattle.links.proofs.Signed.{raised, le-back, above, under, up, up-is, is-difference, pos-sub, sub-add, sub-times, sub-same}
+use Rattle.links.proofs.Signed.{raised, le-back, above, under, up, up-is, is-difference, pos-sub, sub-add, sub-times}
 use Rattle.links.proofs.Joining.{own-kind}
 use Rattle.links.proofs.Passing.{AllPairs, Total, of-errors, of-packets, inPair, inReport, total-none, total-next, signalUp, lowestUp, sumUp, pairs-are, lowest-up, sum-up, no-lowest, no-sum}
 

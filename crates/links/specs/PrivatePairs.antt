@@ -1,5 +1,5 @@
--- For private functions alone; no contract of a public call cites this file. How long a pair is, which the row of layouts
--- says.
+-- For private functions alone; no contract of a public call cites this file. How long a pair is, which the row in
+-- layouts says.
 use Prim.Native.Nat.{ℕ}
 use Rattle.links.specs.declared.LinkKind.{LinkKind}
 use Rattle.links.specs.declared.LinkKind.the-variants.{Tx, Rx}

@@ -43,7 +43,14 @@ sumIn Tx p = pos 0
 sumIn Rx p = signalOf p
 
 abbrev pub onePair : LinkKind → List ℕ → LinkReport
-onePair k p = record { kind = k; pairs = 1; errors = errorsOf k p; packets = packetsOf k p; low = lowestIn k p; sum = sumIn k p }
+onePair k p = record {
+  kind = k;
+  pairs = 1;
+  errors = errorsOf k p;
+  packets = packetsOf k p;
+  low = lowestIn k p;
+  sum = sumIn k p;
+}
 
 -- Rules Q4 and Q7: two of one kind added up.
 abbrev pub added : LinkReport → LinkReport → LinkReport
@@ -102,8 +109,8 @@ sameKind Tx Rx = false
 sameKind Rx Tx = false
 sameKind Rx Rx = true
 
--- Rule Q7: one report made from two. 19 where the kinds differ, where they have more than 1,024 pairs together, or where
--- one of them is the report of no value.
+-- Rule Q7: one report made from two. 19 where the kinds differ, where they have more than 1,024 pairs together, or
+-- where one of them is the report of no value.
 abbrev pub mergeable : LinkReport → LinkReport → Bool
 mergeable a b =
     sameKind (a .kind) (b .kind) &&

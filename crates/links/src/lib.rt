@@ -1,17 +1,15 @@
-// Link quality in exact figures (rules Q1 to Q7): the pairs of a link metric by their fields, a report over all of them,
-// and one report made from two.
+// Link quality in exact figures (rules Q1 to Q7): the pairs of a link metric by their fields, a report over all of
+// them, and one report made from two.
 mod pairs;
 mod totals;
 
 use layouts::Located;
-use layouts::Path;
 use layouts::Reading;
 use layouts::locate;
 use layouts::read_value;
 use numbers::Refusal;
 use records::MacAddr;
 ghost use mathlib.Core.Path.{_≡_};
-ghost use Rattle.links.specs.declared.LinkKind.the-variants.{Tx, Rx};
 ghost use Rattle.links.specs.Pairs.{txPairOf, rxPairOf, txRead, rxRead};
 ghost use Rattle.links.specs.Reports.{reportedOf, reportOf, merged};
 

@@ -1,6 +1,5 @@
 -- `links::report` meets its contract: by whether the value reads, and by how many pairs it has.
 use mathlib.Core.Path.{_≡_, sym, ap, _∙_}
-use Prim.Native.Nat.{_≤_}
 use native.Mathlib.Omega.{arith}
 use borrow.Author.Needs.{needs}
 use lib.ListN.{length}
@@ -8,7 +7,7 @@ use Rattle.numbers.specs.Numbers.{gives, number, values}
 use Rattle.numbers.proofs.Answers.{mapped-given}
 use Rattle.layouts.specs.Reading.{Consumed, readingOf, readValue}
 use Rattle.links.specs.Pairs.{linkCode, pairsIn}
-use Rattle.links.specs.Reports.{mostPairs, reportOver}
+use Rattle.links.specs.Reports.{reportOver}
 use Rattle.links.proofs.Reading.{Got, got, pairs-refused, few-reported, too-many, not-reported}
 use Rattle.links.proofs.report.Statement.{statement}
 use Rattle.links.proofs.report.Tie as tie

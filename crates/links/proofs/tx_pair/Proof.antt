@@ -2,9 +2,7 @@
 use mathlib.Core.Path.{_≡_, sym, ap, _∙_}
 use mathlib.Core.List.{[], _∷_}
 use borrow.Author.Needs.{needs}
-use Prim.Native.Nat.{_≤_}
 use native.Mathlib.Omega.{arith}
-use lib.ListN.{length}
 use Rattle.numbers.specs.Numbers.{gives, number, values}
 use Rattle.numbers.proofs.Answers.{mapped-given, mapped-refused}
 use Rattle.layouts.specs.Access.{Span, partOf, locatedOf, locateEntry}

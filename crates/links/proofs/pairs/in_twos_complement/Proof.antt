@@ -7,8 +7,6 @@ use borrow.Author.Needs.{needs}
 use Rattle.links.proofs.Machine.{signed-low, low-part, low-part-fits}
 use Rattle.links.proofs.pairs.in_twos_complement.Statement.{statement}
 use Rattle.links.proofs.pairs.in_twos_complement.Tie as tie
-use Rattle.links.proofs.pairs.in_twos_complement.Reads as reads
-use Rattle.links.proofs.pairs.in_twos_complement.Lts as lts
 
 cast-result : tie.Need-cast-result
 cast-result c = search needs

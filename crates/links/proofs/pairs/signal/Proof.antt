@@ -5,8 +5,6 @@ use mir.Syntax.{w8}
 use Rattle.links.proofs.Machine.{kept, signed-fits, signal-read}
 use Rattle.links.proofs.pairs.signal.Statement.{statement}
 use Rattle.links.proofs.pairs.signal.Tie as tie
-use Rattle.links.proofs.pairs.signal.Reads as reads
-use Rattle.links.proofs.pairs.signal.Lts as lts
 use mathlib.Core.Path.{_∙_}
 use Prim.Native.Nat.{_<_}
 use lib.ListN.{getD}

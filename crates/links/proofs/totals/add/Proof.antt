@@ -1,16 +1,14 @@
 -- `links::totals::add` meets its contract: field by field. What is known of a struct's signed field stands where it is read.
-use mathlib.Core.Path.{_≡_, sym, subst, _∙_}
+use mathlib.Core.Path.{sym, subst}
 use Prim.Native.Nat.{_+_}
 use borrow.Author.Needs.{needs}
 use lib.IntN.{_+ℤ_}
 use mir.Syntax.{w32}
-use mir.Val.{SFits, toZ, ofZ}
+use mir.Val.{SFits}
 use mir.Facts.{toZ-ofZ}
 use Rattle.links.proofs.Machine.{kept}
 use Rattle.links.proofs.totals.add.Statement.{statement}
 use Rattle.links.proofs.totals.add.Tie as tie
-use Rattle.links.proofs.totals.add.Lts as lts
-use Rattle.links.proofs.totals.add.Reads as reads
 
 add-t10 : tie.Need-add-t10
 add-t10 c =

@@ -5,8 +5,6 @@ use mir.Facts.{toZ-ofZ}
 use Rattle.links.proofs.Machine.{lower-first, lower-second, test-plain}
 use Rattle.links.proofs.totals.lower.Statement.{statement}
 use Rattle.links.proofs.totals.lower.Tie as tie
-use Rattle.links.proofs.totals.lower.Reads as reads
-use Rattle.links.proofs.totals.lower.Lts as lts
 
 returns : tie.Need-returns
 returns c =

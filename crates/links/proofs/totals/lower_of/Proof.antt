@@ -4,7 +4,7 @@ use borrow.Author.Needs.{needs}
 use mir.Syntax.{w8}
 use mir.Val.{SFits}
 use mir.Facts.{toZ-ofZ}
-use Rattle.links.specs.declared.Lowest.the-variants.{Absent, Signal}
+use Rattle.links.specs.declared.Lowest.the-variants.{Signal}
 use Rattle.links.specs.Reports.{lower, lowerOf}
 use Rattle.links.proofs.Machine.{kept, lower-fits}
 use Rattle.links.proofs.totals.lower_of.Statement.{statement}

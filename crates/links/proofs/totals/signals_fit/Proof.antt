@@ -1,16 +1,16 @@
 -- `links::totals::signals_fit` meets its contract: by the lowest, the kind and whether there are pairs.
-use mathlib.Core.Path.{_≡_, sym, ap, _∙_}
-use mathlib.Core.Bool.{Bool, false}
+use mathlib.Core.Path.{_≡_, sym, _∙_}
+use mathlib.Core.Bool.{false}
 use Prim.Native.Nat.{ℕ, zero, suc}
 use native.Mathlib.Omega.{arith}
 use borrow.Author.Needs.{needs}
 use lib.IntN.{ℤ}
 use mir.Syntax.{w8, w32}
-use mir.Val.{SFits, toZ, ofZ}
+use mir.Val.{SFits}
 use mir.Facts.{toZ-ofZ}
 use Rattle.links.specs.declared.LinkKind.the-variants.{Rx}
 use Rattle.links.specs.declared.Lowest.the-variants.{Absent, Signal}
-use Rattle.links.specs.Reports.{isZero, signalsFit}
+use Rattle.links.specs.Reports.{signalsFit}
 use Rattle.links.proofs.Merging.{zero-test}
 use Rattle.links.proofs.totals.signals_fit.Statement.{statement}
 use Rattle.links.proofs.totals.signals_fit.Tie as tie
