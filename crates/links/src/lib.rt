@@ -5,7 +5,6 @@ mod totals;
 
 use layouts::Located;
 use layouts::Reading;
-use layouts::locate;
 use layouts::read_value;
 use numbers::Refusal;
 use records::MacAddr;
@@ -107,7 +106,7 @@ pub fn merge(one: LinkReport, other: LinkReport) -> Reported
 pub fn tx_pair(value: &[u8], number: usize) -> TxPairRead
     ensures { λ r. ⌜ txRead r ≡ txPairOf (now (value .entry)) number ⌝ }
 {
-    match locate(pairs::code_of(LinkKind::Tx), pairs::path_to(number), value) {
+    match pairs::find_pair(LinkKind::Tx, value, number) {
         Located::Entry { start, end } => TxPairRead::Pair(pairs::tx_fields(&value[start..end])),
         Located::Refused(r) => TxPairRead::Refused(r),
     }
@@ -117,7 +116,7 @@ pub fn tx_pair(value: &[u8], number: usize) -> TxPairRead
 pub fn rx_pair(value: &[u8], number: usize) -> RxPairRead
     ensures { λ r. ⌜ rxRead r ≡ rxPairOf (now (value .entry)) number ⌝ }
 {
-    match locate(pairs::code_of(LinkKind::Rx), pairs::path_to(number), value) {
+    match pairs::find_pair(LinkKind::Rx, value, number) {
         Located::Entry { start, end } => RxPairRead::Pair(pairs::rx_fields(&value[start..end])),
         Located::Refused(r) => RxPairRead::Refused(r),
     }

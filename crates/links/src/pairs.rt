@@ -2,7 +2,9 @@
 use crate::LinkKind;
 use crate::RxPair;
 use crate::TxPair;
+use layouts::Located;
 use layouts::Path;
+use layouts::locate;
 use numbers::be16;
 use records::MacAddr;
 ghost use mathlib.Core.Path.{_≡_};
@@ -11,7 +13,7 @@ ghost use Prim.Native.Nat.{_+_, _≤_};
 ghost use lib.ListN.{length};
 ghost use Rattle.numbers.specs.Bytes.{numberAt};
 ghost use Rattle.records.specs.Values.{addressAt};
-ghost use Rattle.layouts.specs.Access.{numbersOf};
+ghost use Rattle.layouts.specs.Access.{locatedOf, locateEntry};
 ghost use Rattle.links.specs.declared.LinkKind.the-variants.{Tx, Rx};
 ghost use Rattle.links.specs.Pairs.{linkCode, errorsOf, packetsOf, signed, signalOf, txFields, rxFields};
 ghost use Rattle.links.specs.PrivatePairs.{pairBytes};
@@ -36,16 +38,17 @@ pub(crate) fn size_of(kind: LinkKind) -> usize
     }
 }
 
-// The numbers of a pair: one, since a link metric has one list (rule E1).
-pub(crate) fn path_to(number: usize) -> Path
-    ensures { λ r. ⌜ numbersOf r ≡ number ∷ [] ⌝ }
+// Where pair `number` of a value lies. It has one number, since a link metric has one list (rule E1).
+pub(crate) fn find_pair(kind: LinkKind, value: &[u8], number: usize) -> Located
+    ensures { λ r. ⌜ locatedOf r ≡ locateEntry (linkCode kind) (number ∷ []) (now (value .entry)) ⌝ }
 {
-    Path {
+    let path = Path {
         depth: 1,
         i0: number,
         i1: 0,
         i2: 0,
-    }
+    };
+    locate(code_of(kind), path, value)
 }
 
 pub(crate) fn errors(kind: LinkKind, pair: &[u8]) -> u32
