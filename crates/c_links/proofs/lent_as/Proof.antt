@@ -15,7 +15,8 @@ returns c =
     let a = c .before .before .before .args in
     let told = c .before .before .struct-told .given in
     let low-is = toZ-ofZ {w = w8} {z = a .lent .low} (sfits-of (told .1 .1 .1 .1 .1 .0 .1)) in
-    rw (c .before .if1 .taken) (ap gives (c .lent-with .ensures ∙ ap (λ l. lentWith (a .kind) (a .lent) (Signal l)) low-is))
+    let lent-is = c .lent-with .ensures ∙ ap (λ l. lentWith (a .kind) (a .lent) (Signal l)) low-is in
+    rw (c .before .if1 .taken) (ap gives lent-is)
 
 returns-2 : tie.Need-returns-2
 returns-2 c =

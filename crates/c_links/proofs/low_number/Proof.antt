@@ -11,7 +11,9 @@ returns : tie.Need-returns
 returns c = rw (c .enum-told .given .1)
 
 returns-2 : tie.Need-returns-2
-returns-2 c = toZ-ofZ {w = w8} (sfits-of (c .known-told .given .0 .1)) ∙ ap lowNumber (sym (c .before .lowest .given .1))
+returns-2 c =
+    let signal-is = toZ-ofZ {w = w8} (sfits-of (c .known-told .given .0 .1)) in
+    signal-is ∙ ap lowNumber (sym (c .before .lowest .given .1))
 
 pub low-number-spec : {M : Type 1} → statement M
 low-number-spec = tie.close (tie.spec (λ c. search needs) (λ c. search needs) returns returns-2)

@@ -1,5 +1,5 @@
--- `report_numbers` meets its contract: a report's fields, or the refusal's number. Signed fields are read back from their
--- bits.
+-- `report_numbers` meets its contract: a report's fields, or the refusal's number. Signed fields are read back from
+-- their bits.
 use mathlib.Core.Path.{ap, sym, _∙_}
 use mir.Syntax.{w8, w32}
 use mir.Facts.{toZ-ofZ}
