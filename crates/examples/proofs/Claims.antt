@@ -11,7 +11,7 @@ use Rattle.records.specs.Reading.{empty, fixed, readRecord}
 use Rattle.record_writing.specs.Writing.{recordSize}
 use Rattle.layouts.specs.Layouts.{layoutOf, isList}
 use Rattle.layouts.specs.Reading.{countAt, listOf, entriesEnd, endOf, consumedTo, readAs, readValue}
-use Rattle.layouts.specs.Access.{childAt, findEntry, spanOf, lengthAt, spansFrom, ofValue, locateEntry, countEntries}
+use Rattle.layouts.specs.Access.{childAt, findEntry, spanOf, lengthAt, spansFrom, spansIn, partsIn, ofValue, locateEntry, countEntries}
 use Rattle.utf8.specs.Utf8.{accepts}
 use Rattle.texts.specs.Texts.{textKind, isText}
 use Rattle.texts.specs.Reading.{untilZero, textSpan, radioList, laidOf, validOf, wholeOf, readText}
@@ -23,9 +23,12 @@ use Rattle.pushing.specs.Push.{wayBy, keepWay, messageWay}
 use Rattle.searching.specs.Count.{howMany}
 use Rattle.stations.specs.Addresses.{addressOf}
 use Rattle.stations.specs.Rows.{whereOf, allHeld, afterJoin, afterLeave}
+use Rattle.links.specs.Pairs.{pairsIn}
+use Rattle.links.specs.Reports.{reportOver, reportIfFew, reportOf, merged}
 use Rattle.c_answers.specs.Numbers.{shownIn}
+use Rattle.c_links.specs.Numbers.{reportFrom}
 use Rattle.orders.proofs.Examples.{stays-at-2999, goes-at-3000, zero-then-last-one, last-one-alone}
-use Rattle.examples.specs.Claims.{Claims, OfFraming, OfWalks, OfKinds, OfTexts, OfFinding, OfTheTable, OfStations, OfC}
+use Rattle.examples.specs.Claims.{Claims, OfFraming, OfWalks, OfKinds, OfTexts, OfFinding, OfTheTable, OfStations, OfLinks, OfC}
 
 of-framing : OfFraming
 unfolding readTlv readHeader writeSize
@@ -234,8 +237,24 @@ of-stations = record {
   event-unreadable = (refl, refl);
 }
 
+of-links : OfLinks
+unfolding layoutOf countAt listOf entriesEnd endOf consumedTo readAs spansFrom spansIn partsIn ofValue pairsIn reportOver reportIfFew reportOf merged
+of-links = record {
+  signals = (refl, refl, refl);
+  over-sent = refl;
+  over-received = refl;
+  no-sent-pairs = refl;
+  no-received-pairs = refl;
+  short-front = refl;
+  cut-pair = refl;
+  two-kinds = refl;
+  lowest-sum = (refl, refl);
+  highest-sum = (refl, refl);
+  sent-has-none = refl;
+}
+
 of-c : OfC
-unfolding shownIn
+unfolding shownIn reportFrom
 of-c = record {
   c-header = refl;
   c-no-header = refl;
@@ -273,6 +292,12 @@ of-c = record {
   c-nowhere = refl;
   c-row = refl;
   c-free-row = refl;
+  c-report = refl;
+  c-report-without-lowest = refl;
+  c-no-report = refl;
+  c-lent = refl;
+  c-no-kind = refl;
+  c-no-flag = refl;
 }
 
 pub claims : Claims
@@ -284,5 +309,6 @@ claims = record {
   finding = of-finding;
   table = of-the-table;
   stations = of-stations;
+  links = of-links;
   c = of-c;
 }

@@ -6,6 +6,7 @@ use mathlib.Core.Bool.{true, false}
 use mathlib.Core.List.{List, [], _∷_, _++_}
 use Prim.Native.Nat.{ℕ, _+_}
 use lib.ListN.{length, drop, replicate}
+use lib.IntN.{pos, negsuc}
 use Rattle.numbers.specs.Numbers.{gives, refuses}
 use Rattle.machines.specs.Machine.{those}
 use Rattle.framing.specs.Tlv.{readTlv, valueIn, header, writeSize, leaves}
@@ -34,6 +35,11 @@ use Rattle.stations.specs.declared.Listed.{Listed}
 use Rattle.stations.specs.Rows.{freshStations, answerTo, tableAfter, heldRow, countOf}
 use Rattle.stations.specs.Events.{answerFrom, tableFrom}
 use Rattle.c_answers.specs.Numbers.{headerNumbers, walkNumbers, kindNumbers, foundNumbers, partNumbers, pushNumbers, shownIn}
+use Rattle.links.specs.declared.LinkKind.the-variants.{Tx, Rx}
+use Rattle.links.specs.declared.Lowest.the-variants.{Absent, Signal}
+use Rattle.links.specs.Pairs.{signed}
+use Rattle.links.specs.Reports.{reportOf, signalsFit, merged, noPairs}
+use Rattle.c_links.specs.Numbers.{reportNumbers, reportFrom}
 use Rattle.c_stations.specs.Numbers.{noAddress, eventNumbers, appliedNumbers, whereNumbers, rowNumbers}
 use Rattle.examples.specs.Given.{association, associated, padded, able, codesBelow, one-record, a-list, and-more, entry-of, mac, kept-mac, home, guest, services, plain-neighbours, neighbours, sent-over, received-over, links-sent, links-received, by-dhcp, static, ipv4, by-itself, ipv6, bridges, operational, configured, beyond, e-acute, identification, inventory, text-of, on-the-edge, past-the-edge, with-a-byte, with-none, two-tlvs, join-of, leave-of, with-7, with-128, rows-below, LetIn, ZeroThenLastOne}
 
@@ -283,6 +289,20 @@ pub record OfStations : Type 0 where
   pub event-cut : (answerFrom with-7 (0x02 ∷ []) ≡ refuses 3 []) × (rows-below 128 (tableFrom with-7 (0x02 ∷ [])) ≡ heldRow 7 1 ∷ [])
   pub event-unreadable : (answerFrom with-7 (association 0x81) ≡ refuses 5 []) × (rows-below 128 (tableFrom with-7 (association 0x81)) ≡ heldRow 7 1 ∷ [])
 
+-- Rules Q2 to Q7: signal strengths at both ends, reports over the values above, and which sums two signals can have.
+pub record OfLinks : Type 0 where
+  pub signals : (signed 0x7F ≡ pos 127) × (signed 0x80 ≡ negsuc 127) × (signed 0xFF ≡ negsuc 0)
+  pub over-sent : reportOf Tx links-sent ≡ gives (record { kind = Tx; pairs = 2; errors = 14; packets = 2000; low = Absent; sum = pos 0 })
+  pub over-received : reportOf Rx links-received ≡ gives (record { kind = Rx; pairs = 2; errors = 14; packets = 2000; low = Signal (negsuc 59); sum = negsuc 119 })
+  pub no-sent-pairs : reportOf Tx (replicate 12 0) ≡ gives (noPairs Tx)
+  pub no-received-pairs : reportOf Rx (replicate 12 0) ≡ gives (noPairs Rx)
+  pub short-front : reportOf Rx (replicate 11 0) ≡ refuses 3 []
+  pub cut-pair : reportOf Rx (replicate 13 0) ≡ refuses 4 []
+  pub two-kinds : merged (noPairs Tx) (noPairs Rx) ≡ refuses 19 []
+  pub lowest-sum : (signalsFit Rx 2 (Signal (negsuc 4)) (negsuc 10) ≡ false) × (signalsFit Rx 2 (Signal (negsuc 4)) (negsuc 9) ≡ true)
+  pub highest-sum : (signalsFit Rx 2 (Signal (negsuc 4)) (pos 122) ≡ true) × (signalsFit Rx 2 (Signal (negsuc 4)) (pos 123) ≡ false)
+  pub sent-has-none : signalsFit Tx 1 (Signal (pos 0)) (pos 0) ≡ false
+
 -- Rule C1: each answer as C gets it, in the fields of the structs of include/ashlar.h.
 pub record OfC : Type 0 where
   pub c-header : headerNumbers (gives (record { «message_version» = 1; reserved = 2; «message_type» = 3; «message_id» = 4; fragment = 5; flags = 0x86; «last_fragment» = true }))
@@ -326,6 +346,16 @@ pub record OfC : Type 0 where
   pub c-nowhere : whereNumbers Where.Nowhere ≡ record { point = noAddress; held = false }
   pub c-row : rowNumbers (Listed.Occupied (kept-mac 1) (kept-mac 2)) ≡ record { station = kept-mac 1; point = kept-mac 2; held = true }
   pub c-free-row : rowNumbers Listed.Free ≡ record { station = noAddress; point = noAddress; held = false }
+  pub c-report : reportNumbers (gives (record { kind = Rx; pairs = 2; errors = 3; packets = 4; low = Signal (negsuc 4); sum = negsuc 6 }))
+      ≡ record { errors = 3; packets = 4; sum = negsuc 6; count = 2; kind = 10; low = negsuc 4; «has_low» = true; refusal = 0 }
+  pub c-report-without-lowest : reportNumbers (gives (record { kind = Tx; pairs = 2; errors = 3; packets = 4; low = Absent; sum = pos 0 }))
+      ≡ record { errors = 3; packets = 4; sum = pos 0; count = 2; kind = 9; low = pos 0; «has_low» = false; refusal = 0 }
+  pub c-no-report : reportNumbers (refuses 19 [])
+      ≡ record { errors = 0; packets = 0; sum = pos 0; count = 0; kind = 0; low = pos 0; «has_low» = false; refusal = 19 }
+  pub c-lent : reportFrom (record { errors = 3; packets = 4; sum = negsuc 6; count = 2; kind = 10; low = negsuc 4; «has_low» = true; refusal = 7 })
+      ≡ gives (record { kind = Rx; pairs = 2; errors = 3; packets = 4; low = Signal (negsuc 4); sum = negsuc 6 })
+  pub c-no-kind : reportFrom (record { errors = 3; packets = 4; sum = pos 0; count = 2; kind = 8; low = pos 0; «has_low» = false; refusal = 0 }) ≡ refuses 19 []
+  pub c-no-flag : reportFrom (record { errors = 3; packets = 4; sum = pos 0; count = 2; kind = 9; low = pos 1; «has_low» = false; refusal = 0 }) ≡ refuses 19 []
 
 -- everything that is claimed of this crate
 pub record Claims : Type 0 where
@@ -336,4 +366,5 @@ pub record Claims : Type 0 where
   pub finding : OfFinding
   pub table : OfTheTable
   pub stations : OfStations
+  pub links : OfLinks
   pub c : OfC
