@@ -2,7 +2,7 @@
 use Rattle.machines.specs.Claims.{Claims}
 use Rattle.machines.proofs.Lists.{those-append, those-both, every-remains, every-gathered}
 use Rattle.machines.proofs.Story.{good-run, alone, gathered-alone}
-use Rattle.machines.proofs.TwoRuns.{alike-view, alike-gathered, alike-common, all-pass, projected-view, projected-gathered}
+use Rattle.machines.proofs.TwoRuns.{alike-view, alike-gathered, all-pass, projected-view, projected-gathered}
 use Rattle.machines.proofs.Happened as H
 use Rattle.machines.proofs.Both.{of-left, of-right}
 
@@ -21,7 +21,6 @@ claims = record {
     seen = projected-view m passes Good L c Lone K es s s′ g g′ l v;
     answered = projected-gathered m passes Good L c Lone K es s s′ g g′ l v;
   };
-  everyone-alike = alike-common;
   happened-run = λ contract step says asks reply tied s s′ os h test passes agree. record {
     ends-at = H.ends-at contract step says asks reply tied h;
     remains = H.remains contract step says asks reply tied test passes agree h;

@@ -23,7 +23,7 @@ module _ {S C A E R : Type 0} (contract : Outcome S C A → Type 0) (step : S �
   -- the calls that pass a test, and what their callers got
   module _ (test : S → E → Bool) (passes : Outcome S C A → Bool) (agree : Tests contract asks test passes) where
     pub remains : {s s′ : S} {os : List (Outcome S C A)} → Happened contract s os s′ → remaining step test s (steps os) ≡ steps (those passes os)
-    unfolding remaining those stepsOf
+    unfolding gathered those stepsOf
     remains no-call = refl
     remains (next-call {o = o} {os = os} k hs) = by-call (asks (o .asked)) refl (tied o k) (agree o k) (remains hs)
       where

@@ -1,8 +1,8 @@
 -- Laws of the machine's lists: tests made twice, and tests that every call passes.
-use mathlib.Core.Path.{_≡_, refl, ap}
-use mathlib.Core.List.{List, [], _∷_, _++_, map}
-use mathlib.Core.Bool.{Bool, true, false, cond, _&&_, false≢true}
-use Rattle.machines.specs.Machine.{those, remaining, gathered, every}
+use mathlib.Core.Path.{_≡_, refl, sym, ap, _∙_}
+use mathlib.Core.List.{List, [], _∷_, _++_}
+use mathlib.Core.Bool.{Bool, true, false, cond, _&&_, false≢true, and-assoc}
+use Rattle.machines.specs.Machine.{those, run, remaining, gathered, every}
 
 pub left-true : (a b : Bool) → (a && b) ≡ true → a ≡ true
 left-true true b h = refl
@@ -33,6 +33,10 @@ those-both {E} own passes (e ∷ es) = by-tests (passes e) (own e) refl (those-b
     by-tests false true q ih = ih
     by-tests false false q ih = ih
 
+-- a test that only members pass which pass another one too
+pub those-within : {E : Type 0} (own passes : E → Bool) → ((e : E) → (own e && passes e) ≡ own e) → (es : List E) → those own (those passes es) ≡ those own es
+those-within own passes within es = those-both own passes es ∙ (λ i. those (λ e. within e i) es)
+
 pub those-append : {E : Type 0} (test : E → Bool) (es fs : List E) → those test (es ++ fs) ≡ those test es ++ those test fs
 unfolding those
 those-append test [] fs = refl
@@ -44,7 +48,7 @@ those-append {E} test (e ∷ es) fs = by-test (test e) (those-append test es fs)
 
 module _ {S E : Type 0} (step : S → E → S) (test : S → E → Bool) where
   pub every-remains : (es : List E) (s : S) → every step test s es ≡ true → remaining step test s es ≡ es
-  unfolding every remaining
+  unfolding every gathered
   every-remains [] s h = refl
   every-remains (e ∷ es) s h = rw (left-true (test s e) _ h, every-remains es (step s e) (right-true (test s e) _ h))
 
@@ -59,15 +63,18 @@ module _ {S E : Type 0} (step : S → E → S) (test : S → E → Bool) where
       by-own true ih = rw (left-true (test s e) _ h, ih)
       by-own false ih = ih
 
--- what is gathered goes by the states and calls at which it is gathered
-pub gathered-map : {S E A B : Type 0} (step : S → E → S) (test : S → E → Bool) (says : S → E → A) (f : A → B) (es : List E) (s : S)
-    → map f (gathered step test says s es) ≡ gathered step test (λ s e. f (says s e)) s es
-unfolding gathered
-gathered-map step test says f [] s = refl
-gathered-map {A = A} {B = B} step test says f (e ∷ es) s = by-test (test s e) (gathered-map step test says f es (step s e))
-  where
-    by-test : (b : Bool) → map f (gathered step test says (step s e) es) ≡ gathered step test (λ s e. f (says s e)) (step s e) es
-        → map f (cond b (says s e ∷ gathered step test says (step s e) es) (gathered step test says (step s e) es))
-        ≡ cond b (f (says s e) ∷ gathered step test (λ s e. f (says s e)) (step s e) es) (gathered step test (λ s e. f (says s e)) (step s e) es)
-    by-test true ih = ap (λ (l : List B). f (says s e) ∷ l) ih
-    by-test false ih = ih
+  -- calls after calls
+  pub every-append : (es fs : List E) (s : S) → every step test s (es ++ fs) ≡ (every step test s es && every step test (run step s es) fs)
+  unfolding every run
+  every-append [] fs s = refl
+  every-append (e ∷ es) fs s = ap (λ (b : Bool). test s e && b) (every-append es fs (step s e)) ∙ sym (and-assoc (test s e) _ _)
+
+  pub gathered-append : {A : Type 0} (says : S → E → A) (es fs : List E) (s : S) → gathered step test says s (es ++ fs) ≡ gathered step test says s es ++ gathered step test says (run step s es) fs
+  unfolding gathered run
+  gathered-append says [] fs s = refl
+  gathered-append {A} says (e ∷ es) fs s = by-test (test s e) (gathered-append says es fs (step s e))
+    where
+      by-test : (b : Bool) → gathered step test says (step s e) (es ++ fs) ≡ gathered step test says (step s e) es ++ gathered step test says (run step (step s e) es) fs
+          → cond b (says s e ∷ gathered step test says (step s e) (es ++ fs)) (gathered step test says (step s e) (es ++ fs)) ≡ cond b (says s e ∷ gathered step test says (step s e) es) (gathered step test says (step s e) es) ++ gathered step test says (run step (step s e) es) fs
+      by-test true h = ap (λ (l : List A). says s e ∷ l) h
+      by-test false h = h

@@ -2,14 +2,10 @@
 -- calls do to it and what is gathered of them.
 use mathlib.Core.Path.{_≡_, refl, sym, ap, _∙_}
 use mathlib.Core.List.{List, [], _∷_}
-use mathlib.Core.Bool.{Bool, true, false, _&&_, false≢true, and-false, or-true}
+use mathlib.Core.Bool.{Bool, true, false, _&&_, false≢true, and-false}
 use Prim.Native.Nat.{ℕ}
 use Rattle.machines.specs.Machine.{those, run, remaining, gathered, every}
-use Rattle.machines.specs.Story.{Machine, concernsKey, hers, everyone's, story, viewAfter, saidAlong, answers, ActsByKey, Echo}
-
--- what is seen, with the call at which it is
-abbrev pub with-call : {E Vw : Type 0} → Vw → E → Vw × E
-with-call v e = (v, e)
+use Rattle.machines.specs.Story.{Machine, concernsKey, hers, story, viewAfter, saidAlong, answers, ActsByKey, Echo}
 
 module _ {S E A Vw : Type 0} (m : Machine S E A Vw) (passes : S → E → Bool) (Good : S → Type 0) (L : ActsByKey m passes Good) where
   pub good-run : (es : List E) (s : S) → Good s → Good (run (m .step) s es)
@@ -23,15 +19,15 @@ module _ {S E A Vw : Type 0} (m : Machine S E A Vw) (passes : S → E → Bool) 
 
     -- the next call is in the story, or leaves the view as it was
     story-in : (s : S) (e : E) (es : List E) → passes s e ≡ true → concernsKey m c e ≡ true → told s (e ∷ es) ≡ e ∷ told (m .step s e) es
-    unfolding those remaining
+    unfolding those gathered
     story-in s e es p q = rw (p, q)
 
     story-other : (s : S) (e : E) (es : List E) → passes s e ≡ true → concernsKey m c e ≡ false → told s (e ∷ es) ≡ told (m .step s e) es
-    unfolding those remaining
+    unfolding those gathered
     story-other s e es p q = rw (p, q)
 
     story-crossed : (s : S) (e : E) (es : List E) → passes s e ≡ false → told s (e ∷ es) ≡ told (m .step s e) es
-    unfolding those remaining
+    unfolding those gathered
     story-crossed s e es p = rw p
 
     -- a statement on a story holds of the next call's, by cases
@@ -49,7 +45,7 @@ module _ {S E A Vw : Type 0} (m : Machine S E A Vw) (passes : S → E → Bool) 
 
     -- the view
     pub alone : (es : List E) (s : S) → Good s → m .view c (run (m .step) s es) ≡ viewAfter m (m .view c s) (told s es)
-    unfolding run viewAfter those remaining
+    unfolding run viewAfter those gathered
     alone [] s g = refl
     alone (e ∷ es) s g =
         let ih = alone es (m .step s e) (L .stays s e g) in
@@ -80,7 +76,7 @@ module _ {S E A Vw : Type 0} (m : Machine S E A Vw) (passes : S → E → Bool) 
       gathered-crossed s e es p = rw (p, and-false (asks e))
 
       pub gathered-by : (es : List E) (s : S) → Good s → gather s es ≡ saidAlong m asks says′ (m .view c s) (told s es)
-      unfolding gathered saidAlong those remaining
+      unfolding gathered saidAlong those
       gathered-by [] s g = refl
       gathered-by (e ∷ es) s g =
           let ih = gathered-by es (m .step s e) (L .stays s e g) in
@@ -89,31 +85,16 @@ module _ {S E A Vw : Type 0} (m : Machine S E A Vw) (passes : S → E → Bool) 
           (λ p q. gathered-other s e es q (asks e) refl ∙ ih ∙ ap (λ (v : Vw). saidAlong m asks says′ v (told (m .step s e) es)) (L .other c s e g q))
           (λ p. gathered-crossed s e es p ∙ ih ∙ ap (λ (z : S). saidAlong m asks says′ (m .view c z) (told (m .step s e) es)) (L .no-effect s e g p))
 
-    -- what is answered to the key's own calls, and what is seen at everyone's
+    -- what is answered to the key's own calls
     pub gathered-alone : (es : List E) (s : S) → Good s → gathered (m .step) (hers m passes c) (m .says) s es ≡ answers m c (m .view c s) (told s es)
     gathered-alone = gathered-by (m .own c) (m .says) (m .answer) (λ e h. rw h) (L .said c)
-
-    everyone-passes : (s : S) (e : E) → (m .common e && passes s e) ≡ m .common e
-    everyone-passes s e = by-test (m .common e) refl
-      where
-        by-test : (b : Bool) → m .common e ≡ b → (b && passes s e) ≡ b
-        by-test true q = L .always s e q
-        by-test false q = refl
-
-    abbrev seen : S → E → Vw × E
-    seen s e = (m .view c s, e)
-
-    pub met-alone : (es : List E) (s : S) → Good s → gathered (m .step) (everyone's m) seen s es ≡ saidAlong m (m .common) with-call (m .view c s) (told s es)
-    met-alone es s g =
-        (λ i. gathered (m .step) (λ s e. sym (everyone-passes s e) i) seen s es)
-        ∙ gathered-by (m .common) seen with-call (λ e h. rw (h, or-true (m .own c e))) (λ s e g p q. refl) es s g
 
     pass-in : (s : S) (e : E) (es : List E) → passes s e ≡ true → every (m .step) passes (m .step s e) es ≡ true → every (m .step) passes s (e ∷ es) ≡ true
     unfolding every
     pass-in s e es p h = rw (p, h)
 
     pub none-crossed : (Lone : S → Type 0) → Echo m passes Good c Lone → (es : List E) (s s′ : S) → Good s → Good s′ → Lone s′ → m .view c s ≡ m .view c s′ → every (m .step) passes s′ (told s es) ≡ true
-    unfolding those remaining every
+    unfolding those gathered every
     none-crossed Lone K [] s s′ g g′ l v = refl
     none-crossed Lone K (e ∷ es) s s′ g g′ l v =
         next (λ (es′ : List E). every (m .step) passes s′ es′ ≡ true) s e es

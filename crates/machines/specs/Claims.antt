@@ -5,7 +5,7 @@ use mathlib.Core.List.{List, [], _++_, map}
 use mathlib.Core.Bool.{Bool, true, not, _&&_}
 use Prim.Native.Nat.{ℕ}
 use Rattle.machines.specs.Machine.{those, run, remaining, gathered, every}
-use Rattle.machines.specs.Story.{Machine, hers, everyone's, story, viewAfter, answers, ActsByKey, Echo, SaysByViews}
+use Rattle.machines.specs.Story.{Machine, hers, story, viewAfter, answers, ActsByKey, Echo}
 use Rattle.machines.specs.Happened.{Outcome, Happened, Asks, asks-nothing, stepsOf, Tied, Tests}
 use Rattle.machines.specs.Both.{Either, lefts, rights, BothHappened}
 
@@ -25,12 +25,12 @@ module _ {S E A Vw : Type 0} (m : Machine S E A Vw) (passes : S → E → Bool) 
     pub seen : m .view c (run (m .step) s es) ≡ viewAfter m (m .view c s) (story m passes c s es)
     pub answered : gathered (m .step) (hers m passes c) (m .says) s es ≡ answers m c (m .view c s) (story m passes c s es)
 
-  -- Two runs whose stories of a key are alike. Rules D3 and D4 rest on this.
+  -- Two runs whose stories of a key are alike. Rule D4 rests on this.
   pub record StoriesAlike (c : ℕ) (es fs : List E) (s s′ : S) : Type 0 where
     pub seen : m .view c (run (m .step) s es) ≡ m .view c (run (m .step) s′ fs)
     pub answered : gathered (m .step) (hers m passes c) (m .says) s es ≡ gathered (m .step) (hers m passes c) (m .says) s′ fs
 
-  -- A run that is given the story of a key and nothing else. Rule D5 rests on this.
+  -- A run that is given the story of a key and nothing else. Rules D3 and D5 rest on this.
   pub record GivenAlone (c : ℕ) (es : List E) (s s′ : S) : Type 0 where
     pub all-pass : every (m .step) passes s′ (story m passes c s es) ≡ true
     pub seen : m .view c (run (m .step) s es) ≡ m .view c (run (m .step) s′ (story m passes c s es))
@@ -53,9 +53,6 @@ pub record Claims : Type 1 where
       → m .view c s ≡ m .view c s′ → story m passes c s es ≡ story m passes c s′ fs → StoriesAlike m passes c es fs s s′
   pub given-alone : {S E A Vw : Type 0} (m : Machine S E A Vw) (passes : S → E → Bool) (Good : S → Type 0) → ActsByKey m passes Good → (c : ℕ) (Lone : S → Type 0) → Echo m passes Good c Lone
       → (es : List E) (s s′ : S) → Good s → Good s′ → Lone s′ → m .view c s ≡ m .view c s′ → GivenAlone m passes c es s s′
-  -- where the stories of all keys are alike, everyone's calls are answered alike (for rule D3: the sweeps)
-  pub everyone-alike : {S E A Vw : Type 0} (m : Machine S E A Vw) (passes : S → E → Bool) (Good : S → Type 0) → ActsByKey m passes Good → SaysByViews m Good → (es fs : List E) (s s′ : S) → Good s → Good s′
-      → ((c : ℕ) → m .view c s ≡ m .view c s′) → ((c : ℕ) → story m passes c s es ≡ story m passes c s′ fs) → gathered (m .step) (everyone's m) (m .says) s es ≡ gathered (m .step) (everyone's m) (m .says) s′ fs
   pub happened-run : {S C A E R : Type 0} (contract : Outcome S C A → Type 0) (step : S → E → S) (says : S → E → R) (asks : C → Asks E) (reply : Outcome S C A → R) → Tied contract step says asks reply
       → (s s′ : S) (os : List (Outcome S C A)) → Happened contract s os s′ → (test : S → E → Bool) (passes : Outcome S C A → Bool) → Tests contract asks test passes → HappenedRun contract step says asks reply s s′ os test passes
   -- where two machines stand side by side, the calls of each happened to it alone

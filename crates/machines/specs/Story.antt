@@ -21,12 +21,9 @@ module _ {S E A Vw : Type 0} (m : Machine S E A Vw) where
   abbrev pub concernsKey : ℕ → E → Bool
   concernsKey c e = m .own c e || m .common e
 
-  -- a key's own calls that pass a test, and everyone's
+  -- a key's own calls that pass a test
   abbrev pub hers : (S → E → Bool) → ℕ → S → E → Bool
   hers passes c s e = m .own c e && passes s e
-
-  abbrev pub everyone's : S → E → Bool
-  everyone's s e = m .common e
 
   -- the calls that pass and concern a key
   abbrev pub story : (S → E → Bool) → ℕ → S → List E → List E
@@ -50,7 +47,6 @@ module _ {S E A Vw : Type 0} (m : Machine S E A Vw) where
   pub record ActsByKey (passes : S → E → Bool) (Good : S → Type 0) : Type 0 where
     pub stays : (s : S) (e : E) → Good s → Good (m .step s e)
     pub no-effect : (s : S) (e : E) → Good s → passes s e ≡ false → m .step s e ≡ s
-    pub always : (s : S) (e : E) → m .common e ≡ true → passes s e ≡ true
     pub same : (c : ℕ) (s : S) (e : E) → Good s → passes s e ≡ true → concernsKey c e ≡ true → m .view c (m .step s e) ≡ m .tell (m .view c s) e
     pub other : (c : ℕ) (s : S) (e : E) → Good s → concernsKey c e ≡ false → m .view c (m .step s e) ≡ m .view c s
     pub said : (c : ℕ) (s : S) (e : E) → Good s → passes s e ≡ true → m .own c e ≡ true → m .says s e ≡ m .answer (m .view c s) e
@@ -59,7 +55,3 @@ module _ {S E A Vw : Type 0} (m : Machine S E A Vw) where
   pub record Echo (passes : S → E → Bool) (Good : S → Type 0) (c : ℕ) (Lone : S → Type 0) : Type 0 where
     pub stays-lone : (s : S) (e : E) → Good s → Lone s → concernsKey c e ≡ true → Lone (m .step s e)
     pub echoed : (s s′ : S) (e : E) → Good s → Good s′ → Lone s′ → m .view c s ≡ m .view c s′ → concernsKey c e ≡ true → passes s e ≡ true → passes s′ e ≡ true
-
-  -- what a call of everyone's says goes by what is seen of all the keys
-  abbrev pub SaysByViews : (S → Type 0) → Type 0
-  SaysByViews Good = (s s′ : S) (e : E) → Good s → Good s′ → m .common e ≡ true → ((c : ℕ) → m .view c s ≡ m .view c s′) → m .says s e ≡ m .says s′ e

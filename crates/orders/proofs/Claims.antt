@@ -2,8 +2,10 @@
 use Rattle.orders.specs.Claims.{Claims}
 use Rattle.orders.proofs.Alone.{fresh-holds}
 use Rattle.orders.proofs.Unfinished.{kept-as-pushed, dropped-unfinished, held-from}
-use Rattle.orders.proofs.Orders.{local, sweep-drops, alike, shares-add-up, run-made, told-alone, sweeps-add-up, order-across-keys, swapped}
-use Rattle.orders.proofs.Happened.{finished-shown, is-run, order-across-senders, sender-alone, order-together, duplicate-untouched}
+use Rattle.orders.proofs.Orders.{local, sweep-drops, alike, shares-add-up, run-made, told-alone, order-across-keys, swapped}
+use Rattle.orders.proofs.Sums.{sweeps-add-up}
+use Rattle.orders.proofs.Answering.{own-run}
+use Rattle.orders.proofs.Happened.{finished-shown, is-run, order-across-senders, sender-alone, numbers-add-up, order-together, duplicate-untouched}
 use Rattle.orders.proofs.Completes.{completes, fresh-completes, completes-among}
 
 pub claims : Claims
@@ -20,7 +22,9 @@ claims = record {
   order-together = order-together;
   is-run = is-run;
   order-across-senders = order-across-senders;
+  own-run = own-run;
   sender-alone = sender-alone;
+  numbers-add-up = numbers-add-up;
   duplicate-untouched = duplicate-untouched;
   kept-as-pushed = kept-as-pushed;
   sweep-drops = sweep-drops;

@@ -1,11 +1,11 @@
--- The number of a sweep is the sum of the shares of the keys held, and so a function of what each key holds.
+-- The number of a sweep is the sum of the shares of the keys held.
 use mathlib.Core.Path.{_≡_, refl, sym, ap, _∙_}
-use mathlib.Core.List.{List, [], _∷_}
-use mathlib.Core.Bool.{Bool, true, false, cond, _||_, false≢true, true≢false}
+use mathlib.Core.List.{List}
+use mathlib.Core.Bool.{Bool, true, false, cond, false≢true}
 use Prim.Native.Nat.{ℕ, zero, suc, _+_, _≤_, _<_}
 use native.Mathlib.Omega.{arith}
-use lib.Dec.{eqb, ltb}
-use borrow.Author.Tests.{ltb-true, ltb-false, lt-ltb, le-ltb, eqb-true, eqb-false, eq-eqb}
+use lib.Dec.{ltb}
+use borrow.Author.Tests.{ltb-true, ltb-false, lt-ltb, le-ltb}
 use Rattle.table.specs.declared.Table.{Table}
 use Rattle.searching.specs.Count.{howMany}
 use Rattle.sweeping.specs.Sweep.{expired, swept}
@@ -17,7 +17,7 @@ use Rattle.orders.specs.Runs.{State, Holding, holding, holdsNothing}
 use Rattle.orders.specs.Shares.{share, total, isIn, distinct}
 use Rattle.orders.proofs.Rows.{isUsed, codeAt, firstAt}
 use Rattle.orders.proofs.Lookups.{row-is}
-use Rattle.orders.proofs.Holdings.{absent, present}
+use Rattle.orders.proofs.Holdings.{present}
 use Rattle.orders.proofs.Sweeps.{due-is, due-never}
 use Rattle.orders.proofs.Totals.{total-same, total-none, total-one}
 
@@ -96,65 +96,3 @@ module _ (z : State) (s : Sound (z .table)) (time : ℕ) where
 
     pub counts-add-up : swept t time .dropped ≡ total shareOf ks
     counts-add-up = sym (keys-total 16 (omega arith)) ∙ total-same (shareBelow 16) shareOf ks (λ k q. all-below k)
-
--- the keys that a table holds
-module _ (z : State) (s : Sound (z .table)) where
-  unfoldable keysBelow : ℕ → List ℕ
-  keysBelow zero = []
-  keysBelow (suc n) = cond (isUsed (z .table) n) (codeAt (z .table) n ∷ keysBelow n) (keysBelow n)
-
-  in-below : (n k : ℕ) → isIn k (keysBelow n) ≡ true → (row : ℕ) × (row < n) × (isUsed (z .table) row ≡ true) × (codeAt (z .table) row ≡ k)
-  unfolding keysBelow isIn
-  in-below zero k h = absurd (false≢true h)
-  in-below (suc n) k h = by-used (isUsed (z .table) n) refl (eqb (codeAt (z .table) n) k) refl h (in-below n k)
-    where
-      by-used : (b : Bool) → isUsed (z .table) n ≡ b → (d : Bool) → eqb (codeAt (z .table) n) k ≡ d → isIn k (cond b (codeAt (z .table) n ∷ keysBelow n) (keysBelow n)) ≡ true
-          → (isIn k (keysBelow n) ≡ true → (row : ℕ) × (row < n) × (isUsed (z .table) row ≡ true) × (codeAt (z .table) row ≡ k)) → (row : ℕ) × (row < suc n) × (isUsed (z .table) row ≡ true) × (codeAt (z .table) row ≡ k)
-      by-used true u true e q ih = (n, omega arith, u, eqb-true _ _ e)
-      by-used true u false e q ih = let r = ih (rw e at q) in (r .0, omega (arith, r .1), r .2, r .3)
-      by-used false u d e q ih = let r = ih q in (r .0, omega (arith, r .1), r .2, r .3)
-
-  out-below : (n k row : ℕ) → isIn k (keysBelow n) ≡ false → row < n → isUsed (z .table) row ≡ true → codeAt (z .table) row ≡ k → ⊥
-  unfolding keysBelow isIn
-  out-below zero k row h l u e = omega arith
-  out-below (suc n) k row h l u e = by-row (eqb row n) refl (isUsed (z .table) n) refl h (λ q m. out-below n k row q m u e)
-    where
-      by-row : (b : Bool) → eqb row n ≡ b → (d : Bool) → isUsed (z .table) n ≡ d → isIn k (cond d (codeAt (z .table) n ∷ keysBelow n) (keysBelow n)) ≡ false → (isIn k (keysBelow n) ≡ false → row < n → ⊥) → ⊥
-      by-row true q true u′ h′ ih = true≢false (sym (rw (eq-eqb (codeAt (z .table) n) k (ap (codeAt (z .table)) (sym (eqb-true row n q)) ∙ e))) ∙ h′)
-      by-row true q false u′ h′ ih = false≢true (sym u′ ∙ ap (isUsed (z .table)) (sym (eqb-true row n q)) ∙ u)
-      by-row false q true u′ h′ ih = ih (or-right (eqb (codeAt (z .table) n) k) h′) (omega (arith, eqb-false row n q))
-        where
-          or-right : (b : Bool) → (b || isIn k (keysBelow n)) ≡ false → isIn k (keysBelow n) ≡ false
-          or-right true c = absurd (true≢false c)
-          or-right false c = c
-      by-row false q false u′ h′ ih = ih h′ (omega (arith, eqb-false row n q))
-
-  distinct-below : (n : ℕ) → distinct (keysBelow n) ≡ true
-  unfolding keysBelow distinct
-  distinct-below zero = refl
-  distinct-below (suc n) = by-used (isUsed (z .table) n) refl (isIn (codeAt (z .table) n) (keysBelow n)) refl (distinct-below n)
-    where
-      by-used : (b : Bool) → isUsed (z .table) n ≡ b → (d : Bool) → isIn (codeAt (z .table) n) (keysBelow n) ≡ d → distinct (keysBelow n) ≡ true → distinct (cond b (codeAt (z .table) n ∷ keysBelow n) (keysBelow n)) ≡ true
-      by-used true u true e ih =
-          let r = in-below n (codeAt (z .table) n) e in
-          let same : r .0 ≡ n = s .keyed (r .0) n (r .2) u (r .3) in
-          absurd (omega (arith, r .1))
-      by-used true u false e ih = rw (e, ih)
-      by-used false u d e ih = ih
-
-  out-holdsNothing : (k : ℕ) → isIn k (keysBelow 16) ≡ false → holding k z ≡ holdsNothing
-  out-holdsNothing k h = by-row (ltb (rowOf (z .table) k) 16) refl
-    where
-      by-row : (b : Bool) → ltb (rowOf (z .table) k) 16 ≡ b → holding k z ≡ holdsNothing
-      by-row true e = let l = ltb-true (rowOf (z .table) k) 16 e in absurd (out-below 16 k (rowOf (z .table) k) h l (row-holds (z .table) k l .0) (row-holds (z .table) k l .1))
-      by-row false e = absent z s k (ltb-false _ _ e)
-
--- of two tables that hold the same a sweep drops as many keys
-pub counts-same : (z z′ : State) → Sound (z .table) → Sound (z′ .table) → (time : ℕ) → ((k : ℕ) → holding k z ≡ holding k z′) → swept (z .table) time .dropped ≡ swept (z′ .table) time .dropped
-counts-same z z′ s s′ time same =
-    let ks = keysBelow z s 16 in
-    let once = distinct-below z s 16 in
-    let out = out-holdsNothing z s in
-    counts-add-up z s time ks once out
-    ∙ total-same (λ k. share time (holding k z)) (λ k. share time (holding k z′)) ks (λ k q. ap (share time) (same k))
-    ∙ sym (counts-add-up z′ s′ time ks once (λ k h. sym (same k) ∙ out k h))

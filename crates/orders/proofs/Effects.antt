@@ -45,7 +45,7 @@ module _ (z : State) (p : Push) (s : Sound (z .table)) where
   written i h h₁ h₂ = length-paste (part z p) (i * 1492) (p .payload) (length (p .payload)) (omega arith) (omega arith)
 
   -- a payload that is written leaves the lent part as long as it was
-  front-same : {w : Way} → Goes w → length (storeBy w (part z p) (p .payload)) ≡ length (part z p)
+  pub front-same : {w : Way} → Goes w → length (storeBy w (part z p) (p .payload)) ≡ length (part z p)
   front-same (went-refuse n values) = refl
   front-same went-duplicate = refl
   front-same (went-keep i h₁ h₂ h₃ l e h k) = written i h h₁ h₂

@@ -6,7 +6,7 @@ use mathlib.Core.Bool.{Bool, true, false, cond, _&&_, _||_, false≢true}
 use Prim.Native.Nat.{ℕ}
 use native.Mathlib.Omega.{arith}
 use lib.Dec.{eqb}
-use lib.ListN.{length, drop, replicate, take-append-drop}
+use lib.ListN.{length, getD, drop, replicate, take-append-drop}
 use borrow.Author.Tests.{eqb-true, eqb-false, eq-eqb}
 use Rattle.sweeping.specs.declared.Swept.{Swept}
 use Rattle.pushing.specs.declared.Pushed.{Pushed}
@@ -29,9 +29,13 @@ use Rattle.machines.specs.Both.{lefts, rights, BothHappened}
 use Rattle.machines.proofs.Lists.{left-true, right-true, those-both}
 use Rattle.machines.proofs.Happened as H
 use Rattle.machines.proofs.Both.{of-left, of-right}
-use Rattle.orders.specs.Runs.{State, Push, Call, push, sweep, pushed, dropped, finishedBy, part, wayOf, after, replyTo, isAccepted, hasRoom, isOwn, isSweep, mine, start, holding, ends, crossed, repliesTo}
-use Rattle.orders.specs.Happened.{TableAsked, push-asked, sweep-asked, TableGot, push-got, sweep-got, TableCall, MixedCall, PushMeets, tableMeets, tableContract, callOf, asksCall, callsOf, CallerGot, from-push, from-sweep, gotFrom, gotBy, replyOf, wasAccepted, hadRoom, sameBytes, asksFrom, isFrom, isSweepCall, isAbout}
-use Rattle.orders.specs.Claims.{Reordered, IsRun, AskedReordered, NoneFull, SameGot, AskedAlone, GotAlone, ReorderedTogether, RoomTogether, SameTogether}
+use Rattle.orders.specs.Runs.{State, Push, Call, push, sweep, pushed, dropped, finishedBy, part, wayOf, after, replyTo, isAccepted, hasRoom, isOwn, isSweep, mine, start, holding, ends, crossed, repliesTo, sweepNumbers, numberIn}
+use Rattle.orders.specs.Happened.{TableAsked, push-asked, sweep-asked, TableGot, push-got, sweep-got, TableCall, MixedCall, PushMeets, tableMeets, tableContract, callOf, asksCall, callsOf, CallerGot, from-push, from-sweep, gotFrom, gotBy, replyOf, wasAccepted, hadRoom, sameBytes, asksFrom, isFrom, isSweepCall, isAbout, numbersGot}
+use Rattle.orders.specs.Claims.{Reordered, IsRun, AskedReordered, NoneFull, SameGot, AskedAlone, OwnRun, GotAlone, GotAddsUp, ReorderedTogether, RoomTogether, SameTogether}
+use Rattle.orders.specs.Shares.{total, isIn, distinct}
+use Rattle.orders.proofs.Locality.{sweeps-mine}
+use Rattle.orders.proofs.Totals.{total-map}
+use Rattle.orders.proofs.Sums.{sweeps-add-up}
 use Rattle.orders.proofs.Orders.{run-made, told-alone, order-across-keys}
 
 -- no two answers read alike
@@ -55,19 +59,19 @@ pub finished-shown : (z : State) (p : Push) (out : List ℕ) → shown (answerBy
 finished-shown z p out = shown-same (z .table) (part z p) (p .arrival) (p .payload) (p .room) out
 
 -- what a call that happened asked is a step of the run
-push-leads : (z z′ : State) (p : Push) (out out′ : List ℕ) (answer : Pushed) → PushMeets z p out answer out′ z′ → (after z (push p) ≡ z′) × (replyTo z (push p) ≡ pushed (pushedOf answer) (shown (pushedOf answer) (p .payload) out′))
-push-leads z z′ p out out′ answer m =
+push-leads : (z z′ : State) (p : Push) (out out′ : List ℕ) (answer : Pushed) → length out ≡ p .room → PushMeets z p out answer out′ z′ → (after z (push p) ≡ z′) × (replyTo z (push p) ≡ pushed (pushedOf answer) (shown (pushedOf answer) (p .payload) out′))
+push-leads z z′ p out out′ answer room m =
     let w = wayOf z p in
-    let met : Goes w (z .table) (part z p) out (p .arrival) (p .payload) answer (z′ .table) (part z′ p) out′ = rw (m .long) at (m .goes) in
+    let met : Goes w (z .table) (part z p) out (p .arrival) (p .payload) answer (z′ .table) (part z′ p) out′ = rw room at (m .goes) in
     let bytes : shown (pushedOf answer) (p .payload) out′ ≡ finishedBy w (p .payload) = rw (met .answers, met .puts) (finished-shown z p out) in (
       (λ i. record { table = sym (met .keeps) i; store = (ap (λ (l : List ℕ). l ++ drop (p .lent) (z .store)) (sym (met .stores)) ∙ ap (λ (l : List ℕ). part z′ p ++ l) (sym (m .rest)) ∙ take-append-drop (p .lent) (z′ .store)) i }),
       (λ i. pushed (sym (met .answers) i) (sym bytes i)),
     )
 
 leads : (z : State) (a : TableAsked) (g : TableGot) (z′ : State) → tableMeets z a g z′ → Leads after replyTo z (asksCall a) (replyOf (gotFrom a g)) z′
-leads z (push-asked o p key out) (push-got answer out′) z′ m = push-leads z z′ p out out′ answer m
+leads z (push-asked o p key out room) (push-got answer out′) z′ m = push-leads z z′ p out out′ answer room m
 leads z (sweep-asked time) (sweep-got many) z′ m = ((λ i. record { table = sym (m .0) i .table; store = sym (m .1) i }), ap (λ (r : Swept). dropped (r .dropped)) (sym (m .0)))
-leads z (push-asked o p key out) (sweep-got many) z′ m = absurd m
+leads z (push-asked o p key out room) (sweep-got many) z′ m = absurd m
 leads z (sweep-asked time) (push-got answer out′) z′ m = absurd m
 
 tied : Tied tableContract after replyTo asksCall (λ c. replyOf (gotBy c))
@@ -107,7 +111,7 @@ one-key a o = by-key (eqb (keyFor a) (keyFor o)) refl
         by-both false h = refl
 
 asks-own : (o : Origin) (a : TableAsked) → isOwn (keyFor o) (callOf a) ≡ asksFrom o a
-asks-own o (push-asked a p key out) = ap (λ (k : ℕ). eqb k (keyFor o)) key ∙ sym (one-key a o)
+asks-own o (push-asked a p key out room) = ap (λ (k : ℕ). eqb k (keyFor o)) key ∙ sym (one-key a o)
 asks-own o (sweep-asked time) = refl
 
 own-from : (o : Origin) (c : TableCall) → isOwn (keyFor o) (callOf (c .asked)) ≡ isFrom o c
@@ -139,19 +143,9 @@ known c (x ∷ cs) = by-call (x .asked) (known c cs)
     by-key o p key false e (nobody's h) = nobody's (rw (e, h))
 
     by-call : (a : TableAsked) → Known c (callsOf cs) → Known c (callOf a ∷ callsOf cs)
-    by-call (push-asked o p key out) k = by-key o p key (eqb (p .arrival .key) c) refl k
+    by-call (push-asked o p key out room) k = by-key o p key (eqb (p .arrival .key) c) refl k
     by-call (sweep-asked time) (someone's o e) = someone's o e
     by-call (sweep-asked time) (nobody's h) = nobody's (rw h)
-
-sweeps-among : (c : ℕ) (calls : List Call) → those isSweep (mine c calls) ≡ those isSweep calls
-unfolding those
-sweeps-among c [] = refl
-sweeps-among c (push p ∷ calls) = by-key (eqb (p .arrival .key) c) (sweeps-among c calls)
-  where
-    by-key : (b : Bool) → those isSweep (mine c calls) ≡ those isSweep calls → those isSweep (cond (b || false) (push p ∷ mine c calls) (mine c calls)) ≡ those isSweep calls
-    by-key true h = h
-    by-key false h = h
-sweeps-among c (sweep time ∷ calls) = rw (sweeps-among c calls)
 
 nobody : Origin
 nobody = record { sender = replicate 6 0; message-id = 0; six = refl; bytes = λ i. omega (arith, all-same {A = ℕ} 6 i 0); two = omega arith }
@@ -165,7 +159,7 @@ reordered es fs same c = by-key (known c es) (known c fs)
     by-key : Known c (callsOf es) → Known c (callsOf fs) → mine c (callsOf es) ≡ mine c (callsOf fs)
     by-key (someone's o e) k = subst (λ (key : ℕ). mine key (callsOf es) ≡ mine key (callsOf fs)) e (at o)
     by-key (nobody's h) (someone's o e) = subst (λ (key : ℕ). mine key (callsOf es) ≡ mine key (callsOf fs)) e (at o)
-    by-key (nobody's h) (nobody's k) = h ∙ sym (sweeps-among (keyFor nobody) (callsOf es)) ∙ ap (those isSweep) (at nobody) ∙ sweeps-among (keyFor nobody) (callsOf fs) ∙ sym k
+    by-key (nobody's h) (nobody's k) = h ∙ sym (sweeps-mine (keyFor nobody) (callsOf es)) ∙ ap (those isSweep) (at nobody) ∙ sweeps-mine (keyFor nobody) (callsOf fs) ∙ sym k
 
 -- what is answered to a key's own pushes
 module _ {z z′ : State} {cs : List TableCall} (h : Happened tableContract z cs z′) where
@@ -177,6 +171,9 @@ module _ {z z′ : State} {cs : List TableCall} (h : Happened tableContract z cs
 
   ends-at : ends z (callsOf cs) ≡ z′
   ends-at = H.ends-at tableContract after replyTo asksCall (λ c. replyOf (gotBy c)) tied h
+
+  numbers : numbersGot cs ≡ sweepNumbers z (callsOf cs)
+  numbers = sym (H.gathers tableContract after (λ s e. numberIn (replyTo s e)) asksCall (λ c. numberIn (replyOf (gotBy c))) (λ c m. (tied c m .0, ap numberIn (tied c m .1))) (λ s e. isSweep e) isSweepCall (λ c m. refl) h)
 
   all-room : NoneFull cs → every after hasRoom z (callsOf cs) ≡ true
   all-room = H.all-pass tableContract after replyTo asksCall (λ c. replyOf (gotBy c)) tied hasRoom hadRoom roomy h
@@ -193,33 +190,41 @@ module _ (store : List ℕ) (cs : List TableCall) (z : State) (h : Happened tabl
   pub is-run : IsRun store cs z
   is-run = record { replies = gathers h (λ s e. true) (λ c. true) (λ c m. refl) ∙ ap (map (λ c. replyOf (gotBy c))) (all-those cs); end = ends-at h; made = subst (λ (s : State). Made (s .table)) (ends-at h) (run-made store (callsOf cs)) }
 
-  module _ (store′ : List ℕ) (ds : List TableCall) (z′ : State) (h′ : Happened tableContract (start store′) ds z′) (long : length store′ ≡ length store) where
-    -- rule D3
-    pub order-across-senders : AskedReordered cs ds → NoneFull cs → NoneFull ds → SameGot cs ds z z′
-    order-across-senders same room room′ =
-        let story = order-across-keys store store′ long (callsOf cs) (callsOf ds) (reordered cs ds same) (all-room h room) (all-room h′ room′) in
-        record {
-          pushes = λ o. all-got (those (isFrom o) cs) (those (isFrom o) ds) (sym (own h o) ∙ story .pushes (keyFor o) ∙ own h′ o);
-          sweeps = all-got (those isSweepCall cs) (those isSweepCall ds)
-              (sym (gathers h (λ s e. isSweep e) isSweepCall (λ c m. refl)) ∙ story .sweeps ∙ gathers h′ (λ s e. isSweep e) isSweepCall (λ c m. refl));
-          holds = λ o. ap (holding (keyFor o)) (sym (ends-at h)) ∙ story .holds (keyFor o) ∙ ap (holding (keyFor o)) (ends-at h′);
-        }
+  -- rule D3
+  pub order-across-senders : (store′ : List ℕ) (ds : List TableCall) (z′ : State) → Happened tableContract (start store′) ds z′ → length store′ ≡ length store → AskedReordered cs ds → NoneFull cs → NoneFull ds → SameGot cs ds z z′
+  order-across-senders store′ ds z′ h′ long same room room′ =
+      let story = order-across-keys store store′ long (callsOf cs) (callsOf ds) (reordered cs ds same) (all-room h room) (all-room h′ room′) in
+      record {
+        pushes = λ o. all-got (those (isFrom o) cs) (those (isFrom o) ds) (sym (own h o) ∙ story .pushes (keyFor o) ∙ own h′ o);
+        sweeps = numbers h ∙ story .sweeps ∙ sym (numbers h′);
+        holds = λ o. ap (holding (keyFor o)) (sym (ends-at h)) ∙ story .holds (keyFor o) ∙ ap (holding (keyFor o)) (ends-at h′);
+      }
 
-    -- rule D5
-    pub sender-alone : (o : Origin) → AskedAlone o cs ds → GotAlone o cs ds z z′
-    sender-alone o asks =
-        let alone = told-alone store store′ long (keyFor o) (callsOf cs) in
-        let hers : mine (keyFor o) (crossed (start store) (callsOf cs)) ≡ callsOf ds
-        = ap (mine (keyFor o)) (H.remains tableContract after replyTo asksCall (λ c. replyOf (gotBy c)) tied isAccepted wasAccepted accepted h) ∙ about o (those wasAccepted cs) ∙ sym asks in
+  -- rule D5
+  module _ (store′ : List ℕ) (long : length store′ ≡ length store) where
+    hers : (o : Origin) (own : OwnRun store′ cs o) → mine (keyFor o) (crossed (start store) (callsOf cs)) ≡ callsOf (own .alone)
+    hers o own = ap (mine (keyFor o)) (H.remains tableContract after replyTo asksCall (λ c. replyOf (gotBy c)) tied isAccepted wasAccepted accepted h) ∙ about o (those wasAccepted cs) ∙ sym (own .asked)
+
+    pub sender-alone : (o : Origin) (own : OwnRun store′ cs o) → GotAlone o cs z own
+    sender-alone o run =
+        let told = told-alone store store′ long (keyFor o) (callsOf cs) in
         record {
-          answers = all-got (those (isFrom o) (those wasAccepted cs)) (those (isFrom o) ds)
+          answers = all-got (those (isFrom o) (those wasAccepted cs)) (those (isFrom o) (run .alone))
               (ap (map (λ c. replyOf (gotBy c))) (those-both (isFrom o) wasAccepted cs)
               ∙ sym (gathers h (λ s e. isOwn (keyFor o) e && isAccepted s e) (λ c. isFrom o c && wasAccepted c) (λ c m. rw (own-from o c, accepted c m)))
-              ∙ alone .answers ∙ ap (repliesTo (keyFor o) (start store′)) hers ∙ own h′ o);
-          holds = ap (holding (keyFor o)) (sym (ends-at h)) ∙ alone .holds ∙ ap (λ (calls : List Call). holding (keyFor o) (ends (start store′) calls)) hers ∙ ap (holding (keyFor o)) (ends-at h′);
-          none-refused = H.none-fails tableContract after replyTo asksCall (λ c. replyOf (gotBy c)) tied isAccepted wasAccepted accepted asked h′
-              (subst (λ (calls : List Call). every after isAccepted (start store′) calls ≡ true) hers (alone .none-refused));
+              ∙ told .answers ∙ ap (repliesTo (keyFor o) (start store′)) (hers o run) ∙ own (run .happened) o);
+          holds = ap (holding (keyFor o)) (sym (ends-at h)) ∙ told .holds ∙ ap (λ (calls : List Call). holding (keyFor o) (ends (start store′) calls)) (hers o run) ∙ ap (holding (keyFor o)) (ends-at (run .happened));
+          none-refused = H.none-fails tableContract after replyTo asksCall (λ c. replyOf (gotBy c)) tied isAccepted wasAccepted accepted asked (run .happened)
+              (subst (λ (calls : List Call). every after isAccepted (start store′) calls ≡ true) (hers o run) (told .none-refused));
         }
+
+    pub numbers-add-up : (own : (o : Origin) → OwnRun store′ cs o) (senders : List Origin) → distinct (map keyFor senders) ≡ true → ((key : ℕ) → isIn key (map keyFor senders) ≡ false → those (isOwn key) (callsOf cs) ≡ [])
+        → GotAddsUp store′ cs own senders
+    numbers-add-up own senders once all i =
+        ap (λ (l : List ℕ). getD l i 0) (numbers h)
+        ∙ sweeps-add-up store store′ long (callsOf cs) (map keyFor senders) once all i
+        ∙ total-map _ keyFor senders
+        ∙ (λ j. total (λ o. getD ((ap (sweepNumbers (start store′)) (hers o (own o)) ∙ sym (numbers (own o .happened))) j) i 0) senders)
 
 -- with a station table beside it
 module _ (store : List ℕ) (cs : List MixedCall) (z : State × Stations) (h : BothHappened tableContract stationContract (start store, freshStations) cs z)

@@ -11,11 +11,13 @@ pub mod Totals
 pub mod Counting
 pub mod Locality
 pub mod Alone
+pub mod Sums
 pub mod Orders
 pub mod Unfinished
 pub mod Joined
 pub mod Completion
 pub mod Completes
+pub mod Answering
 pub mod Happened
 pub mod Examples
 pub mod Claims

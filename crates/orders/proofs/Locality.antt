@@ -2,7 +2,7 @@
 -- that holding and the call, unless it is refused for room.
 use mathlib.Core.Path.{_≡_, refl, sym, ap, _∙_, subst}
 use mathlib.Core.List.{List}
-use mathlib.Core.Bool.{Bool, true, false, not, false≢true, true≢false, or-false}
+use mathlib.Core.Bool.{Bool, true, false, not, _&&_, _||_, false≢true, true≢false, or-false}
 use Prim.Native.Nat.{ℕ}
 use lib.Dec.{eqb}
 use lib.ListN.{length, take-append-drop}
@@ -13,12 +13,14 @@ use Rattle.pushing.specs.Made.{byFresh, byPush, bySweep}
 use Rattle.pushing.proofs.Ways.{went}
 use Rattle.table.proofs.Sound.{Sound}
 use Rattle.pushing.proofs.Sound.{sound}
-use Rattle.orders.specs.Runs.{State, Push, Call, push, sweep, Reply, pushed, dropped, finishedBy, part, wayOf, afterWay, after, replyTo, refusedBy, isAccepted, hasRoom, isOwn, isSweep, concerns, start, holding, forRoom}
+use Rattle.orders.specs.Runs.{State, Push, Call, push, sweep, Reply, pushed, dropped, finishedBy, part, wayOf, afterWay, after, replyTo, refusedBy, isAccepted, hasRoom, isOwn, isSweep, concerns, mine, start, holding, forRoom}
 use Rattle.orders.proofs.Telling.{acts, passes-is, ownWay, byOwn, tell, answer}
 use Rattle.orders.proofs.Pushing.{Good, roomBy, same-answer, same-finished, way-shape}
 use Rattle.orders.proofs.Effects.{stored-long, others-same, own-same}
 use Rattle.orders.proofs.Sweeps.{sweep-holding}
+use Rattle.machines.specs.Machine.{those}
 use Rattle.machines.specs.Story.{ActsByKey}
+use Rattle.machines.proofs.Lists.{those-within}
 
 -- a refused push changes nothing
 refused-same : (z : State) (p : Push) (test : ℕ → Bool) (bytes : List ℕ) (w : Way) → refusedBy test (pushed (answerBy w) bytes) ≡ true → afterWay w z p ≡ z
@@ -72,42 +74,6 @@ module _ (long : ℕ) (z : State) (g : Good long z) where
   pub own-sweep : (c time : ℕ) → holding c (after z (sweep time)) ≡ tell long (holding c z) (sweep time)
   own-sweep c time = sweep-holding z s time c
 
--- so the table is a machine that acts key by key: for every test that lets the sweeps pass, lets no call pass that is
--- refused for room, and stops no call but refused ones
-module _ (long : ℕ) (passes : State → Call → Bool) (room : (z : State) (e : Call) → passes z e ≡ true → hasRoom z e ≡ true)
-    (stops : (z : State) (e : Call) → passes z e ≡ false → after z e ≡ z) (sweeps : (z : State) (time : ℕ) → passes z (sweep time) ≡ true) where
-  always : (z : State) (e : Call) → isSweep e ≡ true → passes z e ≡ true
-  always z (push p) h = absurd (false≢true h)
-  always z (sweep time) h = sweeps z time
-
-  same : (c : ℕ) (z : State) (e : Call) → Good long z → passes z e ≡ true → concerns c e ≡ true → holding c (after z e) ≡ tell long (holding c z) e
-  same c z (push p) g h k =
-      let is : p .arrival .key ≡ c = eqb-true _ _ (sym (or-false (eqb (p .arrival .key) c)) ∙ k) in
-      subst (λ (d : ℕ). holding d (after z (push p)) ≡ tell long (holding d z) (push p)) is (own-push long z g p (room z (push p) h))
-  same c z (sweep time) g h k = own-sweep long z g c time
-
-  other : (c : ℕ) (z : State) (e : Call) → Good long z → concerns c e ≡ false → holding c (after z e) ≡ holding c z
-  other c z (push p) g k = untouched long z g c p (λ q. eqb-false (p .arrival .key) c (sym (or-false (eqb (p .arrival .key) c)) ∙ k) (sym q))
-  other c z (sweep time) g k = absurd (true≢false k)
-
-  said : (c : ℕ) (z : State) (e : Call) → Good long z → passes z e ≡ true → isOwn c e ≡ true → replyTo z e ≡ answer long (holding c z) e
-  said c z (push p) g h k = subst (λ (d : ℕ). replyTo z (push p) ≡ answer long (holding d z) (push p)) (eqb-true _ _ k) (own-reply long z g p (room z (push p) h))
-  said c z (sweep time) g h k = absurd (false≢true k)
-
-  pub local : ActsByKey (acts long) passes (Good long)
-  local = record {
-    stays = good-after long;
-    no-effect = λ z e g. stops z e;
-    always = always;
-    same = same;
-    other = other;
-    said = said;
-  }
-
--- two such tests: not refused for room, and not refused
-pub local-room : (long : ℕ) → ActsByKey (acts long) hasRoom (Good long)
-local-room long = local long hasRoom (λ z e h. h) (refused-nothing forRoom) (λ z time. refl)
-
 pub accepted-room : (z : State) (e : Call) → isAccepted z e ≡ true → hasRoom z e ≡ true
 accepted-room z e h = by-reply (replyTo z e) h
   where
@@ -116,5 +82,40 @@ accepted-room z e h = by-reply (replyTo z e) h
     by-reply (pushed (refuses n values) bytes) h = absurd (false≢true h)
     by-reply (dropped n) h = refl
 
-pub local-accepted : (long : ℕ) → ActsByKey (acts long) isAccepted (Good long)
-local-accepted long = local long isAccepted accepted-room (refused-nothing (λ n. true)) (λ z time. refl)
+-- of the calls that concern a key its own are its own, and the sweeps are all of them
+module _ (c : ℕ) where
+  own-concerns : (e : Call) → (isOwn c e && concerns c e) ≡ isOwn c e
+  own-concerns e = by-own (isOwn c e)
+    where
+      by-own : (b : Bool) → (b && (b || isSweep e)) ≡ b
+      by-own true = refl
+      by-own false = refl
+
+  sweep-concerns : (e : Call) → (isSweep e && concerns c e) ≡ isSweep e
+  sweep-concerns (push p) = refl
+  sweep-concerns (sweep time) = refl
+
+  pub own-mine : (calls : List Call) → those (isOwn c) (mine c calls) ≡ those (isOwn c) calls
+  own-mine = those-within (isOwn c) (concerns c) own-concerns
+
+  pub sweeps-mine : (calls : List Call) → those isSweep (mine c calls) ≡ those isSweep calls
+  sweeps-mine = those-within isSweep (concerns c) sweep-concerns
+
+-- so the table is a machine whose accepted calls act key by key
+module _ (long : ℕ) where
+  same : (c : ℕ) (z : State) (e : Call) → Good long z → isAccepted z e ≡ true → concerns c e ≡ true → holding c (after z e) ≡ tell long (holding c z) e
+  same c z (push p) g h k =
+      let is : p .arrival .key ≡ c = eqb-true _ _ (sym (or-false (eqb (p .arrival .key) c)) ∙ k) in
+      subst (λ (d : ℕ). holding d (after z (push p)) ≡ tell long (holding d z) (push p)) is (own-push long z g p (accepted-room z (push p) h))
+  same c z (sweep time) g h k = own-sweep long z g c time
+
+  other : (c : ℕ) (z : State) (e : Call) → Good long z → concerns c e ≡ false → holding c (after z e) ≡ holding c z
+  other c z (push p) g k = untouched long z g c p (λ q. eqb-false (p .arrival .key) c (sym (or-false (eqb (p .arrival .key) c)) ∙ k) (sym q))
+  other c z (sweep time) g k = absurd (true≢false k)
+
+  said : (c : ℕ) (z : State) (e : Call) → Good long z → isAccepted z e ≡ true → isOwn c e ≡ true → replyTo z e ≡ answer long (holding c z) e
+  said c z (push p) g h k = subst (λ (d : ℕ). replyTo z (push p) ≡ answer long (holding d z) (push p)) (eqb-true _ _ k) (own-reply long z g p (accepted-room z (push p) h))
+  said c z (sweep time) g h k = absurd (false≢true k)
+
+  pub local : ActsByKey (acts long) isAccepted (Good long)
+  local = record { stays = good-after long; no-effect = λ z e g. refused-nothing (λ n. true) z e; same = same; other = other; said = said }

@@ -1,13 +1,15 @@
 -- What one call makes of one key's holding, and what it tells: functions of the holding and the call alone, but for
 -- refusal 10.
 use mathlib.Core.Path.{_≡_, refl}
-use mathlib.Core.List.{List, [], _∷_}
+use mathlib.Core.List.{List, []}
 use mathlib.Core.Bool.{Bool, true, false, cond, not}
 use Prim.Native.Nat.{ℕ, min, _≤_, _<_}
 use lib.Dec.{ltb}
 use lib.ListN.{length}
 use borrow.Author.Tests.{lt-ltb, le-ltb}
-use Rattle.numbers.specs.Numbers.{Answer, gives, refuses}
+use Rattle.numbers.specs.declared.Refusal.{Refusal}
+use Rattle.numbers.specs.declared.Refusal.the-variants.{StoreTooSmall, PayloadTooLong, OutputTooSmall}
+use Rattle.numbers.specs.Numbers.{Answer, gives, refuses, number, values}
 use Rattle.pushing.specs.Joining.{Since, never, since, isKept, heldOf, andNew, due}
 use Rattle.pushing.specs.Push.{PushAnswer, waiting, duplicated, inconsistent, missing, missingLast, single, joined, Way, refuse, duplicate, keepAt, openAt, end, joinWay, answerBy}
 use Rattle.pushing.proofs.Ways.{by-ends}
@@ -81,17 +83,17 @@ module _ (long : ℕ) (v : Holding) (p : Push) where
         own-keep h = rw (le-ltb _ _ h₁, le-ltb _ _ h₂, h₃, h)
 
   -- the ways that it can go: no refusal is for room, and no end waits
-  pub by-own-way : (P : Way → Type 0) → ((n : ℕ) (values : List ℕ) → forRoom n ≡ false → P (refuse n values)) → P duplicate → ((h : PushAnswer) (bytes : List ℕ) → isWaiting h ≡ false → P (end h bytes))
+  pub by-own-way : (P : Way → Type 0) → ((x : Refusal) → forRoom (number x) ≡ false → P (refuse (number x) (values x))) → P duplicate → ((h : PushAnswer) (bytes : List ℕ) → isWaiting h ≡ false → P (end h bytes))
       → (p .arrival .fragment .last ≡ false → P (keepAt 0)) → P (ownWay long v p)
   unfolding ownWay
   by-own-way P r d e k = by-tests (ltb (min (p .lent) long) 47744) (ltb 1492 (length (p .payload))) (isKept (v .fragments (p .arrival .fragment .number))) (p .arrival .fragment .last) refl
     where
       by-tests : (w x y l : Bool) → p .arrival .fragment .last ≡ l → P (cond w (refuse 11 []) (cond x (refuse 12 []) (cond y duplicate (cond l (ownJoining v p) (keepAt 0)))))
-      by-tests true x y l q = r 11 [] refl
-      by-tests false true y l q = r 12 [] refl
+      by-tests true x y l q = r StoreTooSmall refl
+      by-tests false true y l q = r PayloadTooLong refl
       by-tests false false true l q = d
       by-tests false false false true q =
-          by-ends P (e inconsistent [] refl) (e missing [] refl) (e missingLast [] refl) (λ n. e (single n) [] refl) (λ n. r 13 (n ∷ []) refl) (λ bytes. e (joined (length bytes)) bytes refl)
+          by-ends P (e inconsistent [] refl) (e missing [] refl) (e missingLast [] refl) (λ n. e (single n) [] refl) (λ n. r (OutputTooSmall n) refl) (λ bytes. e (joined (length bytes)) bytes refl)
           (heldOf (p .arrival .fragment) (p .payload)) (andNew (v .fragments) (p .arrival .fragment .number) (heldOf (p .arrival .fragment) (p .payload))) (p .room)
       by-tests false false false false q = k q
 

@@ -1,6 +1,6 @@
 -- Sums over keys: what changes when one key's share does.
 use mathlib.Core.Path.{_≡_, refl, sym, ap, _∙_}
-use mathlib.Core.List.{List, [], _∷_}
+use mathlib.Core.List.{List, [], _∷_, map}
 use mathlib.Core.Bool.{Bool, true, false, not, _||_, false≢true, true≢false, or-true}
 use Prim.Native.Nat.{ℕ, _+_}
 use native.Mathlib.Omega.{arith}
@@ -18,6 +18,11 @@ pub total-none : (f : ℕ → ℕ) (ks : List ℕ) → ((k : ℕ) → f k ≡ 0)
 unfolding total
 total-none f [] none = refl
 total-none f (k ∷ ks) none = rw (none k, total-none f ks none)
+
+pub total-map : {A : Type 0} (f : ℕ → ℕ) (g : A → ℕ) (xs : List A) → total f (map g xs) ≡ total (λ x. f (g x)) xs
+unfolding total
+total-map f g [] = refl
+total-map f g (x ∷ xs) = rw (total-map f g xs)
 
 pub total-alone : (f : ℕ → ℕ) (k : ℕ) → total f (k ∷ []) ≡ f k
 unfolding total

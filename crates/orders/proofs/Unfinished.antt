@@ -8,7 +8,7 @@ use native.Mathlib.Omega.{arith}
 use lib.Dec.{eqb}
 use lib.ListN.{length}
 use borrow.Author.Tests.{eqb-true, eqb-false, eq-eqb}
-use Rattle.numbers.specs.Numbers.{gives}
+use Rattle.numbers.specs.Numbers.{gives, number, values}
 use Rattle.numbers.proofs.Answers.{given}
 use Rattle.numbers.proofs.Firm.{never}
 use Rattle.pushing.specs.Joining.{Held, nothing, kept, heldOf, due}
@@ -26,7 +26,7 @@ use Rattle.orders.proofs.Alone.{fresh-holds}
 waits-kept : (long : ℕ) (v : Holding) (p : Push) → answerBy (ownWay long v p) ≡ gives waiting → byOwn (ownWay long v p) v p .fragments (p .arrival .fragment .number) ≡ kept (heldOf (p .arrival .fragment) (p .payload))
 waits-kept long v p =
     by-own-way long v p (λ (w : Way). answerBy w ≡ gives waiting → byOwn w v p .fragments (p .arrival .fragment .number) ≡ kept (heldOf (p .arrival .fragment) (p .payload)))
-    (λ n values e q. never waiting n values (sym q))
+    (λ x e q. never waiting (number x) (values x) (sym q))
     (λ q. absurd (false≢true (ap isWaiting (given _ _ q))))
     (λ h bytes e q. absurd (false≢true (sym e ∙ ap isWaiting (given _ _ q))))
     (λ e q. rw (eq-eqb (p .arrival .fragment .number) (p .arrival .fragment .number) refl))
@@ -60,7 +60,7 @@ module _ (key number : ℕ) (fragment : Held) where
 
     own-came : (p : Push) → p .arrival .key ≡ key → hasRoom z (push p) ≡ true → Holds (after z (push p)) → Came z (push p)
     own-came p is room h = by-own-way long v p (λ (w : Way). ownWay long v p ≡ w → byOwn w v p .fragments number ≡ kept fragment → Came z (push p))
-        (λ n values e q h. stayed (at-key h)) (λ q h. stayed (at-key h)) (λ a bytes e q h. no-fragment fragment h) (λ e q. by-number e q (eqb number (p .arrival .fragment .number)) refl)
+        (λ x e q h. stayed (at-key h)) (λ q h. stayed (at-key h)) (λ a bytes e q h. no-fragment fragment h) (λ e q. by-number e q (eqb number (p .arrival .fragment .number)) refl)
         refl (sym (ap (λ (u : Holding). u .fragments number) (own-push long z g p room)) ∙ ap (λ (k : ℕ). holding k (after z (push p)) .fragments number) is ∙ h)
       where
         v : Holding
@@ -148,7 +148,7 @@ module _ (long : ℕ) (z : State) (g : Good long z) (all : (key : ℕ) → Open 
   push-open : (p : Push) → Open (byOwn (ownWay long (holding (p .arrival .key) z) p) (holding (p .arrival .key) z) p)
   push-open p =
       let v = holding (p .arrival .key) z in
-      by-own-way long v p (λ (w : Way). Open (byOwn w v p)) (λ n values e. all (p .arrival .key)) (all (p .arrival .key)) (λ h bytes e. nothing-open)
+      by-own-way long v p (λ (w : Way). Open (byOwn w v p)) (λ x e. all (p .arrival .key)) (all (p .arrival .key)) (λ h bytes e. nothing-open)
       (λ e time d. (p .arrival .fragment .number, p .byte, rw (eq-eqb (p .arrival .fragment .number) (p .arrival .fragment .number) refl)))
 
   call-open : (e : Call) (key : ℕ) → Open (holding key (after z e))

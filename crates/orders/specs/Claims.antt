@@ -4,7 +4,7 @@ use mathlib.Core.Path.{_≡_}
 use mathlib.Core.List.{List, [], _∷_, _++_, map}
 use mathlib.Core.Bool.{true, false, not, cond}
 use Prim.Native.Nat.{ℕ, _≤_, _<_}
-use lib.ListN.{length}
+use lib.ListN.{length, getD}
 use Rattle.sweeping.specs.Sweep.{swept}
 use Rattle.table.specs.Rows.{storeSize}
 use Rattle.numbers.specs.Numbers.{gives}
@@ -22,8 +22,8 @@ use Rattle.stations.specs.Runs.{stationContract, eventsOf, NoneRefused}
 use Rattle.stations.specs.Claims.{EventsReordered, SameStations}
 use Rattle.orders.specs.Shares.{share, total, isIn, distinct}
 use Rattle.orders.specs.Messages.{Message, Room, Sent, sending, spares, completing}
-use Rattle.orders.specs.Runs.{State, Push, Call, push, sweep, pushed, finishedBy, wayOf, isAccepted, isOwn, neverFull, hasRoom, after, replyTo, mine, start, holding, holdsNothing, ends, crossed, repliesTo, repliesToAccepted, repliesToSweeps}
-use Rattle.orders.specs.Happened.{TableCall, MixedCall, PushMeets, tableContract, callsOf, gotBy, replyOf, wasAccepted, hadRoom, isFrom, isSweepCall, isAbout}
+use Rattle.orders.specs.Runs.{State, Push, Call, push, sweep, pushed, finishedBy, wayOf, isAccepted, isOwn, neverFull, hasRoom, after, replyTo, mine, start, holding, holdsNothing, ends, crossed, repliesTo, repliesToAccepted, sweepNumbers}
+use Rattle.orders.specs.Happened.{TableCall, MixedCall, PushMeets, tableContract, callsOf, gotBy, replyOf, wasAccepted, hadRoom, isFrom, isAbout, numbersGot}
 
 -- A push under another key, refused or not, leaves what a key holds. A refused call changes nothing (rule A3).
 pub record Local (z : State) : Type 0 where
@@ -31,10 +31,13 @@ pub record Local (z : State) : Type 0 where
   pub refused : (e : Call) → isAccepted z e ≡ false → after z e ≡ z
 
 -- Two tables that hold the same under a key, whatever else they hold, do the same to that key and answer the same. What
--- a push does goes by what its key holds and by the call, unless it is refused by 10 (rules T4 to T9). What a sweep
--- does to a key goes by what the key holds and by the time (rule S1).
+-- a push does goes by what its key holds and by the call, unless it is refused by 10 (rules T4 to T9). One that is
+-- refused by another number needs no place in the other table either: 11 and 12 go by the lengths that are lent (rule
+-- T4), and 13 by what the key holds and by the output's length (rule T9). What a sweep does to a key goes by what the
+-- key holds and by the time (rule S1).
 pub record Alike (z z′ : State) (key : ℕ) : Type 0 where
   pub tells-same : (p : Push) → p .arrival .key ≡ key → hasRoom z (push p) ≡ true → hasRoom z′ (push p) ≡ true → replyTo z (push p) ≡ replyTo z′ (push p)
+  pub refused-same : (p : Push) → p .arrival .key ≡ key → hasRoom z (push p) ≡ true → isAccepted z (push p) ≡ false → replyTo z (push p) ≡ replyTo z′ (push p)
   pub push-same : (p : Push) → p .arrival .key ≡ key → hasRoom z (push p) ≡ true → hasRoom z′ (push p) ≡ true → holding key (after z (push p)) ≡ holding key (after z′ (push p))
   pub sweep-same : (time : ℕ) → holding key (after z (sweep time)) ≡ holding key (after z′ (sweep time))
 
@@ -50,11 +53,10 @@ pub record ToldAlone (key : ℕ) (store store′ : List ℕ) (calls : List Call)
 abbrev pub SharesAddUp : (z : State) (time : ℕ) (keys : List ℕ) → Type 0
 SharesAddUp z time keys = swept (z .table) time .dropped ≡ total (λ key. share time (holding key z)) keys
 
--- Rule D5: a sweep's number is the sum of what it drops in the keys' tables of their own, over any list that has each
--- key once for which there was a push.
-abbrev pub AddsUp : (store : List ℕ) (calls : List Call) (time : ℕ) (keys : List ℕ) → Type 0
-AddsUp store calls time keys =
-    swept (ends (start store) calls .table) time .dropped ≡ total (λ key. swept (ends (start store) (mine key (crossed (start store) calls)) .table) time .dropped) keys
+-- Rule D5: the number of the i-th sweep is the sum of what it counts in the keys' tables of their own, over any list
+-- that has each key once for which there was a push. All sweeps are in each of these runs, so it is the i-th there too.
+abbrev pub AddsUp : (store store′ : List ℕ) (calls : List Call) (keys : List ℕ) → Type 0
+AddsUp store store′ calls keys = (i : ℕ) → getD (sweepNumbers (start store) calls) i 0 ≡ total (λ key. getD (sweepNumbers (start store′) (mine key (crossed (start store) calls))) i 0) keys
 
 -- Rule S3: at least one fragment is held.
 abbrev pub HasOne : Fragments → Type 0
@@ -82,7 +84,7 @@ Reordered calls calls′ = (key : ℕ) → mine key calls ≡ mine key calls′
 -- Rule D3, what stays the same: the answer and the finished bytes of each call, and what each key has at the end.
 pub record SameStory (store store′ : List ℕ) (calls calls′ : List Call) : Type 0 where
   pub pushes : (key : ℕ) → repliesTo key (start store) calls ≡ repliesTo key (start store′) calls′
-  pub sweeps : repliesToSweeps (start store) calls ≡ repliesToSweeps (start store′) calls′
+  pub sweeps : sweepNumbers (start store) calls ≡ sweepNumbers (start store′) calls′
   pub holds : (key : ℕ) → holding key (ends (start store) calls) ≡ holding key (ends (start store′) calls′)
 
 -- Rule D6: the message completes with its own bytes. The fragments before the last one wait, and in the end the key is
@@ -116,7 +118,7 @@ NoneFull calls = those (λ c. not (hadRoom c)) calls ≡ []
 -- sweeps. The tables hold the same.
 pub record SameGot (calls calls′ : List TableCall) (z z′ : State) : Type 0 where
   pub pushes : (o : Origin) → map gotBy (those (isFrom o) calls) ≡ map gotBy (those (isFrom o) calls′)
-  pub sweeps : map gotBy (those isSweepCall calls) ≡ map gotBy (those isSweepCall calls′)
+  pub sweeps : numbersGot calls ≡ numbersGot calls′
   pub holds : (o : Origin) → holding (keyFor o) z ≡ holding (keyFor o) z′
 
 -- Rule D5 for calls that happened: the second calls are the accepted pushes of one sender and message id among the
@@ -124,10 +126,25 @@ pub record SameGot (calls calls′ : List TableCall) (z z′ : State) : Type 0 w
 abbrev pub AskedAlone : Origin → List TableCall → List TableCall → Type 0
 AskedAlone o calls calls′ = callsOf calls′ ≡ callsOf (those (isAbout o) (those wasAccepted calls))
 
-pub record GotAlone (o : Origin) (calls calls′ : List TableCall) (z z′ : State) : Type 0 where
-  pub answers : map gotBy (those (isFrom o) (those wasAccepted calls)) ≡ map gotBy (those (isFrom o) calls′)
-  pub holds : holding (keyFor o) z ≡ holding (keyFor o) z′
-  pub none-refused : those (λ c. not (wasAccepted c)) calls′ ≡ []
+-- A run of its own for one sender and message id: calls that happened from a fresh table, each as its contract allows.
+-- A contract allows one outcome (rule A4) and the code keeps its contract, so these are the answers that the code gives.
+pub record OwnRun (store : List ℕ) (calls : List TableCall) (o : Origin) : Type 0 where
+  pub alone : List TableCall
+  pub last : State
+  pub happened : Happened tableContract (start store) alone last
+  pub asked : AskedAlone o calls alone
+
+-- Rule D5 for calls that happened: the callers of the accepted pushes got the same answers and finished bytes there. The
+-- sender's message has the same fragments and first time, and no call of its own run was refused.
+pub record GotAlone (o : Origin) (calls : List TableCall) (z : State) {store : List ℕ} (own : OwnRun store calls o) : Type 0 where
+  pub answers : map gotBy (those (isFrom o) (those wasAccepted calls)) ≡ map gotBy (those (isFrom o) (own .alone))
+  pub holds : holding (keyFor o) z ≡ holding (keyFor o) (own .last)
+  pub none-refused : those (λ c. not (wasAccepted c)) (own .alone) ≡ []
+
+-- Rule D5 for calls that happened: the number that the i-th sweep's caller got is the sum of what the same sweep's caller
+-- got in the senders' own runs.
+abbrev pub GotAddsUp : (store : List ℕ) (calls : List TableCall) → ((o : Origin) → OwnRun store calls o) → List Origin → Type 0
+GotAddsUp store calls own senders = (i : ℕ) → getD (numbersGot calls) i 0 ≡ total (λ o. getD (numbersGot (own o .alone)) i 0) senders
 
 -- Rules D3 and D4 together: a fragment table and a station table stand side by side. Events may come anywhere between
 -- pushes and sweeps.
@@ -155,7 +172,8 @@ pub record Claims : Type 0 where
   pub run-made : (store : List ℕ) (calls : List Call) → Made (ends (start store) calls .table)
   -- rule D5
   pub told-alone : (store store′ : List ℕ) → length store′ ≡ length store → (key : ℕ) (calls : List Call) → ToldAlone key store store′ calls
-  pub sweeps-add-up : (store : List ℕ) (calls : List Call) (time : ℕ) (keys : List ℕ) → distinct keys ≡ true → ((key : ℕ) → isIn key keys ≡ false → those (isOwn key) calls ≡ []) → AddsUp store calls time keys
+  pub sweeps-add-up : (store store′ : List ℕ) → length store′ ≡ length store → (calls : List Call) (keys : List ℕ) → distinct keys ≡ true
+      → ((key : ℕ) → isIn key keys ≡ false → those (isOwn key) calls ≡ []) → AddsUp store store′ calls keys
   -- rule D3; two neighbouring pushes under different keys that change places are such an order
   pub order-across-keys : (store store′ : List ℕ) → length store′ ≡ length store → (calls calls′ : List Call) → Reordered calls calls′
       → neverFull (start store) calls ≡ true → neverFull (start store′) calls′ ≡ true → SameStory store store′ calls calls′
@@ -165,9 +183,12 @@ pub record Claims : Type 0 where
   pub order-across-senders : (store : List ℕ) (calls : List TableCall) (z : State) → Happened tableContract (start store) calls z
       → (store′ : List ℕ) (calls′ : List TableCall) (z′ : State) → Happened tableContract (start store′) calls′ z′
       → length store′ ≡ length store → AskedReordered calls calls′ → NoneFull calls → NoneFull calls′ → SameGot calls calls′ z z′
+  pub own-run : (store : List ℕ) (calls : List TableCall) (o : Origin) → OwnRun store calls o
   pub sender-alone : (store : List ℕ) (calls : List TableCall) (z : State) → Happened tableContract (start store) calls z
-      → (store′ : List ℕ) (calls′ : List TableCall) (z′ : State) → Happened tableContract (start store′) calls′ z′
-      → length store′ ≡ length store → (o : Origin) → AskedAlone o calls calls′ → GotAlone o calls calls′ z z′
+      → (store′ : List ℕ) → length store′ ≡ length store → (o : Origin) (own : OwnRun store′ calls o) → GotAlone o calls z own
+  pub numbers-add-up : (store : List ℕ) (calls : List TableCall) (z : State) → Happened tableContract (start store) calls z
+      → (store′ : List ℕ) → length store′ ≡ length store → (own : (o : Origin) → OwnRun store′ calls o) (senders : List Origin) → distinct (map keyFor senders) ≡ true
+      → ((key : ℕ) → isIn key (map keyFor senders) ≡ false → those (isOwn key) (callsOf calls) ≡ []) → GotAddsUp store′ calls own senders
   pub order-together : (store : List ℕ) (calls : List MixedCall) (z : State × Stations) → BothHappened tableContract stationContract (start store, freshStations) calls z
       → (store′ : List ℕ) (calls′ : List MixedCall) (z′ : State × Stations) → BothHappened tableContract stationContract (start store′, freshStations) calls′ z′
       → length store′ ≡ length store → ReorderedTogether calls calls′ → RoomTogether calls → RoomTogether calls′ → SameTogether calls calls′ z z′

@@ -113,15 +113,20 @@ ends = run after
 abbrev pub crossed : State → List Call → List Call
 crossed = remaining after isAccepted
 
--- what is answered to a key's own pushes, to the accepted ones, and to the sweeps
+-- what is answered to a key's own pushes, and to the accepted ones
 abbrev pub repliesTo : ℕ → State → List Call → List Reply
 repliesTo key = gathered after (λ s e. isOwn key e) replyTo
 
 abbrev pub repliesToAccepted : ℕ → State → List Call → List Reply
 repliesToAccepted key = gathered after (λ s e. isOwn key e && isAccepted s e) replyTo
 
-abbrev pub repliesToSweeps : State → List Call → List Reply
-repliesToSweeps = gathered after (λ s e. isSweep e) replyTo
+-- the numbers that the sweeps answer (rule S2), in their order
+abbrev pub numberIn : Reply → ℕ
+numberIn (pushed given bytes) = 0
+numberIn (dropped n) = n
+
+abbrev pub sweepNumbers : State → List Call → List ℕ
+sweepNumbers = gathered after (λ s e. isSweep e) (λ s e. numberIn (replyTo s e))
 
 -- Rule D3: no call of a run is refused by 10.
 abbrev pub neverFull : State → List Call → Bool

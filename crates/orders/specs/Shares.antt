@@ -10,7 +10,7 @@ use Rattle.orders.specs.Runs.{Holding}
 unfoldable pub share : ℕ → Holding → ℕ
 share time v = cond (due time (v .first)) 1 0
 
-unfoldable pub total : (ℕ → ℕ) → List ℕ → ℕ
+unfoldable pub total : {A : Type 0} → (A → ℕ) → List A → ℕ
 total f [] = 0
 total f (k ∷ ks) = total f ks + f k
 

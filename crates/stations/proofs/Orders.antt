@@ -1,7 +1,7 @@
 -- The table is a machine whose events act station by station: so each station's own events say where it is and what
 -- they were answered. Calls that happened are a run of it.
 use mathlib.Core.Path.{_≡_, refl, sym, ap, _∙_, subst}
-use mathlib.Core.Bool.{Bool, true, false, _||_, false≢true, or-false}
+use mathlib.Core.Bool.{Bool, true, false, _||_, or-false}
 use mathlib.Core.List.{List, [], _∷_, _++_, map}
 use Prim.Native.Nat.{ℕ}
 use borrow.Author.Tests.{eqb-true, eqb-false}
@@ -41,7 +41,6 @@ local : ActsByKey table takesEvent Kept
 local = record {
   stays = λ t e k. acts t k e .kept;
   no-effect = λ t e k h. acts t k e .refused h;
-  always = λ t e h. absurd (false≢true h);
   same = λ station t e k h own. subst (λ (s : ℕ). whereOf (tableAfter t e) s ≡ whereAfter e (whereOf t s)) (is-own station e own) (acts t k e .own h);
   other = λ station t e k own. acts t k e .others station (λ q. eqb-false (e .station) station (sym (or-false (isOfStation station e)) ∙ own) (sym q));
   said = λ station t e k h own. subst (λ (s : ℕ). answerTo t e ≡ answerAt false e (whereOf t s)) (eqb-true _ _ own) (acts t k e .said h);
