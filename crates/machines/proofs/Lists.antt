@@ -1,8 +1,8 @@
 -- Laws of the machine's lists: tests made twice, and tests that every call passes.
-use mathlib.Core.Path.{_≡_, refl, sym, ap, _∙_}
+use mathlib.Core.Path.{_≡_, refl, ap, _∙_}
 use mathlib.Core.List.{List, [], _∷_, _++_}
-use mathlib.Core.Bool.{Bool, true, false, cond, _&&_, false≢true, and-assoc}
-use Rattle.machines.specs.Machine.{those, run, remaining, gathered, every}
+use mathlib.Core.Bool.{Bool, true, false, cond, _&&_, false≢true}
+use Rattle.machines.specs.Machine.{those, remaining, gathered, every}
 
 pub left-true : (a b : Bool) → (a && b) ≡ true → a ≡ true
 left-true true b h = refl
@@ -62,19 +62,3 @@ module _ {S E : Type 0} (step : S → E → S) (test : S → E → Bool) where
           → cond (b && test s e) (says s e ∷ gathered step (λ s e. own s e && test s e) says (step s e) es) (gathered step (λ s e. own s e && test s e) says (step s e) es) ≡ cond b (says s e ∷ gathered step own says (step s e) es) (gathered step own says (step s e) es)
       by-own true ih = rw (left-true (test s e) _ h, ih)
       by-own false ih = ih
-
-  -- calls after calls
-  pub every-append : (es fs : List E) (s : S) → every step test s (es ++ fs) ≡ (every step test s es && every step test (run step s es) fs)
-  unfolding every run
-  every-append [] fs s = refl
-  every-append (e ∷ es) fs s = ap (λ (b : Bool). test s e && b) (every-append es fs (step s e)) ∙ sym (and-assoc (test s e) _ _)
-
-  pub gathered-append : {A : Type 0} (says : S → E → A) (es fs : List E) (s : S) → gathered step test says s (es ++ fs) ≡ gathered step test says s es ++ gathered step test says (run step s es) fs
-  unfolding gathered run
-  gathered-append says [] fs s = refl
-  gathered-append {A} says (e ∷ es) fs s = by-test (test s e) (gathered-append says es fs (step s e))
-    where
-      by-test : (b : Bool) → gathered step test says (step s e) (es ++ fs) ≡ gathered step test says (step s e) es ++ gathered step test says (run step (step s e) es) fs
-          → cond b (says s e ∷ gathered step test says (step s e) (es ++ fs)) (gathered step test says (step s e) (es ++ fs)) ≡ cond b (says s e ∷ gathered step test says (step s e) es) (gathered step test says (step s e) es) ++ gathered step test says (run step (step s e) es) fs
-      by-test true h = ap (λ (l : List A). says s e ∷ l) h
-      by-test false h = h

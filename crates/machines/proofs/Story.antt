@@ -4,7 +4,7 @@ use mathlib.Core.Path.{_≡_, refl, sym, ap, _∙_}
 use mathlib.Core.List.{List, [], _∷_}
 use mathlib.Core.Bool.{Bool, true, false, _&&_, false≢true, and-false}
 use Prim.Native.Nat.{ℕ}
-use Rattle.machines.specs.Machine.{those, run, remaining, gathered, every}
+use Rattle.machines.specs.Machine.{those, run, gathered, every}
 use Rattle.machines.specs.Story.{Machine, concernsKey, hers, story, viewAfter, saidAlong, answers, ActsByKey, Echo}
 
 module _ {S E A Vw : Type 0} (m : Machine S E A Vw) (passes : S → E → Bool) (Good : S → Type 0) (L : ActsByKey m passes Good) where

@@ -16,7 +16,8 @@ use Rattle.searching.proofs.Search.{lowest-holds, lowest-before}
 use Rattle.pushing.proofs.Ways.{Went, went, went-refuse, went-duplicate, went-keep, went-open, went-end}
 use Rattle.table.proofs.Sound.{Sound, fresh-sound}
 use Rattle.pushing.proofs.Sound.{sound}
-use Rattle.orders.specs.Runs.{State, Push, Call, push, sweep, pushed, finishedBy, refusedBy, part, wayOf, after, isAccepted, concerns, start, Holding, holding, holdsNothing}
+use Rattle.orders.specs.Runs.{State, Push, Call, push, sweep, pushed, finishedBy, refusedBy, part, wayOf, after, isLeft, concerns, start, Holding, holding, holdsNothing}
+use Rattle.orders.specs.Claims.{CoversRoom}
 use Rattle.table.proofs.Places.{all-same}
 use Rattle.orders.proofs.Rows.{isUsed, codeAt, firstAt}
 use Rattle.orders.proofs.Lookups.{row-none, row-is}
@@ -26,7 +27,7 @@ use Rattle.orders.proofs.Pushing.{Good, Full, no-place, no-row, Turn, a
 use Rattle.searching.specs.Count.{howMany}
 use Rattle.searching.proofs.Count.{count-all, count-less}
 use Rattle.orders.proofs.Found.{owns, count-held}
-use Rattle.orders.proofs.Locality.{has-room, accepted-room, untouched, own-sweep}
+use Rattle.orders.proofs.Locality.{has-room, left-room, untouched, own-sweep}
 use Rattle.machines.specs.Story.{Echo}
 
 -- a push that was kept found a free place
@@ -41,7 +42,7 @@ kept-free t store p (went-end h bytes h₁ h₂ h₃ l q) e = let no : _≡_ {A 
 abbrev pub Lone : ℕ → State → Type 0
 Lone c z = (k : ℕ) → (k ≡ c → ⊥) → holding k z ≡ holdsNothing
 
-module _ (long : ℕ) (c : ℕ) where
+module _ (out : ℕ → Bool) (covers : CoversRoom out) (long : ℕ) (c : ℕ) where
   lone-code : (z : State) → Sound (z .table) → Lone c z → (row : ℕ) → isUsed (z .table) row ≡ true → codeAt (z .table) row ≡ c
   lone-code z s lone row u = by-key (eqb (codeAt (z .table) row) c) refl
     where
@@ -77,26 +78,26 @@ module _ (long : ℕ) (c : ℕ) where
         let at : rowOf (z′ .table) c ≡ 0 = row-is (z′ .table) c s′ 0 used (lone-code z′ s′ lone 0 used) in
         omega arith
 
-  -- a call that was accepted among others is accepted there
-  accepted-by : (z : State) (p : Push) → isAccepted z (push p) ≡ passesBy (λ n. true) (shape (wayOf z p))
-  accepted-by z p = passes-is (λ n. true) (finishedBy (wayOf z p) (p .payload)) (wayOf z p) ∙ ap (λ (a : Answer PushAnswer). not (refusedBy (λ n. true) (pushed a []))) (sym (same-answer (wayOf z p)))
+  -- a call that was left among others is left there
+  left-by : (z : State) (p : Push) → isLeft out z (push p) ≡ passesBy out (shape (wayOf z p))
+  left-by z p = passes-is out (finishedBy (wayOf z p) (p .payload)) (wayOf z p) ∙ ap (λ (a : Answer PushAnswer). not (refusedBy out (pushed a []))) (sym (same-answer (wayOf z p)))
 
-  push-echoed : (z z′ : State) (p : Push) → p .arrival .key ≡ c → Good long z → Good long z′ → Lone c z′ → holding c z ≡ holding c z′ → isAccepted z (push p) ≡ true → isAccepted z′ (push p) ≡ true
+  push-echoed : (z z′ : State) (p : Push) → p .arrival .key ≡ c → Good long z → Good long z′ → Lone c z′ → holding c z ≡ holding c z′ → isLeft out z (push p) ≡ true → isLeft out z′ (push p) ≡ true
   push-echoed z z′ p is g g′ lone same acc = by-turn (turn long z′ p g′)
     where
       told : shape (wayOf z p) ≡ ownWay long (holding (p .arrival .key) z) p
-      told = way-shape long z p g (sym (has-room z p) ∙ accepted-room z (push p) acc)
+      told = way-shape long z p g (sym (has-room z p) ∙ left-room out covers z (push p) acc)
 
       alike : ownWay long (holding (p .arrival .key) z) p ≡ ownWay long (holding (p .arrival .key) z′) p
       alike = ap (λ (v : Holding). ownWay long v p) (subst (λ (k : ℕ). holding k z ≡ holding k z′) (sym is) same)
 
-      by-turn : Turn long z′ p → isAccepted z′ (push p) ≡ true
-      by-turn (as-told e) = accepted-by z′ p ∙ ap (passesBy (λ n. true)) (e ∙ sym alike ∙ sym told) ∙ sym (accepted-by z p) ∙ acc
+      by-turn : Turn long z′ p → isLeft out z′ (push p) ≡ true
+      by-turn (as-told e) = left-by z′ p ∙ ap (passesBy out) (e ∙ sym alike ∙ sym told) ∙ sym (left-by z p) ∙ acc
       by-turn (full e own l f) =
           let free = kept-free (z .table) (part z p) p (went (z .table) (part z p) (p .arrival) (p .payload) (p .room)) (told ∙ alike ∙ own) in
           absurd (never-full z z′ (sound (g .made)) (sound (g′ .made)) lone same free (subst (Full (z′ .table)) is f))
 
-  echoed : (z z′ : State) (e : Call) → Good long z → Good long z′ → Lone c z′ → holding c z ≡ holding c z′ → concerns c e ≡ true → isAccepted z e ≡ true → isAccepted z′ e ≡ true
+  echoed : (z z′ : State) (e : Call) → Good long z → Good long z′ → Lone c z′ → holding c z ≡ holding c z′ → concerns c e ≡ true → isLeft out z e ≡ true → isLeft out z′ e ≡ true
   echoed z z′ (push p) g g′ lone same h acc = push-echoed z z′ p (eqb-true _ _ (sym (or-false (eqb (p .arrival .key) c)) ∙ h)) g g′ lone same acc
   echoed z z′ (sweep time) g g′ lone same h acc = refl
 
@@ -104,7 +105,7 @@ module _ (long : ℕ) (c : ℕ) where
   stays-lone z (push p) g lone h k ne = untouched long z g k p (λ q. ne (q ∙ eqb-true _ _ (sym (or-false (eqb (p .arrival .key) c)) ∙ h))) ∙ lone k ne
   stays-lone z (sweep time) g lone h k ne = own-sweep long z g k time ∙ ap (λ (v : Holding). cond (due time (v .first)) holdsNothing v) (lone k ne)
 
-  pub echo : Echo (acts long) isAccepted (Good long) c (Lone c)
+  pub echo : Echo (acts long) (isLeft out) (Good long) c (Lone c)
   echo = record { stays-lone = stays-lone; echoed = echoed }
 
 -- a fresh table holds nothing

@@ -1,7 +1,7 @@
 -- Over a run: the fragments of a message find room one after the other, wait, and complete with the last.
 use mathlib.Core.Path.{_≡_, refl, sym, ap, _∙_, subst}
 use mathlib.Core.List.{List, [], _∷_}
-use mathlib.Core.Bool.{Bool, true, false, cond, not, _&&_, _||_, false≢true, true≢false, or-assoc, or-true, or-false}
+use mathlib.Core.Bool.{Bool, true, false, cond, not, _||_, false≢true, true≢false, or-assoc, or-true, or-false}
 use Prim.Native.Nat.{ℕ, _+_, _≤_, _<_}
 use native.Mathlib.Omega.{arith}
 use lib.Dec.{eqb, ltb, leb}
@@ -18,7 +18,7 @@ use Rattle.pushing.proofs.Ways.{Went, went, went-refuse, went-duplicate, went-k
 use Rattle.table.proofs.Sound.{Sound}
 use Rattle.pushing.proofs.Sound.{sound}
 use Rattle.machines.specs.Machine.{those, gathered, every}
-use Rattle.orders.specs.Runs.{State, Push, Call, push, sweep, Reply, pushed, finishedBy, part, wayOf, after, replyTo, isAccepted, hasRoom, isOwn, isSweep, concerns, start, Holding, holding, holdsNothing, crossed, refusedBy}
+use Rattle.orders.specs.Runs.{State, Push, Call, push, sweep, Reply, pushed, finishedBy, part, wayOf, after, replyTo, anyNumber, isAccepted, hasRoom, isOwn, concerns, start, Holding, holding, holdsNothing, crossed, refusedBy}
 use Rattle.orders.specs.Shares.{isIn, distinct}
 use Rattle.orders.specs.Messages.{Message, heldAt, whole, Brings, Sent, sending, freeIn, Room, spares, completing}
 use Rattle.orders.specs.Claims.{Completes, CompletesAmong}
@@ -144,7 +144,7 @@ module _ (m : Message) (long : ℕ) (store : 47744 ≤ long) (bring : ℕ → Pu
     all-taken [] done z g d has places seat =
         let p = bring (m .final) in
         let b = brings (m .final) (omega arith) in
-        let roomy : hasRoom z (push p) ≡ true = has-room z p ∙ room-unless long z p g (λ k l f. true≢false (sym (ap (λ (h : Held). h .last) (b .fragment) ∙ eq-eqb (m .final) (m .final) refl) ∙ l)) in
+        let roomy : hasRoom z (push p) ≡ true = has-room z p ∙ room-unless long z p g (λ l f. true≢false (sym (ap (λ (h : Held). h .last) (b .fragment) ∙ eq-eqb (m .final) (m .final) refl) ∙ l)) in
         rw (answered z g p (b .key) roomy _ _ (completes-as m long store p b (holding (m .key) z) (due-last done (holding (m .key) z) d has) room .0))
     all-taken (k ∷ ks) done z g d has places seat =
         let p = bring k in
@@ -152,7 +152,7 @@ module _ (m : Message) (long : ℕ) (store : 47744 ≤ long) (bring : ℕ → Pu
         let b = brings k (omega (arith, here .1)) in
         let new = absent-yet done (holding (m .key) z) k has (here .0) in
         let free = some-free (z .table) (omega arith) in
-        let roomy : hasRoom z (push p) ≡ true = has-room z p ∙ room-unless long z p g (λ w l f. not-full free (seat (omega arith)) (subst (Full (z .table)) (b .key) f)) in
+        let roomy : hasRoom z (push p) ≡ true = has-room z p ∙ room-unless long z p g (λ l f. not-full free (seat (omega arith)) (subst (Full (z .table)) (b .key) f)) in
         let is : ownWay long (holding (m .key) z) p ≡ keepAt 0 = waits m long store k p b (holding (m .key) z) new (λ e. omega (arith, here .1)) in
         let at-key : holding (p .arrival .key) z ≡ holding (m .key) z = ap (λ (c : ℕ). holding c z) (b .key) in
         let way : shape (wayOf z p) ≡ keepAt 0 = way-shape long z p g (sym (has-room z p) ∙ roomy) ∙ ap (λ (v : Holding). ownWay long v p) at-key ∙ is in
@@ -200,10 +200,10 @@ module _ (long key : ℕ) where
   calm [] z g h = (refl, refl)
   calm (e ∷ es) z g h =
       let ih = calm es (after z e) (good-after long z e g) (right-true (spares key z e) _ h) in
-      Y.next (acts long) isAccepted (Good long) (local long) key (Calm (holding key z)) z e es
-      (λ p q. calm-in z e (told (after z e) es) q (left-true (spares key z e) _ h) (subst (λ (v : Holding). Calm v (told (after z e) es)) (local long .same key z e g p q) ih))
-      (λ p q. subst (λ (v : Holding). Calm v (told (after z e) es)) (local long .other key z e g q) ih)
-      (λ p. subst (λ (s : State). Calm (holding key s) (told (after z e) es)) (local long .no-effect z e g p) ih)
+      Y.next (acts long) isAccepted (Good long) (local anyNumber (λ n h. refl) long) key (Calm (holding key z)) z e es
+      (λ p q. calm-in z e (told (after z e) es) q (left-true (spares key z e) _ h) (subst (λ (v : Holding). Calm v (told (after z e) es)) (local anyNumber (λ n h. refl) long .same key z e g p q) ih))
+      (λ p q. subst (λ (v : Holding). Calm v (told (after z e) es)) (local anyNumber (λ n h. refl) long .other key z e g q) ih)
+      (λ p. subst (λ (s : State). Calm (holding key s) (told (after z e) es)) (local anyNumber (λ n h. refl) long .no-effect z e g p) ih)
 
 -- a message completes among any calls, where the accepted ones of its key are its pushes and each sweep spares the key
 module _ (m : Message) (bring : ℕ → Push) (order : List ℕ) (sent : Sent m bring order) (z : State) (made : Made (z .table)) (enough : 47744 ≤ length (z .store)) (absent-key : holding (m .key) z ≡ holdsNothing) where
@@ -222,15 +222,15 @@ module _ (m : Message) (bring : ℕ → Push) (order : List ℕ) (sent : Sent m 
   has-none : Has m none (holding (m .key) z)
   has-none k = ap (λ (v : Holding). v .fragments k) absent-key
 
-  pub completes-among : (run : List Call) → those (isOwn (m .key)) (crossed z run) ≡ sending m bring order → every after (spares (m .key)) z run ≡ true → CompletesAmong m order z run
+  pub completes-among : (run : List Call) → those (isOwn (m .key)) (crossed anyNumber z run) ≡ sending m bring order → every after (spares (m .key)) z run ≡ true → CompletesAmong m order z run
   completes-among run these spared =
       let quiet = calm long (m .key) run z g spared in
       let left : those (isOwn (m .key)) (told long (m .key) z run) ≡ sending m bring order
-      = own-mine (m .key) (crossed z run) ∙ these in
+      = own-mine (m .key) (crossed anyNumber z run) ∙ these in
       let told = as-told m long enough bring (sent .brings) (sent .room) order none (holding (m .key) z) due-all has-none in
       record {
-        answers = Y.gathered-alone (acts long) isAccepted (Good long) (local long) (m .key) run z g ∙ quiet .0 ∙ ap (answers (acts long) (m .key) (holding (m .key) z)) left ∙ told .0;
-        holds = Y.alone (acts long) isAccepted (Good long) (local long) (m .key) run z g ∙ quiet .1 ∙ ap (viewAfter (acts long) (holding (m .key) z)) left ∙ told .1;
+        answers = Y.gathered-alone (acts long) isAccepted (Good long) (local anyNumber (λ n h. refl) long) (m .key) run z g ∙ quiet .0 ∙ ap (answers (acts long) (m .key) (holding (m .key) z)) left ∙ told .0;
+        holds = Y.alone (acts long) isAccepted (Good long) (local anyNumber (λ n h. refl) long) (m .key) run z g ∙ quiet .1 ∙ ap (viewAfter (acts long) (holding (m .key) z)) left ∙ told .1;
       }
 
   -- by itself, where there is room

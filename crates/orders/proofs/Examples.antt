@@ -43,7 +43,7 @@ module _ (store : List ℕ) (long : 47744 ≤ length store) (p : Push) (lent : 4
   g = good-start store
 
   roomy : hasRoom z (push p) ≡ true
-  roomy = has-room z p ∙ room-unless (length store) z p g (λ k l f. fresh-not-full key f)
+  roomy = has-room z p ∙ room-unless (length store) z p g (λ l f. fresh-not-full key f)
 
   fresh-key : holding key z ≡ holdsNothing
   fresh-key = fresh-holds store key

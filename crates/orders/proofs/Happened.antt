@@ -2,7 +2,7 @@
 -- it.
 use mathlib.Core.Path.{_≡_, refl, sym, ap, _∙_, subst}
 use mathlib.Core.List.{List, [], _∷_, _++_, map}
-use mathlib.Core.Bool.{Bool, true, false, cond, _&&_, _||_, false≢true}
+use mathlib.Core.Bool.{Bool, true, false, cond, _&&_, false≢true}
 use Prim.Native.Nat.{ℕ}
 use native.Mathlib.Omega.{arith}
 use lib.Dec.{eqb}
@@ -29,9 +29,9 @@ use Rattle.machines.specs.Both.{lefts, rights, BothHappened}
 use Rattle.machines.proofs.Lists.{left-true, right-true, those-both}
 use Rattle.machines.proofs.Happened as H
 use Rattle.machines.proofs.Both.{of-left, of-right}
-use Rattle.orders.specs.Runs.{State, Push, Call, push, sweep, pushed, dropped, finishedBy, part, wayOf, after, replyTo, isAccepted, hasRoom, isOwn, isSweep, mine, start, holding, ends, crossed, repliesTo, sweepNumbers, numberIn}
+use Rattle.orders.specs.Runs.{State, Push, Call, push, pushed, dropped, finishedBy, part, wayOf, after, replyTo, anyNumber, isAccepted, hasRoom, isOwn, isSweep, mine, start, holding, ends, crossed, repliesTo, sweepNumbers, numberIn}
 use Rattle.orders.specs.Happened.{TableAsked, push-asked, sweep-asked, TableGot, push-got, sweep-got, TableCall, MixedCall, PushMeets, tableMeets, tableContract, callOf, asksCall, callsOf, CallerGot, from-push, from-sweep, gotFrom, gotBy, replyOf, wasAccepted, hadRoom, sameBytes, asksFrom, isFrom, isSweepCall, isAbout, numbersGot}
-use Rattle.orders.specs.Claims.{Reordered, IsRun, AskedReordered, NoneFull, SameGot, AskedAlone, OwnRun, GotAlone, GotAddsUp, ReorderedTogether, RoomTogether, SameTogether}
+use Rattle.orders.specs.Claims.{Reordered, IsRun, AskedReordered, NoneFull, SameGot, OwnRun, GotAlone, GotAddsUp, ReorderedTogether, RoomTogether, SameTogether}
 use Rattle.orders.specs.Shares.{total, isIn, distinct}
 use Rattle.orders.proofs.Locality.{sweeps-mine}
 use Rattle.orders.proofs.Totals.{total-map}
@@ -202,12 +202,12 @@ module _ (store : List ℕ) (cs : List TableCall) (z : State) (h : Happened tabl
 
   -- rule D5
   module _ (store′ : List ℕ) (long : length store′ ≡ length store) where
-    hers : (o : Origin) (own : OwnRun store′ cs o) → mine (keyFor o) (crossed (start store) (callsOf cs)) ≡ callsOf (own .alone)
+    hers : (o : Origin) (own : OwnRun store′ cs o) → mine (keyFor o) (crossed anyNumber (start store) (callsOf cs)) ≡ callsOf (own .alone)
     hers o own = ap (mine (keyFor o)) (H.remains tableContract after replyTo asksCall (λ c. replyOf (gotBy c)) tied isAccepted wasAccepted accepted h) ∙ about o (those wasAccepted cs) ∙ sym (own .asked)
 
     pub sender-alone : (o : Origin) (own : OwnRun store′ cs o) → GotAlone o cs z own
     sender-alone o run =
-        let told = told-alone store store′ long (keyFor o) (callsOf cs) in
+        let told = told-alone anyNumber (λ n h. refl) store store′ long (keyFor o) (callsOf cs) in
         record {
           answers = all-got (those (isFrom o) (those wasAccepted cs)) (those (isFrom o) (run .alone))
               (ap (map (λ c. replyOf (gotBy c))) (those-both (isFrom o) wasAccepted cs)
@@ -222,7 +222,7 @@ module _ (store : List ℕ) (cs : List TableCall) (z : State) (h : Happened tabl
         → GotAddsUp store′ cs own senders
     numbers-add-up own senders once all i =
         ap (λ (l : List ℕ). getD l i 0) (numbers h)
-        ∙ sweeps-add-up store store′ long (callsOf cs) (map keyFor senders) once all i
+        ∙ sweeps-add-up anyNumber (λ n h. refl) store store′ long (callsOf cs) (map keyFor senders) once all i
         ∙ total-map _ keyFor senders
         ∙ (λ j. total (λ o. getD ((ap (sweepNumbers (start store′)) (hers o (own o)) ∙ sym (numbers (own o .happened))) j) i 0) senders)
 

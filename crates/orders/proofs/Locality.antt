@@ -13,7 +13,8 @@ use Rattle.pushing.specs.Made.{byFresh, byPush, bySweep}
 use Rattle.pushing.proofs.Ways.{went}
 use Rattle.table.proofs.Sound.{Sound}
 use Rattle.pushing.proofs.Sound.{sound}
-use Rattle.orders.specs.Runs.{State, Push, Call, push, sweep, Reply, pushed, dropped, finishedBy, part, wayOf, afterWay, after, replyTo, refusedBy, isAccepted, hasRoom, isOwn, isSweep, concerns, mine, start, holding, forRoom}
+use Rattle.orders.specs.Runs.{State, Push, Call, push, sweep, Reply, pushed, dropped, finishedBy, part, wayOf, afterWay, after, replyTo, refusedBy, isLeft, hasRoom, isOwn, isSweep, concerns, mine, start, holding, forRoom}
+use Rattle.orders.specs.Claims.{CoversRoom}
 use Rattle.orders.proofs.Telling.{acts, passes-is, ownWay, byOwn, tell, answer}
 use Rattle.orders.proofs.Pushing.{Good, roomBy, same-answer, same-finished, way-shape}
 use Rattle.orders.proofs.Effects.{stored-long, others-same, own-same}
@@ -74,12 +75,16 @@ module _ (long : ℕ) (z : State) (g : Good long z) where
   pub own-sweep : (c time : ℕ) → holding c (after z (sweep time)) ≡ tell long (holding c z) (sweep time)
   own-sweep c time = sweep-holding z s time c
 
-pub accepted-room : (z : State) (e : Call) → isAccepted z e ≡ true → hasRoom z e ≡ true
-accepted-room z e h = by-reply (replyTo z e) h
+pub left-room : (out : ℕ → Bool) → CoversRoom out → (z : State) (e : Call) → isLeft out z e ≡ true → hasRoom z e ≡ true
+left-room out covers z e h = by-reply (replyTo z e) h
   where
-    by-reply : (r : Reply) → not (refusedBy (λ n. true) r) ≡ true → not (refusedBy forRoom r) ≡ true
+    by-number : (n : ℕ) (b : Bool) → forRoom n ≡ b → not (out n) ≡ true → not b ≡ true
+    by-number n true e h = absurd (false≢true (ap not (sym (covers n e)) ∙ h))
+    by-number n false e h = refl
+
+    by-reply : (r : Reply) → not (refusedBy out r) ≡ true → not (refusedBy forRoom r) ≡ true
     by-reply (pushed (gives a) bytes) h = refl
-    by-reply (pushed (refuses n values) bytes) h = absurd (false≢true h)
+    by-reply (pushed (refuses n values) bytes) h = by-number n (forRoom n) refl h
     by-reply (dropped n) h = refl
 
 -- of the calls that concern a key its own are its own, and the sweeps are all of them
@@ -101,21 +106,21 @@ module _ (c : ℕ) where
   pub sweeps-mine : (calls : List Call) → those isSweep (mine c calls) ≡ those isSweep calls
   sweeps-mine = those-within isSweep (concerns c) sweep-concerns
 
--- so the table is a machine whose accepted calls act key by key
-module _ (long : ℕ) where
-  same : (c : ℕ) (z : State) (e : Call) → Good long z → isAccepted z e ≡ true → concerns c e ≡ true → holding c (after z e) ≡ tell long (holding c z) e
+-- so the table is a machine whose calls act key by key, but those that are refused for room
+module _ (out : ℕ → Bool) (covers : CoversRoom out) (long : ℕ) where
+  same : (c : ℕ) (z : State) (e : Call) → Good long z → isLeft out z e ≡ true → concerns c e ≡ true → holding c (after z e) ≡ tell long (holding c z) e
   same c z (push p) g h k =
       let is : p .arrival .key ≡ c = eqb-true _ _ (sym (or-false (eqb (p .arrival .key) c)) ∙ k) in
-      subst (λ (d : ℕ). holding d (after z (push p)) ≡ tell long (holding d z) (push p)) is (own-push long z g p (accepted-room z (push p) h))
+      subst (λ (d : ℕ). holding d (after z (push p)) ≡ tell long (holding d z) (push p)) is (own-push long z g p (left-room out covers z (push p) h))
   same c z (sweep time) g h k = own-sweep long z g c time
 
   other : (c : ℕ) (z : State) (e : Call) → Good long z → concerns c e ≡ false → holding c (after z e) ≡ holding c z
   other c z (push p) g k = untouched long z g c p (λ q. eqb-false (p .arrival .key) c (sym (or-false (eqb (p .arrival .key) c)) ∙ k) (sym q))
   other c z (sweep time) g k = absurd (true≢false k)
 
-  said : (c : ℕ) (z : State) (e : Call) → Good long z → isAccepted z e ≡ true → isOwn c e ≡ true → replyTo z e ≡ answer long (holding c z) e
-  said c z (push p) g h k = subst (λ (d : ℕ). replyTo z (push p) ≡ answer long (holding d z) (push p)) (eqb-true _ _ k) (own-reply long z g p (accepted-room z (push p) h))
+  said : (c : ℕ) (z : State) (e : Call) → Good long z → isLeft out z e ≡ true → isOwn c e ≡ true → replyTo z e ≡ answer long (holding c z) e
+  said c z (push p) g h k = subst (λ (d : ℕ). replyTo z (push p) ≡ answer long (holding d z) (push p)) (eqb-true _ _ k) (own-reply long z g p (left-room out covers z (push p) h))
   said c z (sweep time) g h k = absurd (false≢true k)
 
-  pub local : ActsByKey (acts long) isAccepted (Good long)
-  local = record { stays = good-after long; no-effect = λ z e g. refused-nothing (λ n. true) z e; same = same; other = other; said = said }
+  pub local : ActsByKey (acts long) (isLeft out) (Good long)
+  local = record { stays = good-after long; no-effect = λ z e g. refused-nothing out z e; same = same; other = other; said = said }

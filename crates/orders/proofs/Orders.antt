@@ -1,27 +1,25 @@
 -- The theorems about runs: one key's story told alone, and from it the order across keys.
 use mathlib.Core.Path.{_≡_, refl, sym, ap, _∙_, subst}
-use mathlib.Core.List.{List, [], _∷_, _++_, append-nil, append-assoc}
-use mathlib.Core.Bool.{Bool, true, false, cond, not, _&&_, _||_, false≢true, true≢false}
+use mathlib.Core.List.{List, [], _∷_, _++_}
+use mathlib.Core.Bool.{Bool, true, false, cond, true≢false}
 use Prim.Native.Nat.{ℕ, suc}
 use lib.Dec.{eqb}
 use lib.ListN.{length, getD}
 use lib.Seq.{ext-getD}
-use borrow.Author.Tests.{eqb-true, eqb-false, eq-eqb, not-false}
-use Rattle.numbers.specs.Numbers.{gives, refuses}
-use Rattle.pushing.specs.Push.{Way, keepAt, answerBy}
+use borrow.Author.Tests.{eqb-true}
 use Rattle.pushing.specs.Made.{Made}
 use Rattle.pushing.specs.Joining.{due}
 use Rattle.pushing.proofs.Sound.{sound}
-use Rattle.machines.specs.Machine.{those, run, gathered, every}
-use Rattle.machines.proofs.Lists.{left-true, right-true, those-append, those-both, those-twice, every-append, gathered-append}
+use Rattle.machines.specs.Machine.{those, gathered}
+use Rattle.machines.proofs.Lists.{those-append, every-remains, every-gathered}
 use Rattle.machines.proofs.Story as Y
 use Rattle.machines.proofs.TwoRuns as R
-use Rattle.orders.specs.Runs.{State, Push, Call, push, sweep, Reply, refusedBy, after, replyTo, isAccepted, hasRoom, isOwn, isSweep, concerns, mine, start, Holding, holding, ends, neverFull, holdsNothing, crossed, repliesTo, sweepNumbers, finishedBy, pushed}
+use Rattle.orders.specs.Runs.{State, Push, Call, push, sweep, after, replyTo, forRoom, isLeft, hasRoom, isOwn, isSweep, concerns, mine, start, Holding, holding, ends, neverFull, holdsNothing, crossed, repliesTo, sweepNumbers}
 use Rattle.orders.specs.Shares.{isIn, distinct}
-use Rattle.orders.specs.Claims.{Local, Alike, ToldAlone, SharesAddUp, Reordered, SameStory}
-use Rattle.orders.proofs.Telling.{acts, ownWay, tell, answer}
-use Rattle.orders.proofs.Pushing.{Good, room-unless}
-use Rattle.orders.proofs.Locality.{refused-nothing, has-room, accepted-room, good-after, good-start, untouched, own-push, own-reply, own-sweep, own-mine, sweeps-mine, local as by-key}
+use Rattle.orders.specs.Claims.{Local, Alike, CoversRoom, ToldAlone, SharesAddUp, Reordered, SameStory}
+use Rattle.orders.proofs.Telling.{acts, tell, answer}
+use Rattle.orders.proofs.Pushing.{Good}
+use Rattle.orders.proofs.Locality.{refused-nothing, good-start, untouched, own-push, own-reply, own-sweep, own-mine, sweeps-mine, local as by-key}
 use Rattle.orders.proofs.Totals.{total-same}
 use Rattle.orders.proofs.Counting.{counts-add-up}
 use Rattle.orders.proofs.Sums.{sweeps-add-up}
@@ -47,10 +45,7 @@ alike z z′ made made′ long key same =
     let g : Good n z = record { made = made; same-long = long } in
     let g′ : Good n z′ = record { made = made′; same-long = refl } in
     record {
-      tells-same = tells-same g g′;
-      refused-same = λ p e h r. tells-same g g′ p e h (has-room z′ p ∙ room-unless n z′ p g′ (λ k l f. true≢false (
-          sym (ap (λ (w : Way). not (refusedBy (λ n. true) (pushed (answerBy w) (finishedBy w (p .payload))))) (ap (λ (v : Holding). ownWay n v p) (at p e) ∙ k))
-          ∙ ap (λ (x : Reply). not (refusedBy (λ n. true) x)) (sym (own-reply n z g p h)) ∙ r)));
+      tells-same = λ p e h h′. own-reply n z g p h ∙ ap (λ (v : Holding). answer n v (push p)) (at p e) ∙ sym (own-reply n z′ g′ p h′);
       push-same = λ p e h h′. subst (λ (k : ℕ). holding k (after z (push p)) ≡ holding k (after z′ (push p))) e (own-push n z g p h ∙ ap (λ (v : Holding). tell n v (push p)) (at p e) ∙ sym (own-push n z′ g′ p h′));
       sweep-same = λ time. own-sweep n z g key time ∙ ap (λ (v : Holding). tell n v (sweep time)) same ∙ sym (own-sweep n z′ g′ key time);
     }
@@ -58,119 +53,24 @@ alike z z′ made made′ long key same =
     at : (p : Push) → p .arrival .key ≡ key → holding (p .arrival .key) z ≡ holding (p .arrival .key) z′
     at p e = subst (λ (k : ℕ). holding k z ≡ holding k z′) (sym e) same
 
-    tells-same : {n : ℕ} → Good n z → Good n z′ → (p : Push) → p .arrival .key ≡ key → hasRoom z (push p) ≡ true → hasRoom z′ (push p) ≡ true → replyTo z (push p) ≡ replyTo z′ (push p)
-    tells-same {n} g g′ p e h h′ = own-reply n z g p h ∙ ap (λ (v : Holding). answer n v (push p)) (at p e) ∙ sym (own-reply n z′ g′ p h′)
-
--- the tables of a run are those that push asks for, and the store stays as long
-module _ (store : List ℕ) (calls : List Call) where
-  run-good : Good (length store) (ends (start store) calls)
-  run-good = Y.good-run (acts (length store)) isAccepted (Good (length store)) (by-key (length store)) calls (start store) (good-start store)
-
-  pub run-made : Made (ends (start store) calls .table)
-  run-made = run-good .made
-
-  run-long : length (ends (start store) calls .store) ≡ length store
-  run-long = run-good .same-long
+-- the tables of a run are those that push asks for
+pub run-made : (store : List ℕ) (calls : List Call) → Made (ends (start store) calls .table)
+run-made store calls = Y.good-run (acts (length store)) hasRoom (Good (length store)) (by-key forRoom (λ n h. h) (length store)) calls (start store) (good-start store) .made
 
 -- rule D5, which asks for no room
-pub told-alone : (store store′ : List ℕ) → length store′ ≡ length store → (key : ℕ) (calls : List Call) → ToldAlone key store store′ calls
-told-alone store store′ long key calls =
+pub told-alone : (out : ℕ → Bool) → CoversRoom out → (store store′ : List ℕ) → length store′ ≡ length store → (key : ℕ) (calls : List Call) → ToldAlone out key store store′ calls
+told-alone out covers store store′ long key calls =
     let n = length store in
+    let acts-so = by-key out covers n in
+    let echoes = echo out covers n key in
     let good′ : Good n (start store′) = record { made = good-start store′ .made; same-long = long } in
     let lone : Lone key (start store′) = λ k ne. fresh-holds store′ k in
     let same = fresh-holds store key ∙ sym (fresh-holds store′ key) in
     record {
-      answers = R.projected-gathered (acts n) isAccepted (Good n) (by-key n) key (Lone key) (echo n key) calls (start store) (start store′) (good-start store) good′ lone same;
-      holds = R.projected-view (acts n) isAccepted (Good n) (by-key n) key (Lone key) (echo n key) calls (start store) (start store′) (good-start store) good′ lone same;
-      none-refused = R.all-pass (acts n) isAccepted (Good n) (by-key n) key (Lone key) (echo n key) calls (start store) (start store′) (good-start store) good′ lone same;
+      answers = R.projected-gathered (acts n) (isLeft out) (Good n) acts-so key (Lone key) echoes calls (start store) (start store′) (good-start store) good′ lone same;
+      holds = R.projected-view (acts n) (isLeft out) (Good n) acts-so key (Lone key) echoes calls (start store) (start store′) (good-start store) good′ lone same;
+      none-refused = R.all-pass (acts n) (isLeft out) (Good n) acts-so key (Lone key) echoes calls (start store) (start store′) (good-start store) good′ lone same;
     }
-
--- refused calls leave no trace
-crossed-ends : (calls : List Call) (z : State) → ends z (crossed z calls) ≡ ends z calls
-unfolding run gathered
-crossed-ends [] z = refl
-crossed-ends (e ∷ calls) z = by-test (isAccepted z e) refl (crossed-ends calls (after z e))
-  where
-    by-test : (b : Bool) → isAccepted z e ≡ b → ends (after z e) (crossed (after z e) calls) ≡ ends (after z e) calls → ends z (cond b (e ∷ crossed (after z e) calls) (crossed (after z e) calls)) ≡ ends (after z e) calls
-    by-test true h ih = ih
-    by-test false h ih = ap (λ (s : State). ends s (crossed (after z e) calls)) (sym (refused-nothing (λ n. true) z e h)) ∙ ih
-
--- Where no push is refused for room a key's story can be told with its refused pushes too: they are refused again, by
--- the same number. What was before a call is told by rule D5, and what the call itself does by the rules of push.
-module _ (store store′ : List ℕ) (long : length store′ ≡ length store) (key : ℕ) where
-  record Whole (z y : State) (calls : List Call) : Type 0 where
-    remains : mine key (crossed z calls) ≡ crossed y (mine key calls)
-    replies : repliesTo key z calls ≡ repliesTo key y (mine key calls)
-
-  whole-push : (z y : State) (p : Push) (b : Bool) → eqb (p .arrival .key) key ≡ b → (b ≡ true → replyTo z (push p) ≡ replyTo y (push p)) → Whole z y (push p ∷ [])
-  unfolding gathered those
-  whole-push z y p false e told = record { remains = rw e (by-accepted (isAccepted z (push p))); replies = rw e }
-    where
-      by-accepted : (a : Bool) → mine key (cond a (push p ∷ []) []) ≡ []
-      by-accepted true = rw e
-      by-accepted false = refl
-  whole-push z y p true e told = record { remains = rw e (by-accepted (isAccepted z (push p)) (ap (λ (r : Reply). not (refusedBy (λ n. true) r)) (told refl))); replies = rw e (rw e (ap (λ (r : Reply). r ∷ []) (told refl))) }
-    where
-      by-accepted : (a : Bool) → a ≡ isAccepted y (push p) → mine key (cond a (push p ∷ []) []) ≡ cond (isAccepted y (push p)) (push p ∷ []) []
-      by-accepted true h = rw (sym h, e)
-      by-accepted false h = rw (sym h)
-
-  module _ (es : List Call) (w : Whole (start store) (start store′) es) where
-    abbrev z : State
-    z = ends (start store) es
-
-    abbrev y : State
-    y = ends (start store′) (mine key es)
-
-    own-ends : ends (start store′) (mine key (crossed (start store) es)) ≡ y
-    own-ends = ap (ends (start store′)) (w .remains) ∙ crossed-ends (mine key es) (start store′)
-
-    accepted-alone : (p : Push) → eqb (p .arrival .key) key ≡ true → isAccepted z (push p) ≡ true → isAccepted y (push p) ≡ true
-    unfolding every gathered those
-    accepted-alone p e acc =
-        let story : mine key (crossed (start store) (es ++ push p ∷ [])) ≡ mine key (crossed (start store) es) ++ push p ∷ []
-        = ap (mine key) (gathered-append after isAccepted (λ s e. e) es (push p ∷ []) (start store)) ∙ those-append (concerns key) (crossed (start store) es) _ ∙ rw (acc, e) in
-        let all : every after isAccepted (start store′) (mine key (crossed (start store) es) ++ push p ∷ []) ≡ true = rw story at (told-alone store store′ long key (es ++ push p ∷ []) .none-refused) in
-        subst (λ (s : State). isAccepted s (push p) ≡ true) own-ends (left-true _ true (right-true (every after isAccepted (start store′) (mine key (crossed (start store) es))) _ (sym (every-append after isAccepted (mine key (crossed (start store) es)) (push p ∷ []) (start store′)) ∙ all)))
-
-    same-reply : (p : Push) → hasRoom z (push p) ≡ true → eqb (p .arrival .key) key ≡ true → replyTo z (push p) ≡ replyTo y (push p)
-    same-reply p room e = by-accepted (isAccepted z (push p)) refl
-      where
-        same : Alike z y key
-        same = alike z y (run-made store es) (run-made store′ (mine key es)) (run-long store es ∙ sym (run-long store′ (mine key es) ∙ long)) key (told-alone store store′ long key es .holds ∙ ap (holding key) own-ends)
-
-        by-accepted : (a : Bool) → isAccepted z (push p) ≡ a → replyTo z (push p) ≡ replyTo y (push p)
-        by-accepted true acc = same .tells-same p (eqb-true _ _ e) room (accepted-room y (push p) (accepted-alone p e acc))
-        by-accepted false acc = same .refused-same p (eqb-true _ _ e) room acc
-
-    whole-call : (e : Call) → hasRoom z e ≡ true → Whole z y (e ∷ [])
-    unfolding gathered those
-    whole-call (push p) room = whole-push z y p (eqb (p .arrival .key) key) refl (same-reply p room)
-    whole-call (sweep time) room = record { remains = refl; replies = refl }
-
-    whole-next : (e : Call) → hasRoom z e ≡ true → Whole (start store) (start store′) (es ++ e ∷ [])
-    whole-next e room = record {
-      remains =
-          ap (mine key) (gathered-append after isAccepted (λ s e. e) es (e ∷ []) (start store)) ∙ those-append (concerns key) (crossed (start store) es) _
-          ∙ (λ i. w .remains i ++ whole-call e room .remains i)
-          ∙ sym (ap (crossed (start store′)) (those-append (concerns key) es (e ∷ [])) ∙ gathered-append after isAccepted (λ s e. e) (mine key es) (mine key (e ∷ [])) (start store′));
-      replies =
-          gathered-append after (λ s e. isOwn key e) replyTo es (e ∷ []) (start store)
-          ∙ (λ i. w .replies i ++ whole-call e room .replies i)
-          ∙ sym (ap (repliesTo key (start store′)) (those-append (concerns key) es (e ∷ [])) ∙ gathered-append after (λ s e. isOwn key e) replyTo (mine key es) (mine key (e ∷ [])) (start store′));
-    }
-
-  whole-from : (es rest : List Call) → neverFull (start store) (es ++ rest) ≡ true → Whole (start store) (start store′) es → Whole (start store) (start store′) (es ++ rest)
-  unfolding every
-  whole-from es [] room w = rw (append-nil es) w
-  whole-from es (e ∷ rest) room w =
-      let here = left-true (hasRoom (ends (start store) es) e) _ (right-true (neverFull (start store) es) _ (sym (every-append after hasRoom es (e ∷ rest) (start store)) ∙ room)) in
-      let split = append-assoc es (e ∷ []) rest in
-      rw split at (whole-from (es ++ e ∷ []) rest (ap (neverFull (start store)) split ∙ room) (whole-next es w e here))
-
-  told-whole : (calls : List Call) → neverFull (start store) calls ≡ true → Whole (start store) (start store′) calls
-  unfolding gathered those
-  told-whole calls room = whole-from [] calls room (record { remains = refl; replies = refl })
 
 -- the keys for which there is a push, each once
 unfoldable keysOf : List Call → List ℕ
@@ -207,21 +107,25 @@ numbers-long [] z = refl
 numbers-long (push p ∷ calls) z = numbers-long calls (after z (push p))
 numbers-long (sweep time ∷ calls) z = ap suc (numbers-long calls (after z (sweep time)))
 
--- rule D3
+-- Rule D3, from rule D5: where no push is refused by 10, crossing these out leaves every call.
 pub order-across-keys : (store store′ : List ℕ) → length store′ ≡ length store → (calls calls′ : List Call) → Reordered calls calls′
     → neverFull (start store) calls ≡ true → neverFull (start store′) calls′ ≡ true → SameStory store store′ calls calls′
 order-across-keys store store′ long calls calls′ same room room′ =
-    let whole : (key : ℕ) → Whole store store′ long key (start store) (start store′) calls = λ key. told-whole store store′ long key calls room in
-    let whole′ : (key : ℕ) → Whole store′ store′ refl key (start store′) (start store′) calls′ = λ key. told-whole store′ store′ refl key calls′ room′ in
-    let stories : (key : ℕ) → mine key (crossed (start store) calls) ≡ mine key (crossed (start store′) calls′) = λ key. whole key .remains ∙ ap (crossed (start store′)) (same key) ∙ sym (whole′ key .remains) in
+    let alone : (key : ℕ) → ToldAlone forRoom key store store′ calls = λ key. told-alone forRoom (λ n h. h) store store′ long key calls in
+    let alone′ : (key : ℕ) → ToldAlone forRoom key store′ store′ calls′ = λ key. told-alone forRoom (λ n h. h) store′ store′ refl key calls′ in
+    let stories : (key : ℕ) → mine key (crossed forRoom (start store) calls) ≡ mine key (crossed forRoom (start store′) calls′)
+    = λ key. ap (mine key) (every-remains after hasRoom calls (start store) room) ∙ same key ∙ sym (ap (mine key) (every-remains after hasRoom calls′ (start store′) room′)) in
     record {
-      pushes = λ key. whole key .replies ∙ ap (repliesTo key (start store′)) (same key) ∙ sym (whole′ key .replies);
+      pushes = λ key.
+          sym (every-gathered after hasRoom (λ s e. isOwn key e) replyTo calls (start store) room)
+          ∙ alone key .answers ∙ ap (repliesTo key (start store′)) (stories key) ∙ sym (alone′ key .answers)
+          ∙ every-gathered after hasRoom (λ s e. isOwn key e) replyTo calls′ (start store′) room′;
       sweeps = ext-getD 0 (sweepNumbers (start store) calls) (sweepNumbers (start store′) calls′)
           (numbers-long calls (start store) ∙ ap length (sym (sweeps-mine 0 calls) ∙ ap (those isSweep) (same 0) ∙ sweeps-mine 0 calls′) ∙ sym (numbers-long calls′ (start store′)))
-          (λ i l. sweeps-add-up store store′ long calls (keysOf calls) (keys-once calls) (λ key. keys-all key calls) i
+          (λ i l. sweeps-add-up forRoom (λ n h. h) store store′ long calls (keysOf calls) (keys-once calls) (λ key. keys-all key calls) i
           ∙ total-same _ _ (keysOf calls) (λ key q. ap (λ (story : List Call). getD (sweepNumbers (start store′) story) i 0) (stories key))
-          ∙ sym (sweeps-add-up store′ store′ refl calls′ (keysOf calls) (keys-once calls) (λ key out. sym (own-mine key calls′) ∙ ap (those (isOwn key)) (sym (same key)) ∙ own-mine key calls ∙ keys-all key calls out) i));
-      holds = λ key. told-alone store store′ long key calls .holds ∙ ap (λ (story : List Call). holding key (ends (start store′) story)) (stories key) ∙ sym (told-alone store′ store′ refl key calls′ .holds);
+          ∙ sym (sweeps-add-up forRoom (λ n h. h) store′ store′ refl calls′ (keysOf calls) (keys-once calls) (λ key out. sym (own-mine key calls′) ∙ ap (those (isOwn key)) (sym (same key)) ∙ own-mine key calls ∙ keys-all key calls out) i));
+      holds = λ key. alone key .holds ∙ ap (λ (story : List Call). holding key (ends (start store′) story)) (stories key) ∙ sym (alone′ key .holds);
     }
 
 -- two pushes under different keys that change places are such an order, and so are all that such changes lead to

@@ -135,12 +135,11 @@ module _ (long : ℕ) (z : State) (p : Push) (g : Good long z) where
 pub own-room : (long : ℕ) (v : Holding) (p : Push) → roomBy (ownWay long v p) ≡ true
 own-room long v p = by-own-way long v p (λ (w : Way). roomBy w ≡ true) (λ x e. rw e) refl (λ h bytes e. refl) (λ e. refl)
 
--- a push has room unless it is to be kept, so not marked last, and the table is full for it: a full table takes a last
--- fragment, single or not
-pub room-unless : (long : ℕ) (z : State) (p : Push) → Good long z → (ownWay long (holding (p .arrival .key) z) p ≡ keepAt 0 → p .arrival .fragment .last ≡ false → Full (z .table) (p .arrival .key) → ⊥)
-    → roomBy (wayOf z p) ≡ true
+-- a push has room unless it is not marked last and the table is full for it: a full table takes a last fragment, single
+-- or not
+pub room-unless : (long : ℕ) (z : State) (p : Push) → Good long z → (p .arrival .fragment .last ≡ false → Full (z .table) (p .arrival .key) → ⊥) → roomBy (wayOf z p) ≡ true
 room-unless long z p g not-full = by-turn (turn long z p g)
   where
     by-turn : Turn long z p → roomBy (wayOf z p) ≡ true
     by-turn (as-told e) = ap (λ (a : Answer PushAnswer). not (refusedBy forRoom (pushed a []))) (sym (same-answer (wayOf z p))) ∙ ap roomBy e ∙ own-room long (holding (p .arrival .key) z) p
-    by-turn (full e own l f) = absurd (not-full own l f)
+    by-turn (full e own l f) = absurd (not-full l f)

@@ -11,9 +11,9 @@ use Rattle.pushing.specs.Joining.{due}
 use Rattle.pushing.proofs.Sound.{sound}
 use Rattle.machines.specs.Machine.{those, gathered}
 use Rattle.machines.proofs.TwoRuns as R
-use Rattle.orders.specs.Runs.{State, Push, Call, push, sweep, after, isAccepted, isOwn, isSweep, mine, start, Holding, holding, holdsNothing, crossed, sweepNumbers}
+use Rattle.orders.specs.Runs.{State, Push, Call, push, sweep, after, isLeft, isOwn, isSweep, mine, start, Holding, holding, holdsNothing, crossed, sweepNumbers}
 use Rattle.orders.specs.Shares.{share, total, isIn, distinct}
-use Rattle.orders.specs.Claims.{AddsUp}
+use Rattle.orders.specs.Claims.{CoversRoom, AddsUp}
 use Rattle.orders.proofs.Telling.{acts}
 use Rattle.orders.proofs.Pushing.{Good}
 use Rattle.orders.proofs.Locality.{good-after, good-start, untouched, own-sweep, local}
@@ -66,21 +66,21 @@ not-hers key k out (push p ∷ calls) = by-key (eqb (p .arrival .key) key) refl 
     by-key false e h = h
 not-hers key k out (sweep time ∷ calls) = not-hers key k out calls
 
-sweep-passes : (s : State) (e : Call) → (isSweep e && isAccepted s e) ≡ isSweep e
-sweep-passes s (push p) = refl
-sweep-passes s (sweep time) = refl
+sweep-passes : (out : ℕ → Bool) (s : State) (e : Call) → (isSweep e && isLeft out s e) ≡ isSweep e
+sweep-passes out s (push p) = refl
+sweep-passes out s (sweep time) = refl
 
-module _ (store store′ : List ℕ) (long : length store′ ≡ length store) where
+module _ (out : ℕ → Bool) (covers : CoversRoom out) (store store′ : List ℕ) (long : length store′ ≡ length store) where
   abbrev n : ℕ
   n = length store
 
   good′ : Good n (start store′)
   good′ = record { made = good-start store′ .made; same-long = long }
 
-  shares-alone : (key : ℕ) (calls : List Call) → shares key (start store) calls ≡ shares key (start store′) (mine key (crossed (start store) calls))
+  shares-alone : (key : ℕ) (calls : List Call) → shares key (start store) calls ≡ shares key (start store′) (mine key (crossed out (start store) calls))
   shares-alone key calls =
-      (λ i. gathered after (λ s e. sym (sweep-passes s e) i) (λ s e. shareAt (holding key s) e) (start store) calls)
-      ∙ R.projected-said (acts n) isAccepted (Good n) (local n) key (Lone key) (echo n key) calls (start store) (start store′) (good-start store) good′ (λ k ne. fresh-holds store′ k) (fresh-holds store key ∙ sym (fresh-holds store′ key))
+      (λ i. gathered after (λ s e. sym (sweep-passes out s e) i) (λ s e. shareAt (holding key s) e) (start store) calls)
+      ∙ R.projected-said (acts n) (isLeft out) (Good n) (local out covers n) key (Lone key) (echo out covers n key) calls (start store) (start store′) (good-start store) good′ (λ k ne. fresh-holds store′ k) (fresh-holds store key ∙ sym (fresh-holds store′ key))
       isSweep (λ s e. shareAt (holding key s) e) shareAt (λ e h. rw (h, or-true (isOwn key e))) (λ s e g p q. refl)
 
   lone-shares : (key : ℕ) (calls : List Call) → sweepNumbers (start store′) (mine key calls) ≡ shares key (start store′) (mine key calls)
@@ -89,8 +89,8 @@ module _ (store store′ : List ℕ) (long : length store′ ≡ length store) w
       numbers-shared n (key ∷ []) refl (mine key calls) (λ k out. not-hers key k out calls) (start store′) good′ (λ k out. fresh-holds store′ k)
       ∙ (λ i. gathered after (λ s e. isSweep e) (λ s e. total-alone (λ k. shareAt (holding k s) e) key i) (start store′) (mine key calls))
 
-  pub sweeps-add-up : (calls : List Call) (keys : List ℕ) → distinct keys ≡ true → ((key : ℕ) → isIn key keys ≡ false → those (isOwn key) calls ≡ []) → AddsUp store store′ calls keys
+  pub sweeps-add-up : (calls : List Call) (keys : List ℕ) → distinct keys ≡ true → ((key : ℕ) → isIn key keys ≡ false → those (isOwn key) calls ≡ []) → AddsUp out store store′ calls keys
   sweeps-add-up calls keys once pushed i =
       ap (λ (l : List ℕ). getD l i 0) (numbers-shared n keys once calls pushed (start store) (good-start store) (λ key out. fresh-holds store key))
       ∙ summed (λ k s e. shareAt (holding k s) e) keys calls (start store) i
-      ∙ total-same _ _ keys (λ key q. ap (λ (l : List ℕ). getD l i 0) (shares-alone key calls ∙ sym (lone-shares key (crossed (start store) calls))))
+      ∙ total-same _ _ keys (λ key q. ap (λ (l : List ℕ). getD l i 0) (shares-alone key calls ∙ sym (lone-shares key (crossed out (start store) calls))))

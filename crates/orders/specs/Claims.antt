@@ -2,7 +2,7 @@
 -- proofs/Claims.antt proves.
 use mathlib.Core.Path.{_≡_}
 use mathlib.Core.List.{List, [], _∷_, _++_, map}
-use mathlib.Core.Bool.{true, false, not, cond}
+use mathlib.Core.Bool.{Bool, true, false, not, cond}
 use Prim.Native.Nat.{ℕ, _≤_, _<_}
 use lib.ListN.{length, getD}
 use Rattle.sweeping.specs.Sweep.{swept}
@@ -22,7 +22,7 @@ use Rattle.stations.specs.Runs.{stationContract, eventsOf, NoneRefused}
 use Rattle.stations.specs.Claims.{EventsReordered, SameStations}
 use Rattle.orders.specs.Shares.{share, total, isIn, distinct}
 use Rattle.orders.specs.Messages.{Message, Room, Sent, sending, spares, completing}
-use Rattle.orders.specs.Runs.{State, Push, Call, push, sweep, pushed, finishedBy, wayOf, isAccepted, isOwn, neverFull, hasRoom, after, replyTo, mine, start, holding, holdsNothing, ends, crossed, repliesTo, repliesToAccepted, sweepNumbers}
+use Rattle.orders.specs.Runs.{State, Push, Call, push, sweep, pushed, finishedBy, wayOf, isLeft, anyNumber, forRoom, isAccepted, isOwn, neverFull, hasRoom, after, replyTo, mine, start, holding, holdsNothing, ends, crossed, repliesTo, repliesToLeft, sweepNumbers}
 use Rattle.orders.specs.Happened.{TableCall, MixedCall, PushMeets, tableContract, callsOf, gotBy, replyOf, wasAccepted, hadRoom, isFrom, isAbout, numbersGot}
 
 -- A push under another key, refused or not, leaves what a key holds. A refused call changes nothing (rule A3).
@@ -31,23 +31,27 @@ pub record Local (z : State) : Type 0 where
   pub refused : (e : Call) → isAccepted z e ≡ false → after z e ≡ z
 
 -- Two tables that hold the same under a key, whatever else they hold, do the same to that key and answer the same. What
--- a push does goes by what its key holds and by the call, unless it is refused by 10 (rules T4 to T9). One that is
--- refused by another number needs no place in the other table either: 11 and 12 go by the lengths that are lent (rule
--- T4), and 13 by what the key holds and by the output's length (rule T9). What a sweep does to a key goes by what the
--- key holds and by the time (rule S1).
+-- a push does goes by what its key holds and by the call, unless it is refused by 10 (rules T4 to T9). What a sweep
+-- does to a key goes by what the key holds and by the time (rule S1).
 pub record Alike (z z′ : State) (key : ℕ) : Type 0 where
   pub tells-same : (p : Push) → p .arrival .key ≡ key → hasRoom z (push p) ≡ true → hasRoom z′ (push p) ≡ true → replyTo z (push p) ≡ replyTo z′ (push p)
-  pub refused-same : (p : Push) → p .arrival .key ≡ key → hasRoom z (push p) ≡ true → isAccepted z (push p) ≡ false → replyTo z (push p) ≡ replyTo z′ (push p)
   pub push-same : (p : Push) → p .arrival .key ≡ key → hasRoom z (push p) ≡ true → hasRoom z′ (push p) ≡ true → holding key (after z (push p)) ≡ holding key (after z′ (push p))
   pub sweep-same : (time : ℕ) → holding key (after z (sweep time)) ≡ holding key (after z′ (sweep time))
 
--- Rule D5: a second table is given, from fresh, one key's accepted pushes and all the sweeps. It answers these pushes
--- as the first one did, with the same bytes, refuses none of them, and ends with the same under the key. What the
--- stores held before makes no difference, so the two may differ.
-pub record ToldAlone (key : ℕ) (store store′ : List ℕ) (calls : List Call) : Type 0 where
-  pub answers : repliesToAccepted key (start store) calls ≡ repliesTo key (start store′) (mine key (crossed (start store) calls))
-  pub holds : holding key (ends (start store) calls) ≡ holding key (ends (start store′) (mine key (crossed (start store) calls)))
-  pub none-refused : every after isAccepted (start store′) (mine key (crossed (start store) calls)) ≡ true
+-- Rule D5: the calls refused by some numbers are crossed out. A second table is given, from fresh, one key's pushes that
+-- are left and all the sweeps. It answers these pushes as the first one did, with the same bytes, refuses none of them
+-- by such a number, and ends with the same under the key. What the stores held before makes no difference, so the two
+-- may differ.
+pub record ToldAlone (out : ℕ → Bool) (key : ℕ) (store store′ : List ℕ) (calls : List Call) : Type 0 where
+  pub answers : repliesToLeft out key (start store) calls ≡ repliesTo key (start store′) (mine key (crossed out (start store) calls))
+  pub holds : holding key (ends (start store) calls) ≡ holding key (ends (start store′) (mine key (crossed out (start store) calls)))
+  pub none-refused : every after (isLeft out) (start store′) (mine key (crossed out (start store) calls)) ≡ true
+
+-- 10 is one of the numbers: it goes by what the other keys hold. The others may be, up to all. A push that they refuse
+-- is refused alike alone: 11 and 12 go by the lengths that are lent (rule T4), and 13 by what the key holds and by the
+-- output's length (rule T9).
+abbrev pub CoversRoom : (ℕ → Bool) → Type 0
+CoversRoom out = (n : ℕ) → forRoom n ≡ true → out n ≡ true
 
 -- Rules S1 and S2: a sweep's number is how many keys were due, over any list that has each key of the table once.
 abbrev pub SharesAddUp : (z : State) (time : ℕ) (keys : List ℕ) → Type 0
@@ -55,8 +59,8 @@ SharesAddUp z time keys = swept (z .table) time .dropped ≡ total (λ key. shar
 
 -- Rule D5: the number of the i-th sweep is the sum of what it counts in the keys' tables of their own, over any list
 -- that has each key once for which there was a push. All sweeps are in each of these runs, so it is the i-th there too.
-abbrev pub AddsUp : (store store′ : List ℕ) (calls : List Call) (keys : List ℕ) → Type 0
-AddsUp store store′ calls keys = (i : ℕ) → getD (sweepNumbers (start store) calls) i 0 ≡ total (λ key. getD (sweepNumbers (start store′) (mine key (crossed (start store) calls))) i 0) keys
+abbrev pub AddsUp : (out : ℕ → Bool) (store store′ : List ℕ) (calls : List Call) (keys : List ℕ) → Type 0
+AddsUp out store store′ calls keys = (i : ℕ) → getD (sweepNumbers (start store) calls) i 0 ≡ total (λ key. getD (sweepNumbers (start store′) (mine key (crossed out (start store) calls))) i 0) keys
 
 -- Rule S3: at least one fragment is held.
 abbrev pub HasOne : Fragments → Type 0
@@ -95,7 +99,7 @@ pub record Completes (m : Message) (bring : ℕ → Push) (order : List ℕ) (z 
 
 -- Rule D6, among other calls.
 pub record CompletesAmong (m : Message) (order : List ℕ) (z : State) (run : List Call) : Type 0 where
-  pub answers : repliesToAccepted (m .key) z run ≡ completing m order
+  pub answers : repliesToLeft anyNumber (m .key) z run ≡ completing m order
   pub holds : holding (m .key) (ends z run) ≡ holdsNothing
 
 -- Calls that happened are a run: the run answers to each what its caller got. The table at their end is the run's, and
@@ -171,9 +175,9 @@ pub record Claims : Type 0 where
   -- rule A1: the tables of a run are ones that push takes
   pub run-made : (store : List ℕ) (calls : List Call) → Made (ends (start store) calls .table)
   -- rule D5
-  pub told-alone : (store store′ : List ℕ) → length store′ ≡ length store → (key : ℕ) (calls : List Call) → ToldAlone key store store′ calls
-  pub sweeps-add-up : (store store′ : List ℕ) → length store′ ≡ length store → (calls : List Call) (keys : List ℕ) → distinct keys ≡ true
-      → ((key : ℕ) → isIn key keys ≡ false → those (isOwn key) calls ≡ []) → AddsUp store store′ calls keys
+  pub told-alone : (out : ℕ → Bool) → CoversRoom out → (store store′ : List ℕ) → length store′ ≡ length store → (key : ℕ) (calls : List Call) → ToldAlone out key store store′ calls
+  pub sweeps-add-up : (out : ℕ → Bool) → CoversRoom out → (store store′ : List ℕ) → length store′ ≡ length store → (calls : List Call) (keys : List ℕ) → distinct keys ≡ true
+      → ((key : ℕ) → isIn key keys ≡ false → those (isOwn key) calls ≡ []) → AddsUp out store store′ calls keys
   -- rule D3; two neighbouring pushes under different keys that change places are such an order
   pub order-across-keys : (store store′ : List ℕ) → length store′ ≡ length store → (calls calls′ : List Call) → Reordered calls calls′
       → neverFull (start store) calls ≡ true → neverFull (start store′) calls′ ≡ true → SameStory store store′ calls calls′
@@ -209,4 +213,4 @@ pub record Claims : Type 0 where
   -- Rule D6: it completes among any calls, if the accepted pushes under its key are these and each sweep spares the
   -- key. A sweep before the first of them or after the last one does, because the key holds nothing then.
   pub completes-among : (m : Message) (bring : ℕ → Push) (order : List ℕ) → Sent m bring order → (z : State) → Made (z .table) → storeSize ≤ length (z .store) → holding (m .key) z ≡ holdsNothing
-      → (run : List Call) → those (isOwn (m .key)) (crossed z run) ≡ sending m bring order → every after (spares (m .key)) z run ≡ true → CompletesAmong m order z run
+      → (run : List Call) → those (isOwn (m .key)) (crossed anyNumber z run) ≡ sending m bring order → every after (spares (m .key)) z run ≡ true → CompletesAmong m order z run

@@ -61,20 +61,27 @@ abbrev pub replyTo : State → Call → Reply
 replyTo s (push p) = pushed (answerBy (wayOf s p)) (finishedBy (wayOf s p) (p .payload))
 replyTo s (sweep time) = dropped (swept (s .table) time .dropped)
 
--- whether a call is refused by some number, or by 10, for want of room in the table (rule T6)
+-- whether a call is refused by one of some numbers
 abbrev pub refusedBy : (ℕ → Bool) → Reply → Bool
 refusedBy test (pushed (gives given) bytes) = false
 refusedBy test (pushed (refuses n values) bytes) = test n
 refusedBy test (dropped n) = false
 
-abbrev pub isAccepted : State → Call → Bool
-isAccepted s e = not (refusedBy (λ n. true) (replyTo s e))
+abbrev pub isLeft : (ℕ → Bool) → State → Call → Bool
+isLeft out s e = not (refusedBy out (replyTo s e))
+
+-- by any number, and by 10, for want of room in the table (rule T6)
+abbrev pub anyNumber : ℕ → Bool
+anyNumber n = true
 
 abbrev pub forRoom : ℕ → Bool
 forRoom n = eqb n 10
 
+abbrev pub isAccepted : State → Call → Bool
+isAccepted = isLeft anyNumber
+
 abbrev pub hasRoom : State → Call → Bool
-hasRoom s e = not (refusedBy forRoom (replyTo s e))
+hasRoom = isLeft forRoom
 
 -- the calls that concern a key: its own pushes, and every sweep
 abbrev pub isOwn : ℕ → Call → Bool
@@ -106,19 +113,19 @@ holding key s = record { first = firstTime (s .table) key; fragments = heldBy (s
 abbrev pub holdsNothing : Holding
 holdsNothing = record { first = never; fragments = λ number. nothing }
 
--- the end of a run, and its accepted calls
+-- the end of a run, and the calls that are left of it when those refused by some numbers are crossed out
 abbrev pub ends : State → List Call → State
 ends = run after
 
-abbrev pub crossed : State → List Call → List Call
-crossed = remaining after isAccepted
+abbrev pub crossed : (ℕ → Bool) → State → List Call → List Call
+crossed out = remaining after (isLeft out)
 
--- what is answered to a key's own pushes, and to the accepted ones
+-- what is answered to a key's own pushes, and to those that are left
 abbrev pub repliesTo : ℕ → State → List Call → List Reply
 repliesTo key = gathered after (λ s e. isOwn key e) replyTo
 
-abbrev pub repliesToAccepted : ℕ → State → List Call → List Reply
-repliesToAccepted key = gathered after (λ s e. isOwn key e && isAccepted s e) replyTo
+abbrev pub repliesToLeft : (ℕ → Bool) → ℕ → State → List Call → List Reply
+repliesToLeft out key = gathered after (λ s e. isOwn key e && isLeft out s e) replyTo
 
 -- the numbers that the sweeps answer (rule S2), in their order
 abbrev pub numberIn : Reply → ℕ
