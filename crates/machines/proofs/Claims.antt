@@ -26,7 +26,6 @@ claims = record {
     remains = H.remains contract step says asks reply tied test passes agree h;
     gathers = H.gathers contract step says asks reply tied test passes agree h;
     all-pass = H.all-pass contract step says asks reply tied test passes agree h;
-    none-fails = λ asked. H.none-fails contract step says asks reply tied test passes agree asked h;
   };
   each-alone = λ contract contract′ z z′ os h. (of-left contract contract′ h, of-right contract contract′ h);
 }

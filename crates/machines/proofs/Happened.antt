@@ -1,7 +1,7 @@
 -- Calls that happened are a run of the machine that their contract is tied to.
 use mathlib.Core.Path.{_≡_, refl, sym, ap, _∙_}
 use mathlib.Core.List.{List, [], _∷_, map}
-use mathlib.Core.Bool.{Bool, true, false, cond, not, _&&_, false≢true}
+use mathlib.Core.Bool.{Bool, true, false, cond, not, false≢true}
 use Prim.Native.Nat.{ℕ}
 use native.Mathlib.Omega.{arith}
 use Rattle.machines.specs.Machine.{those, run, remaining, gathered, every}
@@ -62,20 +62,3 @@ module _ {S C A E R : Type 0} (contract : Outcome S C A → Type 0) (step : S �
         by-call a l t false q n ih = let no : _≡_ {A = ℕ} 0 1 = cc in absurd (omega arith)
         by-call (asks-for e) l t true q n ih = rw (t, q, l .0) (ih n)
         by-call asks-nothing l t true q n ih = absurd (false≢true (sym t ∙ q))
-
-    -- and no call fails where each asks for a step that passes
-    pub none-fails : ((o : Outcome S C A) → contract o → asks (o .asked) ≡ asks-nothing → ⊥) → {s s′ : S} {os : List (Outcome S C A)} → Happened contract s os s′ → every step test s (steps os) ≡ true
-        → those (λ o. not (passes o)) os ≡ []
-    unfolding every those stepsOf
-    none-fails asked no-call n = refl
-    none-fails asked (next-call {o = o} {os = os} k hs) n = by-call (asks (o .asked)) refl (tied o k) (agree o k) n (λ r. none-fails asked hs r)
-      where
-        by-call : (a : Asks E) → asks (o .asked) ≡ a → Leads step says (o .was) a (reply o) (o .became) → TestsStep test (o .was) a (passes o) → every step test (o .was) (andSteps a (steps os)) ≡ true
-            → (every step test (o .became) (steps os) ≡ true → those (λ x. not (passes x)) os ≡ [])
-            → cond (not (passes o)) (o ∷ those (λ x. not (passes x)) os) (those (λ x. not (passes x)) os) ≡ []
-        by-call (asks-for e) q l t n ih = by-test (passes o) (rw (t, l .0) at n)
-          where
-            by-test : (b : Bool) → (b && every step test (o .became) (steps os)) ≡ true → cond (not b) (o ∷ those (λ x. not (passes x)) os) (those (λ x. not (passes x)) os) ≡ []
-            by-test true n = ih n
-            by-test false n = absurd (false≢true n)
-        by-call asks-nothing q l t n ih = absurd (asked o k q)

@@ -1,7 +1,7 @@
 -- Laws of the machine's lists: tests made twice, and tests that every call passes.
 use mathlib.Core.Path.{_≡_, refl, ap, _∙_}
 use mathlib.Core.List.{List, [], _∷_, _++_}
-use mathlib.Core.Bool.{Bool, true, false, cond, _&&_, false≢true}
+use mathlib.Core.Bool.{Bool, true, false, cond, not, _&&_, false≢true}
 use Rattle.machines.specs.Machine.{those, remaining, gathered, every}
 
 pub left-true : (a b : Bool) → (a && b) ≡ true → a ≡ true
@@ -51,6 +51,11 @@ module _ {S E : Type 0} (step : S → E → S) (test : S → E → Bool) where
   unfolding every gathered
   every-remains [] s h = refl
   every-remains (e ∷ es) s h = rw (left-true (test s e) _ h, every-remains es (step s e) (right-true (test s e) _ h))
+
+  pub every-none : {A : Type 0} (says : S → E → A) (es : List E) (s : S) → every step test s es ≡ true → gathered step (λ s e. not (test s e)) says s es ≡ []
+  unfolding every gathered
+  every-none says [] s h = refl
+  every-none says (e ∷ es) s h = rw (left-true (test s e) _ h) (every-none says es (step s e) (right-true (test s e) _ h))
 
   pub every-gathered : {A : Type 0} (own : S → E → Bool) (says : S → E → A) (es : List E) (s : S) → every step test s es ≡ true
       → gathered step (λ s e. own s e && test s e) says s es ≡ gathered step own says s es

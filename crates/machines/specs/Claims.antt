@@ -6,7 +6,7 @@ use mathlib.Core.Bool.{Bool, true, not, _&&_}
 use Prim.Native.Nat.{ℕ}
 use Rattle.machines.specs.Machine.{those, run, remaining, gathered, every}
 use Rattle.machines.specs.Story.{Machine, hers, story, viewAfter, answers, ActsByKey, Echo}
-use Rattle.machines.specs.Happened.{Outcome, Happened, Asks, asks-nothing, stepsOf, Tied, Tests}
+use Rattle.machines.specs.Happened.{Outcome, Happened, Asks, stepsOf, Tied, Tests}
 use Rattle.machines.specs.Both.{Either, lefts, rights, BothHappened}
 
 -- lists of calls
@@ -44,7 +44,6 @@ module _ {S C A E R : Type 0} (contract : Outcome S C A → Type 0) (step : S �
     pub remains : remaining step test s (stepsOf asks os) ≡ stepsOf asks (those passes os)
     pub gathers : gathered step test says s (stepsOf asks os) ≡ map reply (those passes os)
     pub all-pass : those (λ o. not (passes o)) os ≡ [] → every step test s (stepsOf asks os) ≡ true
-    pub none-fails : ((o : Outcome S C A) → contract o → asks (o .asked) ≡ asks-nothing → ⊥) → every step test s (stepsOf asks os) ≡ true → those (λ o. not (passes o)) os ≡ []
 
 pub record Claims : Type 1 where
   pub lists : Lists

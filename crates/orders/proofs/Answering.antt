@@ -18,7 +18,7 @@ use Rattle.pushing.proofs.Ways.{went}
 use Rattle.sweeping.specs.Sweep.{swept}
 use Rattle.machines.specs.Happened.{Happened, no-call, next-call, stepsOf}
 use Rattle.orders.specs.Runs.{State, Push, Call, after, part, wayOf, push, holding, start}
-use Rattle.orders.specs.Happened.{TableAsked, push-asked, sweep-asked, TableGot, push-got, sweep-got, TableCall, PushMeets, tableMeets, tableContract, callOf, callsOf, wasAccepted, isAbout}
+use Rattle.orders.specs.Happened.{TableAsked, push-asked, sweep-asked, TableGot, push-got, sweep-got, TableCall, PushMeets, tableMeets, tableContract, callOf, callsOf, wasLeft, isAbout}
 use Rattle.machines.specs.Machine.{those}
 use Rattle.keys.specs.Keys.{Origin}
 use Rattle.orders.specs.Claims.{OwnRun}
@@ -83,7 +83,7 @@ again long (c ∷ calls) z g =
     let rest = again long calls (after z e) (good-after long z e g) in
     (record { was = z; asked = c .asked; got = m .0; became = after z e } ∷ rest .0, rest .1, next-call (m .1) (rest .2), ap (λ (l : List Call). e ∷ l) (rest .3))
 
-pub own-run : (store : List ℕ) (calls : List TableCall) (o : Origin) → OwnRun store calls o
-own-run store calls o =
-    let run = again (length store) (those (isAbout o) (those wasAccepted calls)) (start store) (good-start store) in
+pub own-run : (out : ℕ → Bool) (store : List ℕ) (calls : List TableCall) (o : Origin) → OwnRun out store calls o
+own-run out store calls o =
+    let run = again (length store) (those (isAbout o) (those (wasLeft out) calls)) (start store) (good-start store) in
     record { alone = run .0; last = run .1; happened = run .2; asked = run .3 }

@@ -2,8 +2,7 @@
 use Rattle.orders.specs.Claims.{Claims}
 use Rattle.orders.proofs.Alone.{fresh-holds}
 use Rattle.orders.proofs.Unfinished.{kept-as-pushed, dropped-unfinished, held-from}
-use Rattle.orders.proofs.Orders.{local, sweep-drops, alike, shares-add-up, run-made, told-alone, order-across-keys, swapped}
-use Rattle.orders.proofs.Sums.{sweeps-add-up}
+use Rattle.orders.proofs.Orders.{local, sweep-drops, alike, shares-add-up, run-made, told-alone, sweeps-add-up, order-across-keys, swapped}
 use Rattle.orders.proofs.Answering.{own-run}
 use Rattle.orders.proofs.Happened.{finished-shown, is-run, order-across-senders, sender-alone, numbers-add-up, order-together, duplicate-untouched}
 use Rattle.orders.proofs.Completes.{completes, fresh-completes, completes-among}

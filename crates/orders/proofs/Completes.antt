@@ -7,34 +7,33 @@ use native.Mathlib.Omega.{arith}
 use lib.Dec.{eqb, ltb, leb}
 use lib.ListN.{length}
 use borrow.Author.Tests.{leb-true, leb-false, eq-eqb, ne-eqb, ltb-true, not-true}
-use Rattle.numbers.specs.Numbers.{gives}
 use Rattle.table.specs.declared.Table.{Table}
 use Rattle.searching.specs.Search.{lowest}
 use Rattle.table.specs.Rows.{places, freshTable, placeAt, isFree, rowOf, spareRow, lowestFree, withKey, withPlace}
 use Rattle.pushing.specs.Joining.{Held, nothing, kept, Since, never, since, due}
-use Rattle.pushing.specs.Push.{PushAnswer, Way, keepAt, placeFor, tableBy, answerBy}
+use Rattle.pushing.specs.Push.{Way, keepAt, placeFor, tableBy, answerBy}
 use Rattle.pushing.specs.Made.{Made, byFresh}
 use Rattle.pushing.proofs.Ways.{Went, went, went-refuse, went-duplicate, went-keep, went-open, went-end}
 use Rattle.table.proofs.Sound.{Sound}
 use Rattle.pushing.proofs.Sound.{sound}
 use Rattle.machines.specs.Machine.{those, gathered, every}
-use Rattle.orders.specs.Runs.{State, Push, Call, push, sweep, Reply, pushed, finishedBy, part, wayOf, after, replyTo, anyNumber, isAccepted, hasRoom, isOwn, concerns, start, Holding, holding, holdsNothing, crossed, refusedBy}
+use Rattle.orders.specs.Runs.{State, Push, Call, push, sweep, Reply, pushed, finishedBy, part, wayOf, after, replyTo, isLeft, anyNumber, forRoom, hasRoom, isOwn, concerns, start, Holding, holding, holdsNothing, ends, crossed, repliesToLeft}
 use Rattle.orders.specs.Shares.{isIn, distinct}
 use Rattle.orders.specs.Messages.{Message, heldAt, whole, Brings, Sent, sending, freeIn, Room, spares, completing}
-use Rattle.orders.specs.Claims.{Completes, CompletesAmong}
+use Rattle.orders.specs.Claims.{CoversRoom, Completes, CompletesAmong}
 use Rattle.searching.proofs.Search.{lowest-before}
 use Rattle.table.proofs.Places.{put-elsewhere}
 use Rattle.machines.proofs.Lists.{left-true, right-true, every-remains, every-gathered}
 use Rattle.orders.proofs.Holdings.{absent}
 use Rattle.orders.proofs.Telling.{acts, shape, ownWay, sinceOr, byOwn, withNew, tell, answer}
 use Rattle.orders.proofs.Pushing.{Good, Full, no-place, no-row, way-shape, room-unless}
-use Rattle.orders.proofs.Locality.{has-room, good-after, own-push, own-reply, own-mine, local}
+use Rattle.orders.proofs.Locality.{has-room, good-after, own-push, own-mine, local}
 use Rattle.orders.proofs.Alone.{fresh-holds}
 use Rattle.searching.specs.Count.{howMany}
 use Rattle.searching.proofs.Count.{count-none, one-fewer}
 use Rattle.orders.proofs.Count.{at-most}
 use Rattle.orders.proofs.Completion.{Has, waits, added, completes-as}
-use Rattle.machines.specs.Story.{story, viewAfter, saidAlong, answers}
+use Rattle.machines.specs.Story.{story, viewAfter, saidAlong, answers, ActsByKey}
 use Rattle.machines.proofs.Story as Y
 
 -- none is free before the lowest
@@ -133,39 +132,34 @@ module _ (m : Message) (long : ℕ) (store : 47744 ≤ long) (bring : ℕ → Pu
       never-since never q = let no : _≡_ {A = ℕ} 0 1 = cc in omega arith
       never-since (since first) q = let no : _≡_ {A = ℕ} 0 1 = cc in omega arith
 
-  -- one that has room is accepted where its key's holding tells an answer
-  answered : (z : State) → Good long z → (p : Push) → p .arrival .key ≡ m .key → hasRoom z (push p) ≡ true → (a : PushAnswer) (bytes : List ℕ) → answer long (holding (m .key) z) (push p) ≡ pushed (gives a) bytes → isAccepted z (push p) ≡ true
-  answered z g p key roomy a bytes is = ap (λ (r : Reply). not (refusedBy (λ n. true) r)) (own-reply long z g p roomy ∙ ap (λ (c : ℕ). answer long (holding c z) (push p)) key ∙ is)
-
-  module _ (room : 1 ≤ m .final → length (whole m) ≤ bring (m .final) .room) where
-    all-taken : (ks : List ℕ) (done : ℕ → Bool) (z : State) → Good long z → Due done ks → Has m done (holding (m .key) z) → length ks ≤ freeIn (z .table)
-        → (1 ≤ length ks → 16 ≤ rowOf (z .table) (m .key) → 16 ≤ spareRow (z .table) → ⊥) → every after isAccepted z (come ks) ≡ true
-    unfolding every
-    all-taken [] done z g d has places seat =
-        let p = bring (m .final) in
-        let b = brings (m .final) (omega arith) in
-        let roomy : hasRoom z (push p) ≡ true = has-room z p ∙ room-unless long z p g (λ l f. true≢false (sym (ap (λ (h : Held). h .last) (b .fragment) ∙ eq-eqb (m .final) (m .final) refl) ∙ l)) in
-        rw (answered z g p (b .key) roomy _ _ (completes-as m long store p b (holding (m .key) z) (due-last done (holding (m .key) z) d has) room .0))
-    all-taken (k ∷ ks) done z g d has places seat =
-        let p = bring k in
-        let here = due-here done k ks d in
-        let b = brings k (omega (arith, here .1)) in
-        let new = absent-yet done (holding (m .key) z) k has (here .0) in
-        let free = some-free (z .table) (omega arith) in
-        let roomy : hasRoom z (push p) ≡ true = has-room z p ∙ room-unless long z p g (λ l f. not-full free (seat (omega arith)) (subst (Full (z .table)) (b .key) f)) in
-        let is : ownWay long (holding (m .key) z) p ≡ keepAt 0 = waits m long store k p b (holding (m .key) z) new (λ e. omega (arith, here .1)) in
-        let at-key : holding (p .arrival .key) z ≡ holding (m .key) z = ap (λ (c : ℕ). holding c z) (b .key) in
-        let way : shape (wayOf z p) ≡ keepAt 0 = way-shape long z p g (sym (has-room z p) ∙ roomy) ∙ ap (λ (v : Holding). ownWay long v p) at-key ∙ is in
-        let next : holding (m .key) (after z (push p)) ≡ withNew (holding (m .key) z) p
-        = ap (λ (c : ℕ). holding c (after z (push p))) (sym (b .key)) ∙ own-push long z g p roomy ∙ ap (λ (v : Holding). tell long v (push p)) at-key ∙ ap (λ (w : Way). byOwn w (holding (m .key) z) p) is in
-        let fewer = kept-fewer (z .table) (sound (g .made)) (part z p) p (went (z .table) (part z p) (p .arrival) (p .payload) (p .room)) way in
-        let has′ : Has m (λ j. done j || eqb k j) (holding (m .key) (after z (push p))) = subst (Has m (λ j. done j || eqb k j)) (sym next) (added m long store k p b (holding (m .key) z) new done has) in
-        let g′ = good-after long z (push p) g in
-        rw (answered z g p (b .key) roomy _ _ (ap (λ (w : Way). pushed (answerBy w) (finishedBy w (p .payload))) is), all-taken ks (λ j. done j || eqb k j) (after z (push p)) g′ (due-next done k ks d) has′ (omega (arith, fewer)) (λ l out spare. held-row (after z (push p)) g′ p (b .key) (holding (m .key) z) next out))
-      where
-        not-full : lowestFree (z .table) < 32 → (16 ≤ rowOf (z .table) (m .key) → 16 ≤ spareRow (z .table) → ⊥) → Full (z .table) (m .key) → ⊥
-        not-full free seated (no-place h) = omega arith
-        not-full free seated (no-row h h′) = seated h h′
+  finds-room : (ks : List ℕ) (done : ℕ → Bool) (z : State) → Good long z → Due done ks → Has m done (holding (m .key) z) → length ks ≤ freeIn (z .table)
+      → (1 ≤ length ks → 16 ≤ rowOf (z .table) (m .key) → 16 ≤ spareRow (z .table) → ⊥) → every after hasRoom z (come ks) ≡ true
+  unfolding every
+  finds-room [] done z g d has places seat =
+      let p = bring (m .final) in
+      let b = brings (m .final) (omega arith) in
+      let roomy : hasRoom z (push p) ≡ true = has-room z p ∙ room-unless long z p g (λ l f. true≢false (sym (ap (λ (h : Held). h .last) (b .fragment) ∙ eq-eqb (m .final) (m .final) refl) ∙ l)) in
+      rw roomy
+  finds-room (k ∷ ks) done z g d has places seat =
+      let p = bring k in
+      let here = due-here done k ks d in
+      let b = brings k (omega (arith, here .1)) in
+      let new = absent-yet done (holding (m .key) z) k has (here .0) in
+      let free = some-free (z .table) (omega arith) in
+      let roomy : hasRoom z (push p) ≡ true = has-room z p ∙ room-unless long z p g (λ l f. not-full free (seat (omega arith)) (subst (Full (z .table)) (b .key) f)) in
+      let is : ownWay long (holding (m .key) z) p ≡ keepAt 0 = waits m long store k p b (holding (m .key) z) new (λ e. omega (arith, here .1)) in
+      let at-key : holding (p .arrival .key) z ≡ holding (m .key) z = ap (λ (c : ℕ). holding c z) (b .key) in
+      let way : shape (wayOf z p) ≡ keepAt 0 = way-shape long z p g (sym (has-room z p) ∙ roomy) ∙ ap (λ (v : Holding). ownWay long v p) at-key ∙ is in
+      let next : holding (m .key) (after z (push p)) ≡ withNew (holding (m .key) z) p
+      = ap (λ (c : ℕ). holding c (after z (push p))) (sym (b .key)) ∙ own-push long z g p roomy ∙ ap (λ (v : Holding). tell long v (push p)) at-key ∙ ap (λ (w : Way). byOwn w (holding (m .key) z) p) is in
+      let fewer = kept-fewer (z .table) (sound (g .made)) (part z p) p (went (z .table) (part z p) (p .arrival) (p .payload) (p .room)) way in
+      let has′ : Has m (λ j. done j || eqb k j) (holding (m .key) (after z (push p))) = subst (Has m (λ j. done j || eqb k j)) (sym next) (added m long store k p b (holding (m .key) z) new done has) in
+      let g′ = good-after long z (push p) g in
+      rw (roomy, finds-room ks (λ j. done j || eqb k j) (after z (push p)) g′ (due-next done k ks d) has′ (omega (arith, fewer)) (λ l out spare. held-row (after z (push p)) g′ p (b .key) (holding (m .key) z) next out))
+    where
+      not-full : lowestFree (z .table) < 32 → (16 ≤ rowOf (z .table) (m .key) → 16 ≤ spareRow (z .table) → ⊥) → Full (z .table) (m .key) → ⊥
+      not-full free seated (no-place h) = omega arith
+      not-full free seated (no-row h h′) = seated h h′
 
   -- all the calls are the key's own pushes
   all-own : (ks : List ℕ) (done : ℕ → Bool) → Due done ks → those (isOwn (m .key)) (come ks) ≡ come ks
@@ -180,7 +174,7 @@ module _ (m : Message) (long : ℕ) (store : 47744 ≤ long) (bring : ℕ → Pu
   all-spare (k ∷ ks) z = all-spare ks (after z (push (bring k)))
 
 -- sweeps that spare a key change nothing of what it sees and is answered
-module _ (long key : ℕ) where
+module _ (out : ℕ → Bool) (covers : CoversRoom out) (long key : ℕ) where
   abbrev Calm : Holding → List Call → Type 0
   Calm v es = (answers (acts long) key v es ≡ answers (acts long) key v (those (isOwn key) es)) × (viewAfter (acts long) v es ≡ viewAfter (acts long) v (those (isOwn key) es))
 
@@ -193,19 +187,22 @@ module _ (long key : ℕ) where
       (rw spared (same .0), rw spared (same .1))
 
   abbrev told : State → List Call → List Call
-  told = story (acts long) isAccepted key
+  told = story (acts long) (isLeft out) key
+
+  L : ActsByKey (acts long) (isLeft out) (Good long)
+  L = local out covers long
 
   calm : (es : List Call) (z : State) → Good long z → every after (spares key) z es ≡ true → Calm (holding key z) (told z es)
   unfolding every those gathered saidAlong viewAfter
   calm [] z g h = (refl, refl)
   calm (e ∷ es) z g h =
       let ih = calm es (after z e) (good-after long z e g) (right-true (spares key z e) _ h) in
-      Y.next (acts long) isAccepted (Good long) (local anyNumber (λ n h. refl) long) key (Calm (holding key z)) z e es
-      (λ p q. calm-in z e (told (after z e) es) q (left-true (spares key z e) _ h) (subst (λ (v : Holding). Calm v (told (after z e) es)) (local anyNumber (λ n h. refl) long .same key z e g p q) ih))
-      (λ p q. subst (λ (v : Holding). Calm v (told (after z e) es)) (local anyNumber (λ n h. refl) long .other key z e g q) ih)
-      (λ p. subst (λ (s : State). Calm (holding key s) (told (after z e) es)) (local anyNumber (λ n h. refl) long .no-effect z e g p) ih)
+      Y.next (acts long) (isLeft out) (Good long) L key (Calm (holding key z)) z e es
+      (λ p q. calm-in z e (told (after z e) es) q (left-true (spares key z e) _ h) (subst (λ (v : Holding). Calm v (told (after z e) es)) (L .same key z e g p q) ih))
+      (λ p q. subst (λ (v : Holding). Calm v (told (after z e) es)) (L .other key z e g q) ih)
+      (λ p. subst (λ (s : State). Calm (holding key s) (told (after z e) es)) (L .no-effect z e g p) ih)
 
--- a message completes among any calls, where the accepted ones of its key are its pushes and each sweep spares the key
+-- a message completes among any calls, where those of its key that are left are its pushes and each sweep spares the key
 module _ (m : Message) (bring : ℕ → Push) (order : List ℕ) (sent : Sent m bring order) (z : State) (made : Made (z .table)) (enough : 47744 ≤ length (z .store)) (absent-key : holding (m .key) z ≡ holdsNothing) where
   abbrev long : ℕ
   long = length (z .store)
@@ -222,25 +219,27 @@ module _ (m : Message) (bring : ℕ → Push) (order : List ℕ) (sent : Sent m 
   has-none : Has m none (holding (m .key) z)
   has-none k = ap (λ (v : Holding). v .fragments k) absent-key
 
+  among : (out : ℕ → Bool) → CoversRoom out → (run : List Call) → those (isOwn (m .key)) (crossed out z run) ≡ sending m bring order
+      → every after (spares (m .key)) z run ≡ true → (repliesToLeft out (m .key) z run ≡ completing m order) × (holding (m .key) (ends z run) ≡ holdsNothing)
+  among out covers run these spared =
+      let quiet = calm out covers long (m .key) run z g spared in
+      let left : those (isOwn (m .key)) (told out covers long (m .key) z run) ≡ sending m bring order = own-mine (m .key) (crossed out z run) ∙ these in
+      let told = as-told m long enough bring (sent .brings) (sent .room) order none (holding (m .key) z) due-all has-none in (
+        Y.gathered-alone (acts long) (isLeft out) (Good long) (local out covers long) (m .key) run z g ∙ quiet .0 ∙ ap (answers (acts long) (m .key) (holding (m .key) z)) left ∙ told .0,
+        Y.alone (acts long) (isLeft out) (Good long) (local out covers long) (m .key) run z g ∙ quiet .1 ∙ ap (viewAfter (acts long) (holding (m .key) z)) left ∙ told .1,
+      )
+
   pub completes-among : (run : List Call) → those (isOwn (m .key)) (crossed anyNumber z run) ≡ sending m bring order → every after (spares (m .key)) z run ≡ true → CompletesAmong m order z run
-  completes-among run these spared =
-      let quiet = calm long (m .key) run z g spared in
-      let left : those (isOwn (m .key)) (told long (m .key) z run) ≡ sending m bring order
-      = own-mine (m .key) (crossed anyNumber z run) ∙ these in
-      let told = as-told m long enough bring (sent .brings) (sent .room) order none (holding (m .key) z) due-all has-none in
-      record {
-        answers = Y.gathered-alone (acts long) isAccepted (Good long) (local anyNumber (λ n h. refl) long) (m .key) run z g ∙ quiet .0 ∙ ap (answers (acts long) (m .key) (holding (m .key) z)) left ∙ told .0;
-        holds = Y.alone (acts long) isAccepted (Good long) (local anyNumber (λ n h. refl) long) (m .key) run z g ∙ quiet .1 ∙ ap (viewAfter (acts long) (holding (m .key) z)) left ∙ told .1;
-      }
+  completes-among run these spared = let x = among anyNumber (λ n h. refl) run these spared in record { answers = x .0; holds = x .1 }
 
   -- by itself, where there is room
   pub completes : Room m (z .table) → Completes m bring order z
   completes has-place =
       let few : length order ≤ m .final = at-most (m .final) order (sent .once) (λ k h. ltb-true k (m .final) (sym (sent .all k) ∙ h)) in
-      let taken = all-taken m long enough bring (sent .brings) (sent .room) order none z g due-all has-none (omega (arith, has-place .free)) (λ l out spare. omega (arith, has-place .row (omega arith))) in
-      let these = ap (those (isOwn (m .key))) (every-remains after isAccepted (sending m bring order) z taken) ∙ all-own m long enough bring (sent .brings) order none due-all in
-      let x = completes-among (sending m bring order) these (all-spare m long enough bring (sent .brings) order z) in
-      record { answers = sym (every-gathered after isAccepted (λ s e. isOwn (m .key) e) replyTo (sending m bring order) z taken) ∙ x .answers; holds = x .holds }
+      let roomy = finds-room m long enough bring (sent .brings) order none z g due-all has-none (omega (arith, has-place .free)) (λ l out spare. omega (arith, has-place .row (omega arith))) in
+      let these = ap (those (isOwn (m .key))) (every-remains after hasRoom (sending m bring order) z roomy) ∙ all-own m long enough bring (sent .brings) order none due-all in
+      let x = among forRoom (λ n h. h) (sending m bring order) these (all-spare m long enough bring (sent .brings) order z) in
+      record { answers = sym (every-gathered after hasRoom (λ s e. isOwn (m .key) e) replyTo (sending m bring order) z roomy) ∙ x .0; holds = x .1 }
 
 -- a fresh table has room for every message
 fresh-room : (m : Message) → Room m freshTable

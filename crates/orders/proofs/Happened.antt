@@ -2,7 +2,7 @@
 -- it.
 use mathlib.Core.Path.{_≡_, refl, sym, ap, _∙_, subst}
 use mathlib.Core.List.{List, [], _∷_, _++_, map}
-use mathlib.Core.Bool.{Bool, true, false, cond, _&&_, false≢true}
+use mathlib.Core.Bool.{Bool, true, false, cond, not, _&&_, false≢true}
 use Prim.Native.Nat.{ℕ}
 use native.Mathlib.Omega.{arith}
 use lib.Dec.{eqb}
@@ -24,19 +24,18 @@ use Rattle.stations.specs.Rows.{Stations, freshStations}
 use Rattle.stations.specs.Runs.{stationContract}
 use Rattle.stations.proofs.Orders.{order-across-stations}
 use Rattle.machines.specs.Machine.{those, gathered, every}
-use Rattle.machines.specs.Happened.{Happened, asks-nothing, Leads, stepsOf, Tied, Tests}
+use Rattle.machines.specs.Happened.{Happened, Leads, stepsOf, Tied, Tests}
 use Rattle.machines.specs.Both.{lefts, rights, BothHappened}
-use Rattle.machines.proofs.Lists.{left-true, right-true, those-both}
+use Rattle.machines.proofs.Lists.{left-true, right-true, those-both, every-none}
 use Rattle.machines.proofs.Happened as H
 use Rattle.machines.proofs.Both.{of-left, of-right}
-use Rattle.orders.specs.Runs.{State, Push, Call, push, pushed, dropped, finishedBy, part, wayOf, after, replyTo, anyNumber, isAccepted, hasRoom, isOwn, isSweep, mine, start, holding, ends, crossed, repliesTo, sweepNumbers, numberIn}
-use Rattle.orders.specs.Happened.{TableAsked, push-asked, sweep-asked, TableGot, push-got, sweep-got, TableCall, MixedCall, PushMeets, tableMeets, tableContract, callOf, asksCall, callsOf, CallerGot, from-push, from-sweep, gotFrom, gotBy, replyOf, wasAccepted, hadRoom, sameBytes, asksFrom, isFrom, isSweepCall, isAbout, numbersGot}
-use Rattle.orders.specs.Claims.{Reordered, IsRun, AskedReordered, NoneFull, SameGot, OwnRun, GotAlone, GotAddsUp, ReorderedTogether, RoomTogether, SameTogether}
+use Rattle.orders.specs.Runs.{State, Push, Call, push, pushed, dropped, finishedBy, part, wayOf, after, replyTo, isLeft, forRoom, hasRoom, isOwn, isSweep, mine, start, holding, ends, crossed, repliesTo, sweepNumbers, numberIn}
+use Rattle.orders.specs.Happened.{TableAsked, push-asked, sweep-asked, TableGot, push-got, sweep-got, TableCall, MixedCall, PushMeets, tableMeets, tableContract, callOf, asksCall, callsOf, CallerGot, from-push, from-sweep, gotFrom, gotBy, replyOf, wasLeft, sameBytes, asksFrom, isFrom, isSweepCall, isAbout, numbersGot}
+use Rattle.orders.specs.Claims.{CoversRoom, Reordered, IsRun, AskedReordered, NoneFull, SameGot, OwnRun, GotAlone, GotAddsUp, ReorderedTogether, RoomTogether, SameTogether}
 use Rattle.orders.specs.Shares.{total, isIn, distinct}
 use Rattle.orders.proofs.Locality.{sweeps-mine}
 use Rattle.orders.proofs.Totals.{total-map}
-use Rattle.orders.proofs.Sums.{sweeps-add-up}
-use Rattle.orders.proofs.Orders.{run-made, told-alone, order-across-keys}
+use Rattle.orders.proofs.Orders.{run-made, told-alone, sweeps-add-up, order-across-keys}
 
 -- no two answers read alike
 one-got : (a b : CallerGot) → replyOf a ≡ replyOf b → a ≡ b
@@ -77,11 +76,8 @@ leads z (sweep-asked time) (push-got answer out′) z′ m = absurd m
 tied : Tied tableContract after replyTo asksCall (λ c. replyOf (gotBy c))
 tied c m = leads (c .was) (c .asked) (c .got) (c .became) m
 
-accepted : Tests tableContract asksCall isAccepted wasAccepted
-accepted c m = rw (tied c m .1)
-
-roomy : Tests tableContract asksCall hasRoom hadRoom
-roomy c m = rw (tied c m .1)
+left : (out : ℕ → Bool) → Tests tableContract asksCall (isLeft out) (wasLeft out)
+left out c m = rw (tied c m .1)
 
 -- by sender and message id, or by key
 same-true : (bs cs : List ℕ) → sameBytes bs cs ≡ true → bs ≡ cs
@@ -176,10 +172,11 @@ module _ {z z′ : State} {cs : List TableCall} (h : Happened tableContract z cs
   numbers = sym (H.gathers tableContract after (λ s e. numberIn (replyTo s e)) asksCall (λ c. numberIn (replyOf (gotBy c))) (λ c m. (tied c m .0, ap numberIn (tied c m .1))) (λ s e. isSweep e) isSweepCall (λ c m. refl) h)
 
   all-room : NoneFull cs → every after hasRoom z (callsOf cs) ≡ true
-  all-room = H.all-pass tableContract after replyTo asksCall (λ c. replyOf (gotBy c)) tied hasRoom hadRoom roomy h
+  all-room = H.all-pass tableContract after replyTo asksCall (λ c. replyOf (gotBy c)) tied hasRoom (wasLeft forRoom) (left forRoom) h
 
-asked : (c : TableCall) → tableContract c → asksCall (c .asked) ≡ asks-nothing → ⊥
-asked c m e = let no : _≡_ {A = ℕ} 0 1 = cc in omega arith
+none-mapped : {A B : Type 0} (f : A → B) (xs : List A) → map f xs ≡ [] → xs ≡ []
+none-mapped f [] h = refl
+none-mapped f (x ∷ xs) h = let no : _≡_ {A = ℕ} 0 1 = cc in absurd (omega arith)
 
 all-those : (cs : List TableCall) → those (λ c. true) cs ≡ cs
 unfolding those
@@ -201,30 +198,31 @@ module _ (store : List ℕ) (cs : List TableCall) (z : State) (h : Happened tabl
       }
 
   -- rule D5
-  module _ (store′ : List ℕ) (long : length store′ ≡ length store) where
-    hers : (o : Origin) (own : OwnRun store′ cs o) → mine (keyFor o) (crossed anyNumber (start store) (callsOf cs)) ≡ callsOf (own .alone)
-    hers o own = ap (mine (keyFor o)) (H.remains tableContract after replyTo asksCall (λ c. replyOf (gotBy c)) tied isAccepted wasAccepted accepted h) ∙ about o (those wasAccepted cs) ∙ sym (own .asked)
+  module _ (out : ℕ → Bool) (covers : CoversRoom out) (store′ : List ℕ) (long : length store′ ≡ length store) where
+    hers : (o : Origin) (run : OwnRun out store′ cs o) → mine (keyFor o) (crossed out (start store) (callsOf cs)) ≡ callsOf (run .alone)
+    hers o run = ap (mine (keyFor o)) (H.remains tableContract after replyTo asksCall (λ c. replyOf (gotBy c)) tied (isLeft out) (wasLeft out) (left out) h) ∙ about o (those (wasLeft out) cs) ∙ sym (run .asked)
 
-    pub sender-alone : (o : Origin) (own : OwnRun store′ cs o) → GotAlone o cs z own
+    pub sender-alone : (o : Origin) (run : OwnRun out store′ cs o) → GotAlone out o cs z run
     sender-alone o run =
-        let told = told-alone anyNumber (λ n h. refl) store store′ long (keyFor o) (callsOf cs) in
+        let told = told-alone out covers store store′ long (keyFor o) (callsOf cs) in
         record {
-          answers = all-got (those (isFrom o) (those wasAccepted cs)) (those (isFrom o) (run .alone))
-              (ap (map (λ c. replyOf (gotBy c))) (those-both (isFrom o) wasAccepted cs)
-              ∙ sym (gathers h (λ s e. isOwn (keyFor o) e && isAccepted s e) (λ c. isFrom o c && wasAccepted c) (λ c m. rw (own-from o c, accepted c m)))
+          answers = all-got (those (isFrom o) (those (wasLeft out) cs)) (those (isFrom o) (run .alone))
+              (ap (map (λ c. replyOf (gotBy c))) (those-both (isFrom o) (wasLeft out) cs)
+              ∙ sym (gathers h (λ s e. isOwn (keyFor o) e && isLeft out s e) (λ c. isFrom o c && wasLeft out c) (λ c m. rw (own-from o c, left out c m)))
               ∙ told .answers ∙ ap (repliesTo (keyFor o) (start store′)) (hers o run) ∙ own (run .happened) o);
           holds = ap (holding (keyFor o)) (sym (ends-at h)) ∙ told .holds ∙ ap (λ (calls : List Call). holding (keyFor o) (ends (start store′) calls)) (hers o run) ∙ ap (holding (keyFor o)) (ends-at (run .happened));
-          none-refused = H.none-fails tableContract after replyTo asksCall (λ c. replyOf (gotBy c)) tied isAccepted wasAccepted accepted asked (run .happened)
-              (subst (λ (calls : List Call). every after isAccepted (start store′) calls ≡ true) (hers o run) (told .none-refused));
+          none-refused = none-mapped (λ c. replyOf (gotBy c)) _ (
+              sym (gathers (run .happened) (λ s e. not (isLeft out s e)) (λ c. not (wasLeft out c)) (λ c m. ap not (left out c m)))
+              ∙ every-none after (isLeft out) replyTo (callsOf (run .alone)) (start store′) (rw (hers o run) at (told .none-refused)));
         }
 
-    pub numbers-add-up : (own : (o : Origin) → OwnRun store′ cs o) (senders : List Origin) → distinct (map keyFor senders) ≡ true → ((key : ℕ) → isIn key (map keyFor senders) ≡ false → those (isOwn key) (callsOf cs) ≡ [])
-        → GotAddsUp store′ cs own senders
-    numbers-add-up own senders once all i =
+    pub numbers-add-up : (runs : (o : Origin) → OwnRun out store′ cs o) (senders : List Origin) → distinct (map keyFor senders) ≡ true → ((key : ℕ) → isIn key (map keyFor senders) ≡ false → those (isOwn key) (callsOf cs) ≡ [])
+        → GotAddsUp cs runs senders
+    numbers-add-up runs senders once all i =
         ap (λ (l : List ℕ). getD l i 0) (numbers h)
-        ∙ sweeps-add-up anyNumber (λ n h. refl) store store′ long (callsOf cs) (map keyFor senders) once all i
+        ∙ sweeps-add-up out covers store store′ long (callsOf cs) (map keyFor senders) once all i
         ∙ total-map _ keyFor senders
-        ∙ (λ j. total (λ o. getD ((ap (sweepNumbers (start store′)) (hers o (own o)) ∙ sym (numbers (own o .happened))) j) i 0) senders)
+        ∙ (λ j. total (λ o. getD ((ap (sweepNumbers (start store′)) (hers o (runs o)) ∙ sym (numbers (runs o .happened))) j) i 0) senders)
 
 -- with a station table beside it
 module _ (store : List ℕ) (cs : List MixedCall) (z : State × Stations) (h : BothHappened tableContract stationContract (start store, freshStations) cs z)

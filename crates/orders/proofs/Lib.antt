@@ -11,7 +11,6 @@ pub mod Totals
 pub mod Counting
 pub mod Locality
 pub mod Alone
-pub mod Sums
 pub mod Orders
 pub mod Unfinished
 pub mod Joined

@@ -1,12 +1,13 @@
--- The theorems about runs: one key's story told alone, and from it the order across keys.
+-- The theorems about runs: one key's story told alone, the sums of a sweep, and from these the order across keys.
 use mathlib.Core.Path.{_≡_, refl, sym, ap, _∙_, subst}
 use mathlib.Core.List.{List, [], _∷_, _++_}
-use mathlib.Core.Bool.{Bool, true, false, cond, true≢false}
-use Prim.Native.Nat.{ℕ, suc}
+use mathlib.Core.Bool.{Bool, true, false, cond, _&&_, _||_, or-true, or-false, true≢false}
+use Prim.Native.Nat.{ℕ, zero, suc}
+use native.Mathlib.Omega.{arith}
 use lib.Dec.{eqb}
 use lib.ListN.{length, getD}
 use lib.Seq.{ext-getD}
-use borrow.Author.Tests.{eqb-true}
+use borrow.Author.Tests.{eqb-true, eqb-false, ne-eqb}
 use Rattle.pushing.specs.Made.{Made}
 use Rattle.pushing.specs.Joining.{due}
 use Rattle.pushing.proofs.Sound.{sound}
@@ -14,15 +15,14 @@ use Rattle.machines.specs.Machine.{those, gathered}
 use Rattle.machines.proofs.Lists.{those-append, every-remains, every-gathered}
 use Rattle.machines.proofs.Story as Y
 use Rattle.machines.proofs.TwoRuns as R
-use Rattle.orders.specs.Runs.{State, Push, Call, push, sweep, after, replyTo, forRoom, isLeft, hasRoom, isOwn, isSweep, concerns, mine, start, Holding, holding, ends, neverFull, holdsNothing, crossed, repliesTo, sweepNumbers}
-use Rattle.orders.specs.Shares.{isIn, distinct}
-use Rattle.orders.specs.Claims.{Local, Alike, CoversRoom, ToldAlone, SharesAddUp, Reordered, SameStory}
+use Rattle.orders.specs.Runs.{State, Push, Call, push, sweep, after, replyTo, isLeft, forRoom, hasRoom, isOwn, isSweep, concerns, mine, start, Holding, holding, ends, neverFull, holdsNothing, crossed, repliesTo, sweepNumbers}
+use Rattle.orders.specs.Shares.{share, total, isIn, distinct}
+use Rattle.orders.specs.Claims.{Local, Alike, CoversRoom, ToldAlone, SharesAddUp, AddsUp, Reordered, SameStory}
 use Rattle.orders.proofs.Telling.{acts, tell, answer}
 use Rattle.orders.proofs.Pushing.{Good}
-use Rattle.orders.proofs.Locality.{refused-nothing, good-start, untouched, own-push, own-reply, own-sweep, own-mine, sweeps-mine, local as by-key}
-use Rattle.orders.proofs.Totals.{total-same}
+use Rattle.orders.proofs.Locality.{refused-nothing, good-after, good-start, untouched, own-push, own-reply, own-sweep, own-mine, sweeps-mine, local as by-key}
+use Rattle.orders.proofs.Totals.{total-same, total-none, total-alone}
 use Rattle.orders.proofs.Counting.{counts-add-up}
-use Rattle.orders.proofs.Sums.{sweeps-add-up}
 use Rattle.orders.proofs.Alone.{Lone, echo, fresh-holds}
 
 -- what a sweep counts, at every table that the calls made
@@ -57,49 +57,111 @@ alike z z′ made made′ long key same =
 pub run-made : (store : List ℕ) (calls : List Call) → Made (ends (start store) calls .table)
 run-made store calls = Y.good-run (acts (length store)) hasRoom (Good (length store)) (by-key forRoom (λ n h. h) (length store)) calls (start store) (good-start store) .made
 
+-- a key's share in each sweep's number
+abbrev shareAt : Holding → Call → ℕ
+shareAt v (push p) = 0
+shareAt v (sweep time) = share time v
+
+abbrev shares : ℕ → State → List Call → List ℕ
+shares key = gathered after (λ s e. isSweep e) (λ s e. shareAt (holding key s) e)
+
+-- where no other key has a push, the numbers are the sums of some keys' shares
+module _ (n : ℕ) (ks : List ℕ) (once : distinct ks ≡ true) where
+  no-other : (key : ℕ) (p : Push) (calls : List Call) (b : Bool) → eqb (p .arrival .key) key ≡ b → cond b (push p ∷ those (isOwn key) calls) (those (isOwn key) calls) ≡ [] → (key ≡ p .arrival .key → ⊥) × (those (isOwn key) calls ≡ [])
+  no-other key p calls true e h = let no : _≡_ {A = ℕ} 0 1 = cc in absurd (omega arith)
+  no-other key p calls false e h = ((λ q. eqb-false _ _ e (sym q)), h)
+
+  numbers-shared : (calls : List Call) → ((key : ℕ) → isIn key ks ≡ false → those (isOwn key) calls ≡ []) → (z : State) → Good n z → ((key : ℕ) → isIn key ks ≡ false → holding key z ≡ holdsNothing)
+      → sweepNumbers z calls ≡ gathered after (λ s e. isSweep e) (λ s e. total (λ k. shareAt (holding k s) e) ks) z calls
+  unfolding gathered those
+  numbers-shared [] none z g out = refl
+  numbers-shared (push p ∷ calls) none z g out =
+      numbers-shared calls (λ key o. no-other key p calls (eqb (p .arrival .key) key) refl (none key o) .1) (after z (push p)) (good-after n z (push p) g)
+      (λ key o. untouched n z g key p (no-other key p calls (eqb (p .arrival .key) key) refl (none key o) .0) ∙ out key o)
+  numbers-shared (sweep time ∷ calls) none z g out =
+      rw (counts-add-up z (sound (g .made)) time ks once out)
+      (ap (λ (l : List ℕ). total (λ k. share time (holding k z)) ks ∷ l)
+      (numbers-shared calls none (after z (sweep time)) (good-after n z (sweep time) g) (λ key o. own-sweep n z g key time ∙ ap (λ (v : Holding). cond (due time (v .first)) holdsNothing v) (out key o))))
+
+-- lists are summed place by place
+summed : (f : ℕ → State → Call → ℕ) (ks : List ℕ) (calls : List Call) (z : State) (i : ℕ) → getD (gathered after (λ s e. isSweep e) (λ s e. total (λ k. f k s e) ks) z calls) i 0 ≡ total (λ k. getD (gathered after (λ s e. isSweep e) (f k) z calls) i 0) ks
+unfolding gathered
+summed f ks [] z i = sym (total-none (λ k. 0) ks (λ k. refl))
+summed f ks (push p ∷ calls) z i = summed f ks calls (after z (push p)) i
+summed f ks (sweep time ∷ calls) z zero = refl
+summed f ks (sweep time ∷ calls) z (suc i) = summed f ks calls (after z (sweep time)) i
+
+-- each key's own story is about no other
+not-hers : (key k : ℕ) → isIn k (key ∷ []) ≡ false → (calls : List Call) → those (isOwn k) (mine key calls) ≡ []
+unfolding those isIn
+not-hers key k out [] = refl
+not-hers key k out (push p ∷ calls) = by-key (eqb (p .arrival .key) key) refl (not-hers key k out calls)
+  where
+    by-key : (b : Bool) → eqb (p .arrival .key) key ≡ b → those (isOwn k) (mine key calls) ≡ [] → those (isOwn k) (cond (b || false) (push p ∷ mine key calls) (mine key calls)) ≡ []
+    by-key true e h = rw (eqb-true (p .arrival .key) key e, sym (or-false (eqb key k)) ∙ out, h)
+    by-key false e h = h
+not-hers key k out (sweep time ∷ calls) = not-hers key k out calls
+
+sweep-passes : (out : ℕ → Bool) (s : State) (e : Call) → (isSweep e && isLeft out s e) ≡ isSweep e
+sweep-passes out s (push p) = refl
+sweep-passes out s (sweep time) = refl
+
 -- rule D5, which asks for no room
-pub told-alone : (out : ℕ → Bool) → CoversRoom out → (store store′ : List ℕ) → length store′ ≡ length store → (key : ℕ) (calls : List Call) → ToldAlone out key store store′ calls
-told-alone out covers store store′ long key calls =
-    let n = length store in
-    let acts-so = by-key out covers n in
-    let echoes = echo out covers n key in
-    let good′ : Good n (start store′) = record { made = good-start store′ .made; same-long = long } in
-    let lone : Lone key (start store′) = λ k ne. fresh-holds store′ k in
-    let same = fresh-holds store key ∙ sym (fresh-holds store′ key) in
-    record {
-      answers = R.projected-gathered (acts n) (isLeft out) (Good n) acts-so key (Lone key) echoes calls (start store) (start store′) (good-start store) good′ lone same;
-      holds = R.projected-view (acts n) (isLeft out) (Good n) acts-so key (Lone key) echoes calls (start store) (start store′) (good-start store) good′ lone same;
-      none-refused = R.all-pass (acts n) (isLeft out) (Good n) acts-so key (Lone key) echoes calls (start store) (start store′) (good-start store) good′ lone same;
-    }
+module _ (out : ℕ → Bool) (covers : CoversRoom out) (store store′ : List ℕ) (long : length store′ ≡ length store) where
+  abbrev n : ℕ
+  n = length store
 
--- the keys for which there is a push, each once
-unfoldable keysOf : List Call → List ℕ
-keysOf [] = []
-keysOf (push p ∷ calls) = cond (isIn (p .arrival .key) (keysOf calls)) (keysOf calls) (p .arrival .key ∷ keysOf calls)
-keysOf (sweep time ∷ calls) = keysOf calls
+  good′ : Good n (start store′)
+  good′ = record { made = good-start store′ .made; same-long = long }
 
-keys-once : (calls : List Call) → distinct (keysOf calls) ≡ true
-unfolding keysOf distinct
-keys-once [] = refl
-keys-once (push p ∷ calls) = by-in (isIn (p .arrival .key) (keysOf calls)) refl (keys-once calls)
+  lone : (key : ℕ) → Lone key (start store′)
+  lone key k ne = fresh-holds store′ k
+
+  fresh-same : (key : ℕ) → holding key (start store) ≡ holding key (start store′)
+  fresh-same key = fresh-holds store key ∙ sym (fresh-holds store′ key)
+
+  pub told-alone : (key : ℕ) (calls : List Call) → ToldAlone out key store store′ calls
+  told-alone key calls = record {
+    answers = R.projected-gathered (acts n) (isLeft out) (Good n) (by-key out covers n) key (Lone key) (echo out covers n key) calls (start store) (start store′) (good-start store) good′ (lone key) (fresh-same key);
+    holds = R.projected-view (acts n) (isLeft out) (Good n) (by-key out covers n) key (Lone key) (echo out covers n key) calls (start store) (start store′) (good-start store) good′ (lone key) (fresh-same key);
+    none-refused = R.all-pass (acts n) (isLeft out) (Good n) (by-key out covers n) key (Lone key) (echo out covers n key) calls (start store) (start store′) (good-start store) good′ (lone key) (fresh-same key);
+  }
+
+  shares-alone : (key : ℕ) (calls : List Call) → shares key (start store) calls ≡ shares key (start store′) (mine key (crossed out (start store) calls))
+  shares-alone key calls =
+      (λ i. gathered after (λ s e. sym (sweep-passes out s e) i) (λ s e. shareAt (holding key s) e) (start store) calls)
+      ∙ R.projected-said (acts n) (isLeft out) (Good n) (by-key out covers n) key (Lone key) (echo out covers n key) calls (start store) (start store′) (good-start store) good′ (lone key) (fresh-same key)
+      isSweep (λ s e. shareAt (holding key s) e) shareAt (λ e h. rw (h, or-true (isOwn key e))) (λ s e g p q. refl)
+
+  lone-shares : (key : ℕ) (calls : List Call) → sweepNumbers (start store′) (mine key calls) ≡ shares key (start store′) (mine key calls)
+  unfolding isIn distinct
+  lone-shares key calls =
+      numbers-shared n (key ∷ []) refl (mine key calls) (λ k out. not-hers key k out calls) (start store′) good′ (λ k out. fresh-holds store′ k)
+      ∙ (λ i. gathered after (λ s e. isSweep e) (λ s e. total-alone (λ k. shareAt (holding k s) e) key i) (start store′) (mine key calls))
+
+  pub sweeps-add-up : (calls : List Call) (keys : List ℕ) → distinct keys ≡ true → ((key : ℕ) → isIn key keys ≡ false → those (isOwn key) calls ≡ []) → AddsUp out store store′ calls keys
+  sweeps-add-up calls keys once pushed i =
+      ap (λ (l : List ℕ). getD l i 0) (numbers-shared n keys once calls pushed (start store) (good-start store) (λ key out. fresh-holds store key))
+      ∙ summed (λ k s e. shareAt (holding k s) e) keys calls (start store) i
+      ∙ total-same _ _ keys (λ key q. ap (λ (l : List ℕ). getD l i 0) (shares-alone key calls ∙ sym (lone-shares key (crossed out (start store) calls))))
+
+-- keys that have every push, each once
+abbrev AllKeys : List Call → Type 0
+AllKeys calls = (keys : List ℕ) × (distinct keys ≡ true) × ((key : ℕ) → isIn key keys ≡ false → those (isOwn key) calls ≡ [])
+
+all-keys : (calls : List Call) → AllKeys calls
+unfolding isIn distinct those
+all-keys [] = ([], refl, λ key out. refl)
+all-keys (sweep time ∷ calls) = all-keys calls
+all-keys (push p ∷ calls) = by-in (all-keys calls .0) (all-keys calls .1) (all-keys calls .2) (isIn (p .arrival .key) (all-keys calls .0)) refl
   where
-    by-in : (b : Bool) → isIn (p .arrival .key) (keysOf calls) ≡ b → distinct (keysOf calls) ≡ true → distinct (cond b (keysOf calls) (p .arrival .key ∷ keysOf calls)) ≡ true
-    by-in true e h = h
-    by-in false e h = rw (e, h)
-keys-once (sweep time ∷ calls) = keys-once calls
-
-keys-all : (key : ℕ) (calls : List Call) → isIn key (keysOf calls) ≡ false → those (isOwn key) calls ≡ []
-unfolding keysOf isIn those
-keys-all key [] out = refl
-keys-all key (push p ∷ calls) out = by-in (isIn (p .arrival .key) (keysOf calls)) refl (eqb (p .arrival .key) key) refl out (keys-all key calls)
-  where
-    by-in : (b : Bool) → isIn (p .arrival .key) (keysOf calls) ≡ b → (c : Bool) → eqb (p .arrival .key) key ≡ c → isIn key (cond b (keysOf calls) (p .arrival .key ∷ keysOf calls)) ≡ false
-        → (isIn key (keysOf calls) ≡ false → those (isOwn key) calls ≡ []) → cond c (push p ∷ those (isOwn key) calls) (those (isOwn key) calls) ≡ []
-    by-in true e true f out ih = absurd (true≢false (sym e ∙ ap (λ (k : ℕ). isIn k (keysOf calls)) (eqb-true _ _ f) ∙ out))
-    by-in true e false f out ih = ih out
-    by-in false e true f out ih = absurd (true≢false (rw f at out))
-    by-in false e false f out ih = ih (rw f at out)
-keys-all key (sweep time ∷ calls) out = keys-all key calls out
+    by-in : (keys : List ℕ) → distinct keys ≡ true → ((key : ℕ) → isIn key keys ≡ false → those (isOwn key) calls ≡ []) → (b : Bool) → isIn (p .arrival .key) keys ≡ b → AllKeys (push p ∷ calls)
+    by-in keys once all true e = (keys, once, λ key out. rw (ne-eqb (p .arrival .key) key (λ q. true≢false (sym e ∙ ap (λ (k : ℕ). isIn k keys) q ∙ out))) (all key out))
+    by-in keys once all false e = (p .arrival .key ∷ keys, rw (e, once), λ key out. by-key key (eqb (p .arrival .key) key) out)
+      where
+        by-key : (key : ℕ) (c : Bool) → (c || isIn key keys) ≡ false → cond c (push p ∷ those (isOwn key) calls) (those (isOwn key) calls) ≡ []
+        by-key key true out = absurd (true≢false out)
+        by-key key false out = all key out
 
 numbers-long : (calls : List Call) (z : State) → length (sweepNumbers z calls) ≡ length (those isSweep calls)
 unfolding gathered those
@@ -115,6 +177,7 @@ order-across-keys store store′ long calls calls′ same room room′ =
     let alone′ : (key : ℕ) → ToldAlone forRoom key store′ store′ calls′ = λ key. told-alone forRoom (λ n h. h) store′ store′ refl key calls′ in
     let stories : (key : ℕ) → mine key (crossed forRoom (start store) calls) ≡ mine key (crossed forRoom (start store′) calls′)
     = λ key. ap (mine key) (every-remains after hasRoom calls (start store) room) ∙ same key ∙ sym (ap (mine key) (every-remains after hasRoom calls′ (start store′) room′)) in
+    let keys = all-keys calls in
     record {
       pushes = λ key.
           sym (every-gathered after hasRoom (λ s e. isOwn key e) replyTo calls (start store) room)
@@ -122,9 +185,9 @@ order-across-keys store store′ long calls calls′ same room room′ =
           ∙ every-gathered after hasRoom (λ s e. isOwn key e) replyTo calls′ (start store′) room′;
       sweeps = ext-getD 0 (sweepNumbers (start store) calls) (sweepNumbers (start store′) calls′)
           (numbers-long calls (start store) ∙ ap length (sym (sweeps-mine 0 calls) ∙ ap (those isSweep) (same 0) ∙ sweeps-mine 0 calls′) ∙ sym (numbers-long calls′ (start store′)))
-          (λ i l. sweeps-add-up forRoom (λ n h. h) store store′ long calls (keysOf calls) (keys-once calls) (λ key. keys-all key calls) i
-          ∙ total-same _ _ (keysOf calls) (λ key q. ap (λ (story : List Call). getD (sweepNumbers (start store′) story) i 0) (stories key))
-          ∙ sym (sweeps-add-up forRoom (λ n h. h) store′ store′ refl calls′ (keysOf calls) (keys-once calls) (λ key out. sym (own-mine key calls′) ∙ ap (those (isOwn key)) (sym (same key)) ∙ own-mine key calls ∙ keys-all key calls out) i));
+          (λ i l. sweeps-add-up forRoom (λ n h. h) store store′ long calls (keys .0) (keys .1) (keys .2) i
+          ∙ total-same _ _ (keys .0) (λ key q. ap (λ (story : List Call). getD (sweepNumbers (start store′) story) i 0) (stories key))
+          ∙ sym (sweeps-add-up forRoom (λ n h. h) store′ store′ refl calls′ (keys .0) (keys .1) (λ key out. sym (own-mine key calls′) ∙ ap (those (isOwn key)) (sym (same key)) ∙ own-mine key calls ∙ keys .2 key out) i));
       holds = λ key. alone key .holds ∙ ap (λ (story : List Call). holding key (ends (start store′) story)) (stories key) ∙ sym (alone′ key .holds);
     }
 

@@ -23,7 +23,7 @@ use Rattle.stations.specs.Claims.{EventsReordered, SameStations}
 use Rattle.orders.specs.Shares.{share, total, isIn, distinct}
 use Rattle.orders.specs.Messages.{Message, Room, Sent, sending, spares, completing}
 use Rattle.orders.specs.Runs.{State, Push, Call, push, sweep, pushed, finishedBy, wayOf, isLeft, anyNumber, forRoom, isAccepted, isOwn, neverFull, hasRoom, after, replyTo, mine, start, holding, holdsNothing, ends, crossed, repliesTo, repliesToLeft, sweepNumbers}
-use Rattle.orders.specs.Happened.{TableCall, MixedCall, PushMeets, tableContract, callsOf, gotBy, replyOf, wasAccepted, hadRoom, isFrom, isAbout, numbersGot}
+use Rattle.orders.specs.Happened.{TableCall, MixedCall, PushMeets, tableContract, callsOf, gotBy, replyOf, wasLeft, isFrom, isAbout, numbersGot}
 
 -- A push under another key, refused or not, leaves what a key holds. A refused call changes nothing (rule A3).
 pub record Local (z : State) : Type 0 where
@@ -116,7 +116,7 @@ AskedReordered calls calls′ = (o : Origin) → callsOf (those (isAbout o) call
 
 -- no push was refused by 10
 abbrev pub NoneFull : List TableCall → Type 0
-NoneFull calls = those (λ c. not (hadRoom c)) calls ≡ []
+NoneFull calls = those (λ c. not (wasLeft forRoom c)) calls ≡ []
 
 -- Rule D3 for calls that happened: their callers got the same answers of push, bytes that show shows, and numbers of
 -- sweeps. The tables hold the same.
@@ -125,30 +125,30 @@ pub record SameGot (calls calls′ : List TableCall) (z z′ : State) : Type 0 w
   pub sweeps : numbersGot calls ≡ numbersGot calls′
   pub holds : (o : Origin) → holding (keyFor o) z ≡ holding (keyFor o) z′
 
--- Rule D5 for calls that happened: the second calls are the accepted pushes of one sender and message id among the
--- first calls, and the sweeps.
-abbrev pub AskedAlone : Origin → List TableCall → List TableCall → Type 0
-AskedAlone o calls calls′ = callsOf calls′ ≡ callsOf (those (isAbout o) (those wasAccepted calls))
+-- Rule D5 for calls that happened: of the first calls those refused by some numbers are crossed out. The second calls
+-- are one sender's and message id's pushes that are left, and the sweeps.
+abbrev pub AskedAlone : (ℕ → Bool) → Origin → List TableCall → List TableCall → Type 0
+AskedAlone out o calls calls′ = callsOf calls′ ≡ callsOf (those (isAbout o) (those (wasLeft out) calls))
 
 -- A run of its own for one sender and message id: calls that happened from a fresh table, each as its contract allows.
 -- A contract allows one outcome (rule A4) and the code keeps its contract, so these are the answers that the code gives.
-pub record OwnRun (store : List ℕ) (calls : List TableCall) (o : Origin) : Type 0 where
+pub record OwnRun (out : ℕ → Bool) (store : List ℕ) (calls : List TableCall) (o : Origin) : Type 0 where
   pub alone : List TableCall
   pub last : State
   pub happened : Happened tableContract (start store) alone last
-  pub asked : AskedAlone o calls alone
+  pub asked : AskedAlone out o calls alone
 
--- Rule D5 for calls that happened: the callers of the accepted pushes got the same answers and finished bytes there. The
--- sender's message has the same fragments and first time, and no call of its own run was refused.
-pub record GotAlone (o : Origin) (calls : List TableCall) (z : State) {store : List ℕ} (own : OwnRun store calls o) : Type 0 where
-  pub answers : map gotBy (those (isFrom o) (those wasAccepted calls)) ≡ map gotBy (those (isFrom o) (own .alone))
+-- Rule D5 for calls that happened: the callers of the pushes that are left got the same answers and finished bytes there.
+-- The sender's message has the same fragments and first time, and no call of its own run was refused by such a number.
+pub record GotAlone (out : ℕ → Bool) (o : Origin) (calls : List TableCall) (z : State) {store : List ℕ} (own : OwnRun out store calls o) : Type 0 where
+  pub answers : map gotBy (those (isFrom o) (those (wasLeft out) calls)) ≡ map gotBy (those (isFrom o) (own .alone))
   pub holds : holding (keyFor o) z ≡ holding (keyFor o) (own .last)
-  pub none-refused : those (λ c. not (wasAccepted c)) (own .alone) ≡ []
+  pub none-refused : those (λ c. not (wasLeft out c)) (own .alone) ≡ []
 
 -- Rule D5 for calls that happened: the number that the i-th sweep's caller got is the sum of what the same sweep's caller
 -- got in the senders' own runs.
-abbrev pub GotAddsUp : (store : List ℕ) (calls : List TableCall) → ((o : Origin) → OwnRun store calls o) → List Origin → Type 0
-GotAddsUp store calls own senders = (i : ℕ) → getD (numbersGot calls) i 0 ≡ total (λ o. getD (numbersGot (own o .alone)) i 0) senders
+abbrev pub GotAddsUp : {out : ℕ → Bool} {store : List ℕ} (calls : List TableCall) → ((o : Origin) → OwnRun out store calls o) → List Origin → Type 0
+GotAddsUp calls own senders = (i : ℕ) → getD (numbersGot calls) i 0 ≡ total (λ o. getD (numbersGot (own o .alone)) i 0) senders
 
 -- Rules D3 and D4 together: a fragment table and a station table stand side by side. Events may come anywhere between
 -- pushes and sweeps.
@@ -187,12 +187,12 @@ pub record Claims : Type 0 where
   pub order-across-senders : (store : List ℕ) (calls : List TableCall) (z : State) → Happened tableContract (start store) calls z
       → (store′ : List ℕ) (calls′ : List TableCall) (z′ : State) → Happened tableContract (start store′) calls′ z′
       → length store′ ≡ length store → AskedReordered calls calls′ → NoneFull calls → NoneFull calls′ → SameGot calls calls′ z z′
-  pub own-run : (store : List ℕ) (calls : List TableCall) (o : Origin) → OwnRun store calls o
-  pub sender-alone : (store : List ℕ) (calls : List TableCall) (z : State) → Happened tableContract (start store) calls z
-      → (store′ : List ℕ) → length store′ ≡ length store → (o : Origin) (own : OwnRun store′ calls o) → GotAlone o calls z own
-  pub numbers-add-up : (store : List ℕ) (calls : List TableCall) (z : State) → Happened tableContract (start store) calls z
-      → (store′ : List ℕ) → length store′ ≡ length store → (own : (o : Origin) → OwnRun store′ calls o) (senders : List Origin) → distinct (map keyFor senders) ≡ true
-      → ((key : ℕ) → isIn key (map keyFor senders) ≡ false → those (isOwn key) (callsOf calls) ≡ []) → GotAddsUp store′ calls own senders
+  pub own-run : (out : ℕ → Bool) (store : List ℕ) (calls : List TableCall) (o : Origin) → OwnRun out store calls o
+  pub sender-alone : (store : List ℕ) (calls : List TableCall) (z : State) → Happened tableContract (start store) calls z → (out : ℕ → Bool) → CoversRoom out
+      → (store′ : List ℕ) → length store′ ≡ length store → (o : Origin) (own : OwnRun out store′ calls o) → GotAlone out o calls z own
+  pub numbers-add-up : (store : List ℕ) (calls : List TableCall) (z : State) → Happened tableContract (start store) calls z → (out : ℕ → Bool) → CoversRoom out
+      → (store′ : List ℕ) → length store′ ≡ length store → (own : (o : Origin) → OwnRun out store′ calls o) (senders : List Origin) → distinct (map keyFor senders) ≡ true
+      → ((key : ℕ) → isIn key (map keyFor senders) ≡ false → those (isOwn key) (callsOf calls) ≡ []) → GotAddsUp calls own senders
   pub order-together : (store : List ℕ) (calls : List MixedCall) (z : State × Stations) → BothHappened tableContract stationContract (start store, freshStations) calls z
       → (store′ : List ℕ) (calls′ : List MixedCall) (z′ : State × Stations) → BothHappened tableContract stationContract (start store′, freshStations) calls′ z′
       → length store′ ≡ length store → ReorderedTogether calls calls′ → RoomTogether calls → RoomTogether calls′ → SameTogether calls calls′ z z′

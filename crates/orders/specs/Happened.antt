@@ -14,7 +14,7 @@ use Rattle.pushing.specs.Push.{pushedOf, way, Goes}
 use Rattle.pushing.specs.Show.{shown}
 use Rattle.sweeping.specs.Sweep.{swept, sweptAs}
 use Rattle.keys.specs.Keys.{Origin, keyFor}
-use Rattle.orders.specs.Runs.{State, Push, Call, push, sweep, Reply, pushed, dropped, part, refusedBy, forRoom, isSweep, numberIn}
+use Rattle.orders.specs.Runs.{State, Push, Call, push, sweep, Reply, pushed, dropped, part, refusedBy, isSweep, numberIn}
 
 -- What is asked: a push under the key that key_of makes (rule T2), with the output as it is lent, or a sweep at a time.
 -- What comes back: the answer of a push and the output, or the number of a sweep.
@@ -72,16 +72,13 @@ gotFrom a (sweep-got many) = from-sweep many
 abbrev pub gotBy : TableCall → CallerGot
 gotBy c = gotFrom (c .asked) (c .got)
 
--- the same as a run has it; and whether it is no refusal, or none by 10
+-- the same as a run has it; and whether it is no refusal by one of some numbers
 abbrev pub replyOf : CallerGot → Reply
 replyOf (from-push answer bytes) = pushed (pushedOf answer) bytes
 replyOf (from-sweep many) = dropped many
 
-abbrev pub wasAccepted : TableCall → Bool
-wasAccepted c = not (refusedBy (λ n. true) (replyOf (gotBy c)))
-
-abbrev pub hadRoom : TableCall → Bool
-hadRoom c = not (refusedBy forRoom (replyOf (gotBy c)))
+abbrev pub wasLeft : (ℕ → Bool) → TableCall → Bool
+wasLeft out c = not (refusedBy out (replyOf (gotBy c)))
 
 -- the pushes of one sender's message
 unfoldable pub sameBytes : List ℕ → List ℕ → Bool
