@@ -6,8 +6,8 @@ use mathlib.Core.Bool.{Bool, true, false, cond}
 use Prim.Native.Nat.{ℕ, _*_, _≤_, _<_}
 use native.Mathlib.Omega.{arith}
 use lib.Dec.{eqb, ltb}
-use lib.ListN.{length, drop, length-append, take-append-drop}
-use lib.Seq.{paste, length-paste}
+use lib.ListN.{length, drop, take-append-drop}
+use lib.Seq.{paste, length-front, length-paste}
 use borrow.Author.Tests.{ltb-true, ltb-false, lt-ltb}
 use Rattle.table.specs.declared.Table.{Table}
 use Rattle.pushing.specs.declared.Arrival.{Arrival}
@@ -53,10 +53,7 @@ module _ (z : State) (p : Push) (s : Sound (z .table)) where
   front-same (went-end h bytes h₁ h₂ h₃ l e) = refl
 
   pub stored-long : {w : Way} → Goes w → length (afterWay w z p .store) ≡ length (z .store)
-  stored-long {w} g =
-      let front = storeBy w (part z p) (p .payload) in
-      let rest = drop (p .lent) (z .store) in
-      omega (arith, length-append front rest, front-same g, length-append (part z p) rest, ap length (take-append-drop (p .lent) (z .store)))
+  stored-long {w} g = length-front (z .store) (storeBy w (part z p) (p .payload)) (p .lent) (front-same g)
 
   abbrev v : Holding
   v = holding (a .key) z

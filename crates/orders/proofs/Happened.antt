@@ -29,7 +29,7 @@ use Rattle.machines.specs.Both.{lefts, rights, BothHappened}
 use Rattle.machines.proofs.Lists.{left-true, right-true, those-both, every-none}
 use Rattle.machines.proofs.Happened as H
 use Rattle.machines.proofs.Both.{of-left, of-right}
-use Rattle.orders.specs.Runs.{State, Push, Call, push, pushed, dropped, finishedBy, part, wayOf, after, replyTo, isLeft, forRoom, hasRoom, isOwn, isSweep, mine, start, holding, ends, crossed, repliesTo, sweepNumbers, numberIn}
+use Rattle.orders.specs.Runs.{State, Push, Call, push, pushed, dropped, finishedBy, part, wayOf, after, replyTo, isLeft, forRoom, hasRoom, isOwn, isSweep, mine, start, holding, ends, crossed, repliesTo, sweepNumbers, droppedIn}
 use Rattle.orders.specs.Happened.{TableAsked, push-asked, sweep-asked, TableGot, push-got, sweep-got, TableCall, MixedCall, PushMeets, tableMeets, tableContract, callOf, asksCall, callsOf, CallerGot, from-push, from-sweep, gotFrom, gotBy, replyOf, wasLeft, sameBytes, asksFrom, isFrom, isSweepCall, isAbout, numbersGot}
 use Rattle.orders.specs.Claims.{CoversRoom, Reordered, IsRun, AskedReordered, NoneFull, SameGot, OwnRun, GotAlone, GotAddsUp, ReorderedTogether, RoomTogether, SameTogether}
 use Rattle.orders.specs.Shares.{total, isIn, distinct}
@@ -169,7 +169,7 @@ module _ {z z′ : State} {cs : List TableCall} (h : Happened tableContract z cs
   ends-at = H.ends-at tableContract after replyTo asksCall (λ c. replyOf (gotBy c)) tied h
 
   numbers : numbersGot cs ≡ sweepNumbers z (callsOf cs)
-  numbers = sym (H.gathers tableContract after (λ s e. numberIn (replyTo s e)) asksCall (λ c. numberIn (replyOf (gotBy c))) (λ c m. (tied c m .0, ap numberIn (tied c m .1))) (λ s e. isSweep e) isSweepCall (λ c m. refl) h)
+  numbers = sym (H.gathers tableContract after (λ s e. droppedIn (replyTo s e)) asksCall (λ c. droppedIn (replyOf (gotBy c))) (λ c m. (tied c m .0, ap droppedIn (tied c m .1))) (λ s e. isSweep e) isSweepCall (λ c m. refl) h)
 
   all-room : NoneFull cs → every after hasRoom z (callsOf cs) ≡ true
   all-room = H.all-pass tableContract after replyTo asksCall (λ c. replyOf (gotBy c)) tied hasRoom (wasLeft forRoom) (left forRoom) h

@@ -7,7 +7,7 @@ use lib.ListN.{getD}
 use borrow.Author.Tests.{lt-ltb, le-ltb}
 use Rattle.table.specs.declared.Table.{Table}
 use Rattle.table.specs.Rows.{rowOf}
-use Rattle.pushing.specs.Joining.{nothing, Since, never, since, due as isOld, heldBy, firstTime, due}
+use Rattle.pushing.specs.Joining.{nothing, never, heldBy, firstTime, due}
 use Rattle.sweeping.specs.Sweep.{expired, swept}
 use Rattle.pushing.proofs.Aged.{sweep-told}
 use Rattle.table.proofs.Sound.{Sound, row-holds}
@@ -24,16 +24,11 @@ pub due-never : (t : Table) (time c : ℕ) → 16 ≤ rowOf t c → due time (fi
 unfolding firstTime
 due-never t time c h = rw (le-ltb (rowOf t c) 16 h)
 
-old-is-due : (time : ℕ) (first : Since) → isOld time first ≡ due time first
-old-is-due time never = refl
-old-is-due time (since first) = refl
-
 pub sweep-holding : (z : State) → Sound (z .table) → (time c : ℕ) → holding c (record { table = swept (z .table) time .table; store = z .store }) ≡ cond (due time (holding c z .first)) holdsNothing (holding c z)
 sweep-holding z s time c =
     let told = sweep-told (z .table) s (z .store) time c in
     (λ i. record { first = told .1 i; fragments = λ n. told .0 n i })
-    ∙ as-one (isOld time (firstTime (z .table) c))
-    ∙ ap (λ (b : Bool). cond b holdsNothing (holding c z)) (old-is-due time (firstTime (z .table) c))
+    ∙ as-one (due time (firstTime (z .table) c))
   where
     as-one : (b : Bool) → record { first = cond b never (firstTime (z .table) c); fragments = λ n. cond b nothing (heldBy (z .table) (z .store) c n) } ≡ cond b holdsNothing (holding c z)
     as-one true = refl

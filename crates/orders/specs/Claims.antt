@@ -47,9 +47,9 @@ pub record ToldAlone (out : ℕ → Bool) (key : ℕ) (store store′ : List ℕ
   pub holds : holding key (ends (start store) calls) ≡ holding key (ends (start store′) (mine key (crossed out (start store) calls)))
   pub none-refused : every after (isLeft out) (start store′) (mine key (crossed out (start store) calls)) ≡ true
 
--- 10 is one of the numbers: it goes by what the other keys hold. The others may be, up to all. A push that they refuse
--- is refused alike alone: 11 and 12 go by the lengths that are lent (rule T4), and 13 by what the key holds and by the
--- output's length (rule T9).
+-- Rule D5: 10 has to be one of these numbers, because it goes by what the other keys hold. Any other may be one, up to
+-- all. A push that another number refuses and that is left is refused alike alone: 11 and 12 go by the lengths that are
+-- lent and the payload's (rule T4), 13 by what the key holds and by the output's length (rule T9).
 abbrev pub CoversRoom : (ℕ → Bool) → Type 0
 CoversRoom out = (n : ℕ) → forRoom n ≡ true → out n ≡ true
 
@@ -58,7 +58,8 @@ abbrev pub SharesAddUp : (z : State) (time : ℕ) (keys : List ℕ) → Type 0
 SharesAddUp z time keys = swept (z .table) time .dropped ≡ total (λ key. share time (holding key z)) keys
 
 -- Rule D5: the number of the i-th sweep is the sum of what it counts in the keys' tables of their own, over any list
--- that has each key once for which there was a push. All sweeps are in each of these runs, so it is the i-th there too.
+-- that has each key once for which there was a push, refused or not. All sweeps are in each of these runs, so it is the
+-- i-th there too.
 abbrev pub AddsUp : (out : ℕ → Bool) (store store′ : List ℕ) (calls : List Call) (keys : List ℕ) → Type 0
 AddsUp out store store′ calls keys = (i : ℕ) → getD (sweepNumbers (start store) calls) i 0 ≡ total (λ key. getD (sweepNumbers (start store′) (mine key (crossed out (start store) calls))) i 0) keys
 
@@ -182,7 +183,8 @@ pub record Claims : Type 0 where
   pub order-across-keys : (store store′ : List ℕ) → length store′ ≡ length store → (calls calls′ : List Call) → Reordered calls calls′
       → neverFull (start store) calls ≡ true → neverFull (start store′) calls′ ≡ true → SameStory store store′ calls calls′
   pub swapped : (before behind : List Call) (p q : Push) → (p .arrival .key ≡ q .arrival .key → ⊥) → Reordered (before ++ push p ∷ push q ∷ behind) (before ++ push q ∷ push p ∷ behind)
-  -- rules D3 to D5 for calls that happened, and with the events of stations between them
+  -- rules D3 to D5 for calls that happened, and with the events of stations between them; there is a run of its own for
+  -- each sender and message id, and every such run answers so
   pub is-run : (store : List ℕ) (calls : List TableCall) (z : State) → Happened tableContract (start store) calls z → IsRun store calls z
   pub order-across-senders : (store : List ℕ) (calls : List TableCall) (z : State) → Happened tableContract (start store) calls z
       → (store′ : List ℕ) (calls′ : List TableCall) (z′ : State) → Happened tableContract (start store′) calls′ z′

@@ -14,10 +14,10 @@ use Rattle.pushing.specs.Push.{pushedOf, way, Goes}
 use Rattle.pushing.specs.Show.{shown}
 use Rattle.sweeping.specs.Sweep.{swept, sweptAs}
 use Rattle.keys.specs.Keys.{Origin, keyFor}
-use Rattle.orders.specs.Runs.{State, Push, Call, push, sweep, Reply, pushed, dropped, part, refusedBy, isSweep, numberIn}
+use Rattle.orders.specs.Runs.{State, Push, Call, push, sweep, Reply, pushed, dropped, part, refusedBy, isSweep, droppedIn}
 
--- What is asked: a push under the key that key_of makes (rule T2), with the output as it is lent, or a sweep at a time.
--- What comes back: the answer of a push and the output, or the number of a sweep.
+-- What is asked: a push under the key that key_of makes (rule T2), with an output of its length as it is lent, or a
+-- sweep at a time. What comes back: the answer of a push and the output, or the number of a sweep.
 pub data TableAsked : Type 0 where
   push-asked : (o : Origin) (p : Push) → p .arrival .key ≡ keyFor o → (out : List ℕ) → length out ≡ p .room → TableAsked
   sweep-asked : ℕ → TableAsked
@@ -99,7 +99,7 @@ abbrev pub isSweepCall : TableCall → Bool
 isSweepCall c = isSweep (callOf (c .asked))
 
 abbrev pub numbersGot : List TableCall → List ℕ
-numbersGot calls = map (λ c. numberIn (replyOf (gotBy c))) (those isSweepCall calls)
+numbersGot calls = map (λ c. droppedIn (replyOf (gotBy c))) (those isSweepCall calls)
 
 -- both: what concerns one sender's message
 abbrev pub isAbout : Origin → TableCall → Bool

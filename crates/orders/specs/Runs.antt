@@ -128,12 +128,12 @@ abbrev pub repliesToLeft : (ℕ → Bool) → ℕ → State → List Call → Li
 repliesToLeft out key = gathered after (λ s e. isOwn key e && isLeft out s e) replyTo
 
 -- the numbers that the sweeps answer (rule S2), in their order
-abbrev pub numberIn : Reply → ℕ
-numberIn (pushed given bytes) = 0
-numberIn (dropped n) = n
+abbrev pub droppedIn : Reply → ℕ
+droppedIn (pushed given bytes) = 0
+droppedIn (dropped n) = n
 
 abbrev pub sweepNumbers : State → List Call → List ℕ
-sweepNumbers = gathered after (λ s e. isSweep e) (λ s e. numberIn (replyTo s e))
+sweepNumbers = gathered after (λ s e. isSweep e) (λ s e. droppedIn (replyTo s e))
 
 -- Rule D3: no call of a run is refused by 10.
 abbrev pub neverFull : State → List Call → Bool

@@ -3,9 +3,10 @@
 //
 // specs/Runs: runs of the table; specs/Happened: calls that happened, by their contracts; specs/Shares: one key's part
 // in a sweep's number; specs/Messages: a message cut into fragments; specs/Claims: what is claimed. proofs/Claims
-// proves the claims: proofs/Orders, one key's story told alone, order across keys and the sums of a sweep;
-// proofs/Happened, that calls that happened are such runs, also with a station table beside them; proofs/Completes,
-// that a message completes; proofs/Unfinished, what a key holds. proofs/Examples has examples of these rules.
+// proves the claims: proofs/Orders, one key's story told alone, the sums of a sweep, and from these the order across
+// keys; proofs/Answering, that whatever is asked is answered; proofs/Happened, that calls that happened are such runs,
+// also with a station table beside them; proofs/Completes, that a message completes; proofs/Unfinished, what a key
+// holds. proofs/Examples has examples of these rules.
 //
 // The way there: the crate machines (any machine whose calls act key by key); Telling to Sweeps (what a push and a
 // sweep do to a key's holding, from the table's laws); Count and Found (how many places a row has); Totals and Counting
