@@ -46,6 +46,8 @@ pub enum Refusal {
     NotText,
     // 19: more than 1,024 pairs, or reports that can't be made into one (rules Q4 and Q7)
     NoReport,
+    // 20: the sender holds its 8 places, or its 4 keys and needs a new one (rule T6)
+    SenderFull,
 }
 
 // The number of a refusal (rule N1).
@@ -72,6 +74,7 @@ pub fn number_of(refusal: Refusal) -> u8
         Refusal::NoStationRoom => 17,
         Refusal::NotText => 18,
         Refusal::NoReport => 19,
+        Refusal::SenderFull => 20,
     }
 }
 
@@ -100,6 +103,7 @@ pub fn carried_by(refusal: Refusal) -> usize
         Refusal::NoStationRoom => 0,
         Refusal::NotText => 0,
         Refusal::NoReport => 0,
+        Refusal::SenderFull => 0,
     }
 }
 
