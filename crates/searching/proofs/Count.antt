@@ -1,6 +1,6 @@
--- Laws of `howMany`: none, all, one more or fewer, and the sum over two tests.
+-- Laws of `howMany`: none, all, one more or fewer, and two tests.
 use mathlib.Core.Path.{_≡_, refl, sym}
-use mathlib.Core.Bool.{Bool, true, false, cond, _||_, false≢true}
+use mathlib.Core.Bool.{Bool, true, false, cond, _&&_, _||_}
 use Prim.Native.Nat.{ℕ, zero, suc, _+_, _≤_, _<_}
 use native.Mathlib.Omega.{arith}
 use lib.Dec.{eqb}
@@ -85,14 +85,24 @@ count-some test (suc n) i l e = by-last (eqb n i) refl (count-some test n i)
     by-last true q below = let here : n ≡ i = eqb-true n i q in rw (count-next, here, e) (omega arith)
     by-last false q below = let before = below (omega (arith, eqb-false n i q)) e in rw count-next (omega arith)
 
+-- those that pass one of two tests, and those that pass both
+count-either : (test test′ : ℕ → Bool) (n : ℕ) → howMany (λ k. test k || test′ k) n + howMany (λ k. test k && test′ k) n ≡ howMany test n + howMany test′ n
+count-either test test′ zero = rw (← count-before-all (λ k. test k || test′ k), ← count-before-all (λ k. test k && test′ k), ← count-before-all test, ← count-before-all test′)
+count-either test test′ (suc n) = rw (count-next, count-next, count-next, count-next) (by-tests (test n) (test′ n) (count-either test test′ n))
+  where
+    by-tests : (b c : Bool) → howMany (λ k. test k || test′ k) n + howMany (λ k. test k && test′ k) n ≡ howMany test n + howMany test′ n
+        → (howMany (λ k. test k || test′ k) n + one (b || c)) + (howMany (λ k. test k && test′ k) n + one (b && c)) ≡ (howMany test n + one b) + (howMany test′ n + one c)
+    by-tests true true e = omega arith
+    by-tests true false e = omega arith
+    by-tests false c e = omega arith
+
+pub count-at-most : (test test′ : ℕ → Bool) (n : ℕ) → howMany (λ k. test k || test′ k) n ≤ howMany test n + howMany test′ n
+count-at-most test test′ n = omega (arith, count-either test test′ n)
+
 -- never both
 pub count-sum : (test test′ : ℕ → Bool) (n : ℕ) → ((k : ℕ) → k < n → test k ≡ true → test′ k ≡ false) → howMany (λ k. test k || test′ k) n ≡ howMany test n + howMany test′ n
-count-sum test test′ zero apart = rw (← count-before-all (λ k. test k || test′ k), ← count-before-all test, ← count-before-all test′)
-count-sum test test′ (suc n) apart =
-    rw (count-next, count-next, count-next) (by-tests (test n) (test′ n) (apart n (omega arith)) (count-sum test test′ n (λ k h. apart k (omega arith))))
+count-sum test test′ n apart = omega (arith, count-either test test′ n, count-none (λ k. test k && test′ k) n (λ k h. never-both (test k) (apart k h)))
   where
-    by-tests : (b c : Bool) → (b ≡ true → c ≡ false) → howMany (λ k. test k || test′ k) n ≡ howMany test n + howMany test′ n
-        → howMany (λ k. test k || test′ k) n + one (b || c) ≡ (howMany test n + one b) + (howMany test′ n + one c)
-    by-tests true true h e = absurd (false≢true (sym (h refl)))
-    by-tests true false h e = omega arith
-    by-tests false c h e = omega arith
+    never-both : {c : Bool} (b : Bool) → (b ≡ true → c ≡ false) → (b && c) ≡ false
+    never-both true out = out refl
+    never-both false out = refl

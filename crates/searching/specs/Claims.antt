@@ -33,7 +33,11 @@ pub record Agreeing : Type 0 where
 abbrev pub OneMore : Type 0
 OneMore = (test test′ : ℕ → Bool) (i : ℕ) → ((k : ℕ) → (k ≡ i → ⊥) → test k ≡ test′ k) → (n : ℕ) → i < n → test i ≡ false → test′ i ≡ true → howMany test′ n ≡ howMany test n + 1
 
--- numbers that pass one of two tests, and never both
+-- numbers that pass one of two tests: at most so many,
+abbrev pub AtMostSum : Type 0
+AtMostSum = (test test′ : ℕ → Bool) (n : ℕ) → howMany (λ k. test k || test′ k) n ≤ howMany test n + howMany test′ n
+
+-- and just so many where none passes both
 abbrev pub SumOfTwo : Type 0
 SumOfTwo = (test test′ : ℕ → Bool) (n : ℕ) → ((k : ℕ) → k < n → test k ≡ true → test′ k ≡ false) → howMany (λ k. test k || test′ k) n ≡ howMany test n + howMany test′ n
 
@@ -43,4 +47,5 @@ pub record Claims : Type 0 where
   pub counts : (test : ℕ → Bool) (n : ℕ) → CountIs test n
   pub agreeing : Agreeing
   pub one-more : OneMore
+  pub at-most-sum : AtMostSum
   pub sum-of-two : SumOfTwo

@@ -1,4 +1,5 @@
--- How many numbers pass a test. It counts the keys that a sweep drops (rule S2) and the stations held (rule P7).
+-- How many numbers pass a test. It counts the keys that a sweep drops (rule S2), what a sender holds (rule T15) and the
+-- stations held (rule P7).
 use mathlib.Core.Bool.{Bool, cond}
 use Prim.Native.Nat.{ℕ, zero, suc, _+_}
 
