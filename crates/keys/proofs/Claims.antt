@@ -10,7 +10,7 @@ use Rattle.keys.specs.Keys.{keyOf, keyFor, senderOf, idOf, senderBytes}
 use Rattle.keys.specs.Claims.{Claims, Firmness, KeyIsOne's, OriginRead, KeyRemade}
 
 firmness : Firmness
-firmness = record { key-of = λ s0 s1 s2 s3 s4 s5 id. by-equation (keyOf (s0 ∷ s1 ∷ s2 ∷ s3 ∷ s4 ∷ s5 ∷ []) id) }
+firmness = record { key-of = λ s0 s1 s2 s3 s4 s5 id. by-equation (keyOf (s0 ∷ s1 ∷ s2 ∷ s3 ∷ s4 ∷ s5 ∷ []) id); sender-of = λ key. by-equation (senderOf key) }
 
 origin-read : OriginRead
 origin-read o =

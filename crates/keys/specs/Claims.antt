@@ -5,9 +5,10 @@ use Prim.Native.Nat.{ℕ, _*_, _<_}
 use Rattle.numbers.specs.Firmness.{Firm}
 use Rattle.keys.specs.Keys.{keyOf, Origin, keyFor, senderOf, idOf, senderBytes}
 
--- Rule A4: any two keys that the contract allows are equal.
+-- Rule A4, for each public call by its name: any two numbers that its contract allows are equal.
 pub record Firmness : Type 0 where
   pub key-of : (s0 s1 s2 s3 s4 s5 id : ℕ) → Firm (λ key. key ≡ keyOf (s0 ∷ s1 ∷ s2 ∷ s3 ∷ s4 ∷ s5 ∷ []) id)
+  pub sender-of : (key : ℕ) → Firm (λ sender. sender ≡ senderOf key)
 
 -- Rule T2: no two senders and ids share a key.
 abbrev pub KeyIsOne's : Type 0
