@@ -1,18 +1,26 @@
 -- What the loop of `without_key` has done: the places below i are freed, if the owner has them.
 use mathlib.Core.Path.{_≡_, sym, ap, _∙_}
 use mathlib.Core.List.{List}
-use mathlib.Core.Bool.{false}
+use mathlib.Core.Bool.{Bool, false}
 use Prim.{⊥}
 use Prim.Native.Nat.{ℕ, _+_, _≤_}
-use lib.ListN.{length, getD, set}
+use native.Mathlib.Omega.{arith}
+use native.Mathlib.Nat.{add-zero}
+use native.Mathlib.Numerals.{add-one}
+use lib.Dec.{eqb}
+use lib.ListN.{length, getD, set, length-set}
+use lib.Seq.{set-out}
 use borrow.Author.Tests.{eq-eqb, ne-eqb}
 use Rattle.table.specs.declared.Table.{Table}
-use Rattle.table.specs.Rows.{ownerOf, freePlace, withPlace, without}
+use Rattle.table.specs.declared.Totals.{Totals}
+use Rattle.table.specs.Rows.{ownerOf, freePlace, withPlace, firstRow, totalsOf, putTotals, withTotals, cleared, senderAt, placesIn, lessKey, without}
+use Rattle.searching.specs.Count.{howMany}
+use Rattle.searching.proofs.Count.{count-next}
 use Rattle.table.proofs.Wiped.{wipedTo, wiped-none, wiped-ahead, wiped-met, wiped-passed, wiped-all}
 
 -- the table without a row's key, whose places are not freed yet
-abbrev pub cleared : Table → ℕ → Table
-cleared t row =
+abbrev pub rowCleared : Table → ℕ → Table
+rowCleared t row =
     record {
       «row_keys» = set (t .«row_keys») row 0;
       firsts = set (t .firsts) row 0;
@@ -22,6 +30,8 @@ cleared t row =
       numbers = t .numbers;
       versions = t .versions;
       used = set (t .used) row false;
+      «sender_keys» = set (t .«sender_keys») row 0;
+      «sender_places» = set (t .«sender_places») row 0;
     }
 
 -- a table whose lists of places are these, made from its own by one rule
@@ -36,6 +46,8 @@ eachList rule t =
       numbers = rule (t .numbers);
       versions = rule (t .versions);
       used = t .used;
+      «sender_keys» = t .«sender_keys»;
+      «sender_places» = t .«sender_places»;
     }
 
 abbrev pub freedTo : ℕ → Table → ℕ → Table
@@ -53,6 +65,8 @@ by-rule f g same t =
       numbers = same (t .numbers) j;
       versions = same (t .versions) j;
       used = t .used;
+      «sender_keys» = t .«sender_keys»;
+      «sender_places» = t .«sender_places»;
     }
 
 pub freed-none : (owner : ℕ) (t : Table) → t ≡ freedTo owner t 0
@@ -76,7 +90,49 @@ module _ (owner : ℕ) (real : 1 ≤ owner) (t : Table) where
         ∙ by-rule (λ xs. wipedTo owner 0 (t .owners) xs i) (λ xs. wipedTo owner 0 (t .owners) xs (i + 1))
         (λ xs. wiped-passed owner 0 real (t .owners) xs i (ne-eqb (getD (t .owners) i 0) owner (λ e. other (read-is ∙ e)))) t
 
-pub freed-all : (t : Table) (row i : ℕ) → length (t .owners) ≤ i → freedTo (ownerOf row) (cleared t row) i ≡ without t row
-unfolding without
+    -- how many they are
+    abbrev owns : ℕ → Bool
+    owns j = eqb (getD (t .owners) j 0) owner
+
+    pub counted-met : getD (n .owners) i 0 ≡ owner → (many : ℕ) → many ≡ howMany owns i → many + 1 ≡ howMany owns (i + 1)
+    counted-met met many e = rw (e, add-one i, count-next owns i, eq-eqb (getD (t .owners) i 0) owner (sym read-is ∙ met))
+
+    pub counted-passed : (getD (n .owners) i 0 ≡ owner → ⊥) → (many : ℕ) → many ≡ howMany owns i → many ≡ howMany owns (i + 1)
+    counted-passed other many e = rw (e, add-one i, count-next owns i, ne-eqb (getD (t .owners) i 0) owner (λ q. other (read-is ∙ q)), add-zero)
+
+pub freed-all : (t : Table) (row i : ℕ) → length (t .owners) ≤ i → freedTo (ownerOf row) (rowCleared t row) i ≡ cleared t row
 freed-all t row i behind =
-    by-rule (λ xs. wipedTo (ownerOf row) 0 (t .owners) xs i) _ (λ xs. wiped-all (ownerOf row) 0 (t .owners) xs i behind) (cleared t row)
+    by-rule (λ xs. wipedTo (ownerOf row) 0 (t .owners) xs i) _ (λ xs. wiped-all (ownerOf row) 0 (t .owners) xs i behind) (rowCleared t row)
+
+-- the totals of the row's sender, once the row is cleared
+module _ (t : Table) (row : ℕ) (n : Table) (done : n ≡ cleared t row) (sender next : ℕ) (its : sender ≡ senderAt t row) (is : next ≡ firstRow n sender) where
+  next-is : next ≡ firstRow (cleared t row) (senderAt t row)
+  next-is = is ∙ ap (λ (z : Table). firstRow z sender) done ∙ ap (firstRow (cleared t row)) its
+
+  abbrev rest : Totals
+  rest = lessKey (totalsOf t (senderAt t row)) (placesIn t row)
+
+  pub lowered : (many many′ : ℕ) → many ≡ rest .keys → many′ ≡ rest .places → putTotals n next (record { keys = many; places = many′ }) ≡ without t row
+  unfolding without
+  lowered many many′ e f =
+      ap (λ (z : Table). putTotals z next (record { keys = many; places = many′ })) done
+      ∙ ap (λ (r : ℕ). putTotals (cleared t row) r (record { keys = many; places = many′ })) next-is
+      ∙ ap (withTotals (cleared t row) (senderAt t row)) (λ i. record { keys = e i; places = f i })
+
+  -- the sender holds nothing any more
+  pub none-left : length (t .«sender_keys») ≡ 16 → length (t .«sender_places») ≡ 16 → 16 ≤ next → n ≡ without t row
+  unfolding without
+  none-left long long′ out =
+      done
+      ∙ λ i. record {
+        «row_keys» = cleared t row .«row_keys»;
+        firsts = cleared t row .firsts;
+        «message_types» = cleared t row .«message_types»;
+        sizes = cleared t row .sizes;
+        owners = cleared t row .owners;
+        numbers = cleared t row .numbers;
+        versions = cleared t row .versions;
+        used = cleared t row .used;
+        «sender_keys» = sym (set-out (cleared t row .«sender_keys») (firstRow (cleared t row) (senderAt t row)) (rest .keys) (omega (arith, next-is, length-set (t .«sender_keys») row 0))) i;
+        «sender_places» = sym (set-out (cleared t row .«sender_places») (firstRow (cleared t row) (senderAt t row)) (rest .places) (omega (arith, next-is, length-set (t .«sender_places») row 0))) i;
+      }

@@ -3,4 +3,6 @@ mod Freed
 pub mod Places
 pub mod Sound
 pub mod Apart
+pub mod InStep
+pub mod Shares
 pub mod Claims

@@ -8,9 +8,10 @@ use lib.ListN.{length, getD, length-set, length-replicate, List·getD-eq-default
 use lib.Seq.{getD-set-same, getD-set-other}
 use borrow.Author.Tests.{eqb-true, eq-eqb, ltb-true, ltb-false}
 use Rattle.table.specs.declared.Table.{Table}
+use Rattle.table.specs.declared.Totals.{Totals}
 pub use Rattle.table.specs.Sound.{Sound}
 use Rattle.table.specs.Sound.{Long}
-use Rattle.table.specs.Rows.{Place, ownerOf, freePlace, freshTable, placeAt, isRowOf, rowOf, isNumbered, placeOf, withKey, withPlace, without, droppedKey}
+use Rattle.table.specs.Rows.{Place, ownerOf, freePlace, freshTable, placeAt, isRowOf, rowOf, isNumbered, placeOf, withKey, withPlace, putTotals, cleared, without, droppedKey}
 use Rattle.searching.proofs.Search.{lowest-holds, lowest-before}
 use Rattle.table.proofs.Places.{fresh-long, put-long, drop-long, all-same, after-set, fresh-place, after-put, after-drop}
 
@@ -98,6 +99,8 @@ fresh-sound = record {
   firsts-long = length-replicate {A = ℕ} 16 0;
   places-long = fresh-long;
   used-long = length-replicate 16 false;
+  sender-keys-long = length-replicate {A = ℕ} 16 0;
+  sender-places-long = length-replicate {A = ℕ} 16 0;
   small = λ i. subst (λ (p : Place). p .size ≤ 1492) (sym (fresh-place i)) (omega arith);
   byte = λ i. subst (λ (p : Place). p .number < 256) (sym (fresh-place i)) (omega arith);
   owned = λ i row e. absurd (unowned i row e);
@@ -138,6 +141,8 @@ module _ (t : Table) (s : Sound t) (at row : ℕ) (in-32 : at < 32) (p : Place) 
     firsts-long = s .firsts-long;
     places-long = put-long t (s .places-long) at p;
     used-long = s .used-long;
+    sender-keys-long = s .sender-keys-long;
+    sender-places-long = s .sender-places-long;
     small = λ i. at-place (λ (q : Place). q .size ≤ 1492) i (λ here. small) (λ other. s .small i);
     byte = λ i. at-place (λ (q : Place). q .number < 256) i (λ here. byte) (λ other. s .byte i);
     owned = owner-at;
@@ -169,12 +174,30 @@ module _ (t : Table) (s : Sound t) (row key time : ℕ) (in-16 : row < 16) (new 
     firsts-long = length-set (t .firsts) row time ∙ s .firsts-long;
     places-long = opened-long (s .places-long);
     used-long = length-set (t .used) row true ∙ s .used-long;
+    sender-keys-long = s .sender-keys-long;
+    sender-places-long = s .sender-places-long;
     small = s .small;
     byte = s .byte;
     owned = λ i r e. still-used r (s .owned i r e);
     once = s .once;
     keyed = keyed-at;
   }
+
+-- the totals of a sender are put
+pub totals-sound : (t : Table) → Sound t → (row : ℕ) (held : Totals) → Sound (putTotals t row held)
+totals-sound t s row held = record {
+  row-keys-long = s .row-keys-long;
+  firsts-long = s .firsts-long;
+  places-long = record { types = s .places-long .types; sizes = s .places-long .sizes; owners = s .places-long .owners; numbers = s .places-long .numbers; versions = s .places-long .versions };
+  used-long = s .used-long;
+  sender-keys-long = length-set (t .«sender_keys») row (held .keys) ∙ s .sender-keys-long;
+  sender-places-long = length-set (t .«sender_places») row (held .places) ∙ s .sender-places-long;
+  small = s .small;
+  byte = s .byte;
+  owned = s .owned;
+  once = s .once;
+  keyed = s .keyed;
+}
 
 -- the other rows after a drop
 module _ (t : Table) (row r : ℕ) (other : r ≡ row → ⊥) where
@@ -209,6 +232,8 @@ module _ (t : Table) (s : Sound t) (row : ℕ) (in-16 : row < 16) where
     firsts-long = length-set (t .firsts) row 0 ∙ s .firsts-long;
     places-long = drop-long t (s .places-long) row;
     used-long = length-set (t .used) row false ∙ s .used-long;
+    sender-keys-long = length-set (cleared t row .«sender_keys») _ _ ∙ length-set (t .«sender_keys») row 0 ∙ s .sender-keys-long;
+    sender-places-long = length-set (cleared t row .«sender_places») _ _ ∙ length-set (t .«sender_places») row 0 ∙ s .sender-places-long;
     small = λ i. at-freed (λ (q : Place). q .size ≤ 1492) i (omega arith) (λ other. s .small i);
     byte = λ i. at-freed (λ (q : Place). q .number < 256) i (omega arith) (λ other. s .byte i);
     owned = λ i r. at-freed (λ (q : Place). q .owner ≡ ownerOf r → getD (without t row .used) r false ≡ true) i (λ own. absurd (omega arith))

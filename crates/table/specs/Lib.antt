@@ -1,3 +1,4 @@
 pub mod Rows
 pub mod Sound
+pub mod InStep
 pub mod Claims

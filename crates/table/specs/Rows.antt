@@ -1,11 +1,14 @@
--- The table's rows and places (rules T1, T3, T6, T12 and T14).
+-- The table's rows and places, and what it says that each sender holds (rules T1, T3, T6, T12, T14 and T15).
 use mathlib.Core.List.{List, [], _∷_}
 use mathlib.Core.Bool.{Bool, true, false, cond, not, _&&_}
-use Prim.Native.Nat.{ℕ, _+_, _*_}
+use Prim.Native.Nat.{ℕ, _+_, _*_, _-_}
 use lib.Dec.{eqb, ltb}
 use lib.ListN.{take, drop, getD, set, replicate}
 use Rattle.table.specs.declared.Table.{Table}
+use Rattle.table.specs.declared.Totals.{Totals}
 use Rattle.searching.specs.Search.{lowest}
+use Rattle.searching.specs.Count.{howMany}
+use Rattle.keys.specs.Keys.{senderOf}
 
 -- Rule T1: a table has 16 rows for keys and 32 places for fragments. The store has 1,492 bytes for each place.
 abbrev pub keys : ℕ
@@ -19,6 +22,13 @@ placeSize = 1492
 
 abbrev pub storeSize : ℕ
 storeSize = places * placeSize
+
+-- Rule T6: one sender holds at most so many keys, and at most so many places.
+abbrev pub mostKeys : ℕ
+mostKeys = 4
+
+abbrev pub mostPlaces : ℕ
+mostPlaces = 8
 
 -- Rules T1 and T3: what a place holds. It is a fragment without its payload, which lies in the store, and without its
 -- last mark, which no kept fragment has. The owner is 1 more than the row of the key, and 0 where the place is free.
@@ -48,6 +58,8 @@ freshTable =
       numbers = replicate places 0;
       versions = replicate places 0;
       used = replicate keys false;
+      «sender_keys» = replicate keys 0;
+      «sender_places» = replicate keys 0;
     }
 
 -- Rule T1: the row of a key, or `keys` where the table holds nothing under it.
@@ -101,6 +113,8 @@ withKey t row key time =
       numbers = t .numbers;
       versions = t .versions;
       used = set (t .used) row true;
+      «sender_keys» = t .«sender_keys»;
+      «sender_places» = t .«sender_places»;
     }
 
 abbrev pub withPlace : Table → ℕ → Place → Table
@@ -114,7 +128,48 @@ withPlace t i p =
       numbers = set (t .numbers) i (p .number);
       versions = set (t .versions) i (p .version);
       used = t .used;
+      «sender_keys» = t .«sender_keys»;
+      «sender_places» = t .«sender_places»;
     }
+
+-- Rule T15: the lowest row with a key of this sender, or `keys` where there is none. It says what the sender holds.
+abbrev pub isSenders : List Bool → List ℕ → ℕ → ℕ → Bool
+isSenders used row-keys sender row = getD used row false && eqb (senderOf (getD row-keys row 0)) sender
+
+abbrev pub firstRowIn : List Bool → List ℕ → ℕ → ℕ
+firstRowIn used row-keys sender = lowest (isSenders used row-keys sender) keys
+
+abbrev pub firstRow : Table → ℕ → ℕ
+firstRow t sender = firstRowIn (t .used) (t .«row_keys») sender
+
+-- Rule T15: what a sender holds as the table says it, how many keys and how many places; nothing, for one without a row.
+abbrev pub noTotals : Totals
+noTotals = record { keys = 0; places = 0 }
+
+abbrev pub totalsIn : (sender-keys sender-places : List ℕ) → ℕ → Totals
+totalsIn sender-keys sender-places row = cond (ltb row keys) (record { keys = getD sender-keys row 0; places = getD sender-places row 0 }) noTotals
+
+abbrev pub totalsOf : Table → ℕ → Totals
+totalsOf t sender = totalsIn (t .«sender_keys») (t .«sender_places») (firstRow t sender)
+
+-- Rule T15: the table with these totals in a row, and the table with these totals of a sender.
+abbrev pub putTotals : Table → ℕ → Totals → Table
+putTotals t row held =
+    record {
+      «row_keys» = t .«row_keys»;
+      firsts = t .firsts;
+      «message_types» = t .«message_types»;
+      sizes = t .sizes;
+      owners = t .owners;
+      numbers = t .numbers;
+      versions = t .versions;
+      used = t .used;
+      «sender_keys» = set (t .«sender_keys») row (held .keys);
+      «sender_places» = set (t .«sender_places») row (held .places);
+    }
+
+abbrev pub withTotals : Table → ℕ → Totals → Table
+withTotals t sender held = putTotals t (firstRow t sender) held
 
 -- a list of the places once those of an owner are freed: a blank stands where the list of owners has this owner
 unfoldable pub wiped : {A : Type 0} → ℕ → A → List ℕ → List A → List A
@@ -122,9 +177,9 @@ wiped owner blank [] xs = xs
 wiped owner blank (o ∷ os) [] = []
 wiped owner blank (o ∷ os) (x ∷ xs) = cond (eqb o owner) blank x ∷ wiped owner blank os xs
 
--- Rule T12: the table after a row's key is dropped. The row and its places are as fresh ones.
-unfoldable pub without : Table → ℕ → Table
-without t row =
+-- Rule T12: a row and its places are as fresh ones.
+abbrev pub cleared : Table → ℕ → Table
+cleared t row =
     record {
       «row_keys» = set (t .«row_keys») row 0;
       firsts = set (t .firsts) row 0;
@@ -134,7 +189,24 @@ without t row =
       numbers = wiped (ownerOf row) 0 (t .owners) (t .numbers);
       versions = wiped (ownerOf row) 0 (t .owners) (t .versions);
       used = set (t .used) row false;
+      «sender_keys» = set (t .«sender_keys») row 0;
+      «sender_places» = set (t .«sender_places») row 0;
     }
+
+-- Rule T15: the sender of a row's key, and how many places the row has.
+abbrev pub senderAt : Table → ℕ → ℕ
+senderAt t row = senderOf (getD (t .«row_keys») row 0)
+
+abbrev pub placesIn : Table → ℕ → ℕ
+placesIn t row = howMany (λ i. eqb (placeAt t i .owner) (ownerOf row)) places
+
+-- Rule T15: what is left of a sender's totals without one of its keys, which has so many places.
+abbrev pub lessKey : Totals → ℕ → Totals
+lessKey held many = record { keys = held .keys - 1; places = held .places - many }
+
+-- Rules T12 and T15: the table after a row's key is dropped. Its sender holds a key less, and its places.
+unfoldable pub without : Table → ℕ → Table
+without t row = withTotals (cleared t row) (senderAt t row) (lessKey (totalsOf t (senderAt t row)) (placesIn t row))
 
 -- Rules T7 and T12: the key of a row is dropped, if the table has this row.
 abbrev pub droppedKey : Table → ℕ → Table

@@ -21,6 +21,8 @@ pub record Sound (t : Table) : Type 0 where
   pub firsts-long : length (t .firsts) ≡ keys
   pub places-long : Long t
   pub used-long : length (t .used) ≡ keys
+  pub sender-keys-long : length (t .«sender_keys») ≡ keys
+  pub sender-places-long : length (t .«sender_places») ≡ keys
   pub small : (i : ℕ) → placeAt t i .size ≤ placeSize
   pub byte : (i : ℕ) → placeAt t i .number < 256
   -- a place belongs to a row that a key has
