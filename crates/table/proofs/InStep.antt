@@ -1,6 +1,6 @@
 -- The totals of every sender stay in step with what the table holds: the laws for each change of the table.
 use mathlib.Core.Path.{_≡_, refl, sym, ap, _∙_, subst}
-use mathlib.Core.Bool.{Bool, true, false, cond, not, _&&_, _||_, and-false, or-false, false≢true}
+use mathlib.Core.Bool.{Bool, true, false, cond, not, _&&_, _||_, and-false, or-false, and-eq-true-iff, false≢true}
 use Prim.Native.Nat.{ℕ, zero, suc, _+_, _-_, _≤_, _<_}
 use native.Mathlib.Omega.{arith}
 use lib.Dec.{eqb, ltb}
@@ -21,12 +21,7 @@ use Rattle.table.proofs.Sound.{Sound, fresh-sound}
 
 -- a row with a key of the sender
 of-sender : (t : Table) (sender row : ℕ) → ofSender t sender row ≡ true → (getD (t .used) row false ≡ true) × (senderAt t row ≡ sender)
-of-sender t sender row e = by-tests (getD (t .used) row false) refl (eqb (senderAt t row) sender) refl e
-  where
-    by-tests : (b : Bool) → getD (t .used) row false ≡ b → (c : Bool) → eqb (senderAt t row) sender ≡ c → (b && c) ≡ true → (getD (t .used) row false ≡ true) × (senderAt t row ≡ sender)
-    by-tests true f true g q = (f, eqb-true _ _ g)
-    by-tests true f false g q = absurd (false≢true q)
-    by-tests false f c g q = absurd (false≢true q)
+of-sender t sender row e = let both = and-eq-true-iff (getD (t .used) row false) (eqb (senderAt t row) sender) .0 e in (both .0, eqb-true _ _ (both .1))
 
 -- and a place of such a row, or a free one
 pub kept-by : (t : Table) (sender i row : ℕ) → placeAt t i .owner ≡ ownerOf row → keptFor t sender i ≡ ofSender t sender row
