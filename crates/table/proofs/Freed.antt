@@ -4,12 +4,10 @@ use mathlib.Core.List.{List}
 use mathlib.Core.Bool.{Bool, false}
 use Prim.{⊥}
 use Prim.Native.Nat.{ℕ, _+_, _≤_}
-use native.Mathlib.Omega.{arith}
 use native.Mathlib.Nat.{add-zero}
 use native.Mathlib.Numerals.{add-one}
 use lib.Dec.{eqb}
-use lib.ListN.{length, getD, set, length-set}
-use lib.Seq.{set-out}
+use lib.ListN.{length, getD, set}
 use borrow.Author.Tests.{eq-eqb, ne-eqb}
 use Rattle.table.specs.declared.Table.{Table}
 use Rattle.table.specs.declared.Totals.{Totals}
@@ -104,6 +102,22 @@ pub freed-all : (t : Table) (row i : ℕ) → length (t .owners) ≤ i → freed
 freed-all t row i behind =
     by-rule (λ xs. wipedTo (ownerOf row) 0 (t .owners) xs i) _ (λ xs. wiped-all (ownerOf row) 0 (t .owners) xs i behind) (rowCleared t row)
 
+-- a table with these lists of totals
+abbrev pub retold : Table → (sender-keys sender-places : List ℕ) → Table
+retold t sender-keys sender-places =
+    record {
+      «row_keys» = t .«row_keys»;
+      firsts = t .firsts;
+      «message_types» = t .«message_types»;
+      sizes = t .sizes;
+      owners = t .owners;
+      numbers = t .numbers;
+      versions = t .versions;
+      used = t .used;
+      «sender_keys» = sender-keys;
+      «sender_places» = sender-places;
+    }
+
 -- the totals of the row's sender, once the row is cleared
 module _ (t : Table) (row : ℕ) (n : Table) (done : n ≡ cleared t row) (sender next : ℕ) (its : sender ≡ senderAt t row) (is : next ≡ firstRow n sender) where
   next-is : next ≡ firstRow (cleared t row) (senderAt t row)
@@ -112,27 +126,11 @@ module _ (t : Table) (row : ℕ) (n : Table) (done : n ≡ cleared t row) (sende
   abbrev rest : Totals
   rest = lessKey (totalsOf t (senderAt t row)) (placesIn t row)
 
-  pub lowered : (many many′ : ℕ) → many ≡ rest .keys → many′ ≡ rest .places → putTotals n next (record { keys = many; places = many′ }) ≡ without t row
+  pub lowered : (many many′ : ℕ) → many ≡ rest .keys → many′ ≡ rest .places → (keys′ places′ : List ℕ) → keys′ ≡ set (n .«sender_keys») next many → places′ ≡ set (n .«sender_places») next many′
+      → retold n keys′ places′ ≡ without t row
   unfolding without
-  lowered many many′ e f =
-      ap (λ (z : Table). putTotals z next (record { keys = many; places = many′ })) done
+  lowered many many′ e f keys′ places′ k p =
+      (λ i. retold n (k i) (p i))
+      ∙ ap (λ (z : Table). putTotals z next (record { keys = many; places = many′ })) done
       ∙ ap (λ (r : ℕ). putTotals (cleared t row) r (record { keys = many; places = many′ })) next-is
       ∙ ap (withTotals (cleared t row) (senderAt t row)) (λ i. record { keys = e i; places = f i })
-
-  -- the sender holds nothing any more
-  pub none-left : length (t .«sender_keys») ≡ 16 → length (t .«sender_places») ≡ 16 → 16 ≤ next → n ≡ without t row
-  unfolding without
-  none-left long long′ out =
-      done
-      ∙ λ i. record {
-        «row_keys» = cleared t row .«row_keys»;
-        firsts = cleared t row .firsts;
-        «message_types» = cleared t row .«message_types»;
-        sizes = cleared t row .sizes;
-        owners = cleared t row .owners;
-        numbers = cleared t row .numbers;
-        versions = cleared t row .versions;
-        used = cleared t row .used;
-        «sender_keys» = sym (set-out (cleared t row .«sender_keys») (firstRow (cleared t row) (senderAt t row)) (rest .keys) (omega (arith, next-is, length-set (t .«sender_keys») row 0))) i;
-        «sender_places» = sym (set-out (cleared t row .«sender_places») (firstRow (cleared t row) (senderAt t row)) (rest .places) (omega (arith, next-is, length-set (t .«sender_places») row 0))) i;
-      }

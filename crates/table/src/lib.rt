@@ -6,6 +6,7 @@ ghost use mathlib.Core.Path.{_≡_};
 ghost use mathlib.Core.Bool.{_&&_};
 ghost use Prim.Native.Nat.{_-_, _≤_};
 ghost use lib.Dec.{eqb};
+ghost use lib.ListN.{set};
 ghost use Rattle.keys.specs.Keys.{senderOf};
 ghost use Rattle.table.specs.Rows.{keys, freshTable, firstRowIn, totalsIn, droppedKey};
 
@@ -109,6 +110,17 @@ pub fn totals_at<'a>(
     Totals { keys: 0, places: 0 }
 }
 
+// Rule T15: a list of totals with this one in a row. For a row that the table does not have, it stays.
+pub fn with_total(totals: [u8; KEYS], row: usize, total: u8) -> [u8; KEYS]
+    ensures { λ r. ⌜ r ≡ set totals row total ⌝ }
+{
+    let mut n = totals;
+    if row < KEYS {
+        n[row] = total;
+    }
+    n
+}
+
 // What is left of a after b is taken away, at least 0.
 fn less(a: u8, b: u8) -> u8
     ensures { λ r. ⌜ r ≡ a - b ⌝ }
@@ -148,10 +160,8 @@ pub fn without_key(t: Table, row: usize) -> Table
             i += 1;
         }
         let next = first_row(&n.used, &n.row_keys, sender);
-        if next < KEYS {
-            n.sender_keys[next] = less(held.keys, 1);
-            n.sender_places[next] = less(held.places, freed);
-        }
+        n.sender_keys = with_total(n.sender_keys, next, less(held.keys, 1));
+        n.sender_places = with_total(n.sender_places, next, less(held.places, freed));
     }
     n
 }

@@ -6,7 +6,7 @@ use native.Mathlib.Omega.{arith}
 use lib.ListN.{length, getD}
 use borrow.Author.Needs.{needs}
 use borrow.Author.Tests.{le-ltb, lt-ltb}
-use Rattle.table.proofs.Freed.{rowCleared, freedTo, freed-none, freed-met, freed-passed, counted-met, counted-passed, freed-all, lowered, none-left}
+use Rattle.table.proofs.Freed.{rowCleared, freedTo, freed-none, freed-met, freed-passed, counted-met, counted-passed, freed-all, lowered}
 use lib.Dec.{eqb}
 use Rattle.searching.specs.Count.{howMany}
 use Rattle.searching.proofs.Count.{count-before-all, count-next}
@@ -44,8 +44,8 @@ loop-again c =
       ⊎-elim (λ w. omega (arith, w .2, b .loop .inv .3)) (λ w. omega (arith, w .2, b .loop .inv .3)) (c .if2 .came),
     )
 
-long : (s : tie.Start Inv-loop μ-loop) → (length (s .args .t .owners) ≡ 32) × (length (s .args .t .«sender_keys») ≡ 16) × (length (s .args .t .«sender_places») ≡ 16)
-long s = (search needs, search needs, search needs)
+long : (s : tie.Start Inv-loop μ-loop) → length (s .args .t .owners) ≡ 32
+long s = search needs
 
 -- once the places are freed, and the sender's lowest row is looked up again
 module _ (f : tie.After-first-row2 Inv-loop μ-loop) where
@@ -68,7 +68,7 @@ module _ (f : tie.After-first-row2 Inv-loop μ-loop) where
   end = omega (arith, b .loop .inv .0)
 
   done : b .loop .n ≡ cleared t row
-  done = b .loop .inv .1 ∙ freed-all t row (b .loop .i) (omega (arith, long start .0))
+  done = b .loop .inv .1 ∙ freed-all t row (b .loop .i) (omega (arith, long start))
 
   its : b .before .before .before .before .before .before .before .before .before .sender-of .result ≡ senderAt t row
   its = b .before .before .before .before .before .before .before .before .before .sender-of .ensures
@@ -84,16 +84,13 @@ module _ (f : tie.After-first-row2 Inv-loop μ-loop) where
 
 returns : tie.Need-returns Inv-loop μ-loop
 returns c =
-    let f = c .before .before .before in
-    rw (lt-ltb (row f) 16 (inside f)) (lowered (t f) (row f) _ (done f) _ _ (its f) (f .first-row2 .ensures .0) _ _ (keys-less f _ (c .before .less .ensures)) (places-less f _ (c .less2 .ensures)))
+    let f = c .before .before .before .before .before .before in
+    rw (lt-ltb (row f) 16 (inside f))
+    (lowered (t f) (row f) _ (done f) _ _ (its f) (f .first-row2 .ensures .0) _ _ (keys-less f _ (c .before .before .before .before .less .ensures)) (places-less f _ (c .before .less2 .ensures))
+    _ _ (c .before .before .before .with-total .ensures) (c .with-total2 .ensures))
 
 returns-2 : tie.Need-returns-2 Inv-loop μ-loop
-returns-2 c =
-    let f = c .before in
-    rw (lt-ltb (row f) 16 (inside f)) (none-left (t f) (row f) _ (done f) _ _ (its f) (f .first-row2 .ensures .0) (long (start f) .1) (long (start f) .2) (c .if3 .left))
-
-returns-3 : tie.Need-returns-3 Inv-loop μ-loop
-returns-3 c = rw (le-ltb (c .before .args .row) 16 (c .if1 .left))
+returns-2 c = rw (le-ltb (c .before .args .row) 16 (c .if1 .left))
 
 pub without-key-spec : {M : Type 1} → statement M
 without-key-spec =
@@ -130,9 +127,8 @@ without-key-spec =
     loop-again
     (λ c κs. search needs)
     (λ c κs. search needs)
-    (λ c. search needs)
     (λ c κs. search needs)
-    (λ c. search needs)
+    (λ c κs. search needs)
+    (λ c κs. search needs)
     returns
-    returns-2
-    returns-3)
+    returns-2)
