@@ -67,14 +67,15 @@ module _ (t : Table) (s : Sound t) (store : List ℕ) (a : Arrival) (payload : L
   free-owner i e h = eqb-true _ _ (ap (λ (k : ℕ). isFree (placeAt t k)) e ∙ lowest-holds (λ k. isFree (placeAt t k)) 32 (omega arith))
 
   push-apart : {w : Way} → Went t store a payload room w → Untouched key t (tableBy w t a (length payload)) store (storeBy w store payload)
-  push-apart (went-refuse n values) = ((λ number. refl), refl)
+  unfolding keptAt firstTime
+  push-apart (went-refuse n values why) = ((λ number. refl), refl)
   push-apart went-duplicate = ((λ number. refl), refl)
-  push-apart (went-keep i h₁ h₂ h₃ l e h k) =
+  push-apart (went-keep i h₁ h₂ h₃ l e h k share) =
       let free = free-owner i e h in
       let p = placeFor own (a .fragment) (length payload) in
       untouched-by key t (withPlace t i p) store (paste store (i * 1492) payload (length payload)) refl (λ q. refl)
       (put-same t s store payload (rowOf t key) i p h h₁ h₂ (λ f. omega arith) (λ f. apart k (omega arith)))
-  push-apart (went-open i row h₁ h₂ h₃ l e h k e₂ h₄) =
+  push-apart (went-open i row h₁ h₂ h₃ l e h k e₂ h₄ share share₂) =
       let free = free-owner i e h in
       let spare : getD (t .used) row false ≡ false = ap (λ (r : ℕ). getD (t .used) r false) e₂ ∙ not-true _ (lowest-holds (isSpare t) 16 (omega arith)) in
       let ne : rowOf t key ≡ row → ⊥ = λ same. false≢true (sym spare ∙ ap (λ (r : ℕ). getD (t .used) r false) (sym same) ∙ row-holds t key (omega arith) .0) in

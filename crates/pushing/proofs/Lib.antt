@@ -1,7 +1,9 @@
 pub mod Byte
 pub mod Ways
 pub mod Sound
+pub mod InStep
 pub mod Pieces
+pub mod Kept
 pub mod Steps
 pub mod Verdicts
 pub mod Firm

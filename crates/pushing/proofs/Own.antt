@@ -160,13 +160,13 @@ module _ (t : Table) (s : Sound t) (store : List ℕ) (a : Arrival) (payload : L
       × (firstTime (tableBy w t a (length payload)) (a .key) ≡ sinceAfter w (firstTime t (a .key)) (a .time))
 
   told-by : {w : Way} → Went t store a payload room w → Told w
-  unfolding firstTime
-  told-by (went-refuse n values) = ((λ k. refl), refl)
+  unfolding firstTime keptAt
+  told-by (went-refuse n values why) = ((λ k. refl), refl)
   told-by went-duplicate = ((λ k. refl), refl)
-  told-by (went-keep i h₁ h₂ h₃ l e h k) =
+  told-by (went-keep i h₁ h₂ h₃ l e h k share) =
       let free : placeAt t i .owner ≡ 0 = eqb-true _ _ (ap (λ (j : ℕ). isFree (placeAt t j)) e ∙ lowest-holds (λ j. isFree (placeAt t j)) 32 (omega arith)) in
       (put-held t s store payload own i (a .fragment) h h₁ h₂ l (not-held t s own number h₃) (λ f. omega arith), refl)
-  told-by (went-open i row h₁ h₂ h₃ l e h k e₂ h₄) =
+  told-by (went-open i row h₁ h₂ h₃ l e h k e₂ h₄ share share₂) =
       let free : placeAt t i .owner ≡ 0 = eqb-true _ _ (ap (λ (j : ℕ). isFree (placeAt t j)) e ∙ lowest-holds (λ j. isFree (placeAt t j)) 32 (omega arith)) in
       let spare : getD (t .used) row false ≡ false = ap (λ (r : ℕ). getD (t .used) r false) e₂ ∙ not-true _ (lowest-holds (isSpare t) 16 (omega arith)) in
       let t₁ = withKey t row (a .key) (a .time) in

@@ -4,19 +4,23 @@ use mathlib.Core.List.{List}
 use mathlib.Core.Bool.{Bool, true, false, cond}
 use Prim.Native.Nat.{ℕ, _*_, _≤_, _<_}
 use native.Mathlib.Omega.{arith}
-use lib.Dec.{ltb, leb}
+use lib.Dec.{ltb}
 use lib.ListN.{length}
 use lib.Seq.{paste}
-use borrow.Author.Tests.{ltb-true, ltb-false, leb-true, leb-false}
+use borrow.Author.Tests.{ltb-true, ltb-false}
 use Rattle.table.specs.declared.Table.{Table}
+use Rattle.table.specs.declared.Totals.{Totals}
 use Rattle.pushing.specs.declared.Arrival.{Arrival}
 use Rattle.pushing.specs.declared.join.Verdict.{Verdict}
+use Rattle.pushing.specs.declared.look.LookedUp.{LookedUp}
 use Rattle.pushing.specs.declared.Pushed.the-variants.{WaitingForMoreFragments}
 use Rattle.pushing.specs.declared.choose.Step.the-variants.{Keep}
-use Rattle.table.specs.Rows.{rowOf, withPlace, droppedKey}
+use Rattle.table.specs.Rows.{rowOf, droppedKey}
 use Rattle.pushing.specs.Joining.{heldOf, heldIn, andNew}
-use Rattle.pushing.specs.Push.{Way, refuse, duplicate, keepAt, openAt, end, joinedWith, lookedUp, way, placeFor, tableBy, storeBy, Goes}
-use Rattle.pushing.specs.PrivateSteps.{stepWay, underRow, dropBy, Ends, opened}
+use Rattle.pushing.specs.Push.{Way, refuse, duplicate, keepAt, openAt, end, joinedWith, lookedUp, ownTotals, way, tableBy, storeBy, Goes}
+use Rattle.pushing.specs.PrivateSteps.{stepWay, underRow, dropBy, Ends, keptBy}
+use Rattle.table.proofs.Sound.{Sound}
+use Rattle.pushing.proofs.Kept.{keeps-there, opens-new}
 use Rattle.pushing.proofs.Ways.{by-ends, Went, went, went-refuse, went-duplicate, went-keep, went-open, went-end}
 
 module _ (t : Table) (store : List ℕ) (a : Arrival) (payload : List ℕ) (room : ℕ) where
@@ -30,36 +34,38 @@ module _ (t : Table) (store : List ℕ) (a : Arrival) (payload : List ℕ) (room
   abbrev Room : Way → Type 0
   Room (refuse n values) = Unit {0}
   Room duplicate = Unit {0}
-  Room (keepAt i) = (47744 ≤ length store) × (length payload ≤ 1492) × (i < 32) × (row < 16)
-  Room (openAt i r) = (47744 ≤ length store) × (length payload ≤ 1492) × (i < 32) × (r < 16)
+  Room (keepAt i) = (47744 ≤ length store) × (length payload ≤ 1492) × (i < 32) × (row < 16) × (ownTotals t a .places < 8) × (16 ≤ row → ownTotals t a .keys < 4)
+  Room (openAt i r) = (47744 ≤ length store) × (length payload ≤ 1492) × (i < 32) × (r < 16) × (ownTotals t a .places < 8) × (16 ≤ row → ownTotals t a .keys < 4)
   Room (end h bytes) = Unit {0}
 
   has-room : {w : Way} → Went t store a payload room w → Room w
-  has-room (went-refuse n values) = tt
+  has-room (went-refuse n values why) = tt
   has-room went-duplicate = tt
-  has-room (went-keep i h₁ h₂ h₃ l e h k) = (h₁, h₂, h, k)
-  has-room (went-open i r h₁ h₂ h₃ l e h k e₂ h₄) = (h₁, h₂, h, h₄)
+  has-room (went-keep i h₁ h₂ h₃ l e h k share) = (h₁, h₂, h, k, share, λ out. absurd (omega arith))
+  has-room (went-open i r h₁ h₂ h₃ l e h k e₂ h₄ share share₂) = (h₁, h₂, h, h₄, share, λ out. share₂)
   has-room (went-end h bytes h₁ h₂ h₃ l e) = tt
 
-  pub keep-room : (joins : Way) → its ≡ stepWay (lookedUp t a) Keep joins → (47744 ≤ length store) × (length payload ≤ 1492) × (lookedUp t a .free < 32) × (underRow (lookedUp t a) < 16)
+  -- what a fragment that is kept needs, for some look-ups and totals
+  abbrev pub Fits : LookedUp → Totals → Type 0
+  Fits found held = (47744 ≤ length store) × (length payload ≤ 1492) × (found .free < 32) × (underRow found < 16) × (held .places < 8) × (16 ≤ found .row → held .keys < 4)
+
+  pub keep-room : (joins : Way) → its ≡ stepWay (lookedUp t a) Keep joins → Fits (lookedUp t a) (ownTotals t a)
   keep-room joins e = by-row (ltb row 16) e
     where
-      by-row : (b : Bool) → its ≡ cond b (keepAt (lookedUp t a .free)) (openAt (lookedUp t a .free) (lookedUp t a .spare)) → (47744 ≤ length store) × (length payload ≤ 1492) × (lookedUp t a .free < 32) × (cond b row (lookedUp t a .spare) < 16)
+      by-row : (b : Bool) → its ≡ cond b (keepAt (lookedUp t a .free)) (openAt (lookedUp t a .free) (lookedUp t a .spare))
+          → (47744 ≤ length store) × (length payload ≤ 1492) × (lookedUp t a .free < 32) × (cond b row (lookedUp t a .spare) < 16) × (ownTotals t a .places < 8) × (16 ≤ row → ownTotals t a .keys < 4)
       by-row true q = subst Room q (has-room (went t store a payload room))
       by-row false q = subst Room q (has-room (went t store a payload room))
 
-  pub keep-goes : (joins : Way) → its ≡ stepWay (lookedUp t a) Keep joins → (out : List ℕ)
-      → Goes its t store out a payload WaitingForMoreFragments (withPlace (opened (leb 16 row) t (underRow (lookedUp t a)) a) (lookedUp t a .free) (placeFor (underRow (lookedUp t a)) (a .fragment) (length payload)))
-      (paste store (lookedUp t a .free * 1492) payload (length payload)) out
-  keep-goes joins e out = rw e (by-row (ltb row 16) refl (leb 16 row) refl)
+  pub keep-goes : Sound t → (joins : Way) → its ≡ stepWay (lookedUp t a) Keep joins → (out : List ℕ)
+      → Goes its t store out a payload WaitingForMoreFragments (keptBy (lookedUp t a) (ownTotals t a) t a (length payload)) (paste store (lookedUp t a .free * 1492) payload (length payload)) out
+  keep-goes s joins e out = rw e (by-row (ltb row 16) refl (keep-room joins e .3))
     where
-      by-row : (b : Bool) → ltb row 16 ≡ b → (c : Bool) → leb 16 row ≡ c
+      by-row : (b : Bool) → ltb row 16 ≡ b → underRow (lookedUp t a) < 16
           → Goes (cond b (keepAt (lookedUp t a .free)) (openAt (lookedUp t a .free) (lookedUp t a .spare))) t store out a payload WaitingForMoreFragments
-          (withPlace (opened c t (cond b row (lookedUp t a .spare)) a) (lookedUp t a .free) (placeFor (cond b row (lookedUp t a .spare)) (a .fragment) (length payload))) (paste store (lookedUp t a .free * 1492) payload (length payload)) out
-      by-row true p true q = absurd (omega (arith, ltb-true row 16 p, leb-true 16 row q))
-      by-row true p false q = record { answers = refl; keeps = refl; stores = refl; puts = refl }
-      by-row false p true q = record { answers = refl; keeps = refl; stores = refl; puts = refl }
-      by-row false p false q = absurd (omega (arith, ltb-false row 16 p, leb-false 16 row q))
+          (keptBy (lookedUp t a) (ownTotals t a) t a (length payload)) (paste store (lookedUp t a .free * 1492) payload (length payload)) out
+      by-row true p l = record { answers = refl; keeps = keeps-there t s a (length payload) (ltb-true _ _ p); stores = refl; puts = refl }
+      by-row false p l = record { answers = refl; keeps = opens-new t s a (length payload) (ltb-false _ _ p) (rw p at l); stores = refl; puts = refl }
 
   -- a last fragment drops its key or changes nothing
   abbrev Left : Way → Type 0

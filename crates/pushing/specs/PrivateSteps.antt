@@ -3,10 +3,12 @@ use mathlib.Core.Path.{_≡_}
 use mathlib.Core.List.{List}
 use mathlib.Core.Bool.{Bool, false, cond, not, _&&_, _||_}
 use Prim.Native.Nat.{ℕ, zero, suc, _+_, _≤_}
-use lib.Dec.{eqb, ltb}
+use lib.Dec.{eqb, ltb, leb}
 use lib.ListN.{length, getD}
 use Rattle.numbers.specs.Numbers.{number, values}
+use Rattle.keys.specs.Keys.{senderOf}
 use Rattle.table.specs.declared.Table.{Table}
+use Rattle.table.specs.declared.Totals.{Totals}
 use Rattle.pushing.specs.declared.Arrival.{Arrival}
 use Rattle.pushing.specs.declared.join.Reach.{Reach}
 use Rattle.pushing.specs.declared.join.Verdict.{Verdict}
@@ -16,9 +18,9 @@ use Rattle.pushing.specs.declared.look.LookedUp.{LookedUp}
 use Rattle.pushing.specs.declared.choose.Step.{Step}
 use Rattle.pushing.specs.declared.choose.Step.the-variants.{Refuse, Duplicate, Keep, Join}
 use Rattle.searching.specs.Search.{lowest}
-use Rattle.table.specs.Rows.{keys, places, ownerOf, bytesAt, withKey}
+use Rattle.table.specs.Rows.{keys, places, ownerOf, bytesAt, withKey, withPlace, firstRowIn, noTotals, putTotals}
 use Rattle.pushing.specs.Joining.{inOrder}
-use Rattle.pushing.specs.Push.{Way, refuse, duplicate, keepAt, openAt, end, joinBy, pushedOf, over, answerBy, outputBy}
+use Rattle.pushing.specs.Push.{Way, refuse, duplicate, keepAt, openAt, end, joinBy, placeFor, pushedOf, over, answerBy, outputBy}
 
 -- the look-ups, in the lists that they are lent
 abbrev pub rowIn : List Bool → List ℕ → ℕ → ℕ
@@ -46,6 +48,7 @@ lookedIn used row-keys owners numbers key number = record {
   place = numberedIn owners numbers (ownerOf (rowIn used row-keys key)) number;
   free = lowestFreeIn owners;
   spare = spareRowIn used;
+  first = firstRowIn used row-keys (senderOf key);
 }
 
 -- where the piece with number k lies: in a place, at `places` where there is none, and at the number after that where
@@ -127,6 +130,15 @@ pub record Ends (w : Way) (row : ℕ) (r : Verdict) (out out′ : List ℕ) : Ty
   pub drops : r .dropped ≡ dropBy w row
   pub puts : out′ ≡ outputBy w out
 
--- a row gets the key, or has it
-abbrev pub opened : Bool → Table → ℕ → Arrival → Table
-opened opens t row a = cond opens (withKey t row (a .key) (a .time)) t
+-- Rules T6 and T15: a row gets the key, and the sender's totals leave its lowest row; or the row has the key.
+abbrev pub opened : Bool → Table → (first row : ℕ) → Arrival → Table
+opened opens t first row a = cond opens (withKey (putTotals t first noTotals) row (a .key) (a .time)) t
+
+abbrev pub lower : ℕ → ℕ → ℕ
+lower a b = cond (ltb a b) a b
+
+-- Rules T6 and T15: a fragment is kept where there is room for it.
+abbrev pub keptBy : LookedUp → Totals → Table → Arrival → (size : ℕ) → Table
+keptBy found held t a size =
+    putTotals (withPlace (opened (leb keys (found .row)) t (found .first) (underRow found) a) (found .free) (placeFor (underRow found) (a .fragment) size))
+    (lower (underRow found) (found .first)) (record { keys = cond (leb keys (found .row)) (held .keys + 1) (held .keys); places = held .places + 1 })

@@ -1,19 +1,21 @@
--- Push (rules T4 to T9): which way it goes, and what each way does.
+-- Push (rules T4 to T9, and T15): which way it goes, and what each way does.
 use mathlib.Core.Path.{_≡_}
 use mathlib.Core.List.{List, [], _∷_, _++_}
-use mathlib.Core.Bool.{Bool, cond, not}
-use Prim.Native.Nat.{ℕ, _*_, _-_}
+use mathlib.Core.Bool.{Bool, cond, not, _&&_, _||_}
+use Prim.Native.Nat.{ℕ, _+_, _*_, _-_}
 use lib.Dec.{ltb, leb}
 use lib.ListN.{length, drop}
 use lib.Seq.{paste}
 use Rattle.numbers.specs.Numbers.{Answer, gives, refuses, told}
+use Rattle.keys.specs.Keys.{senderOf}
 use Rattle.table.specs.declared.Table.{Table}
+use Rattle.table.specs.declared.Totals.{Totals}
 use Rattle.pushing.specs.declared.Fragment.{Fragment}
 use Rattle.pushing.specs.declared.Arrival.{Arrival}
 use Rattle.pushing.specs.declared.Pushed.{Pushed}
 use Rattle.pushing.specs.declared.look.LookedUp.{LookedUp}
 use Rattle.pushing.specs.declared.Pushed.the-variants.{WaitingForMoreFragments, DuplicatedFragment, InconsistentMetadata, MissingFragments, MissingLastFragment, Single, Joined, Refused}
-use Rattle.table.specs.Rows.{keys, places, placeSize, storeSize, Place, ownerOf, rowOf, spareRow, placeOf, lowestFree, withKey, withPlace, droppedKey}
+use Rattle.table.specs.Rows.{keys, places, placeSize, storeSize, mostKeys, mostPlaces, Place, ownerOf, rowOf, spareRow, placeOf, lowestFree, withKey, withPlace, firstRow, noTotals, totalsOf, withTotals, droppedKey}
 use Rattle.pushing.specs.Joining.{Held, Fragments, heldOf, heldIn, andNew, inconsistentWith, gapped, isLast, reach, payloads}
 
 -- Rules T5 to T9: what push answers where it does not refuse.
@@ -65,18 +67,33 @@ wayBy stored size place last keeps joins =
     -- rule T7: it is marked last
     joins)))
 
--- what decides a push: the row of its key, the place that holds its number there, the lowest free place, and the lowest
--- free row
+-- what decides a push: the row of its key, the place that holds its number there, the lowest free place, the lowest
+-- free row, and the lowest row of its sender; and what its sender holds
 abbrev pub lookedUp : Table → Arrival → LookedUp
-lookedUp t a = record { row = rowOf t (a .key); place = placeOf t (rowOf t (a .key)) (a .fragment .number); free = lowestFree t; spare = spareRow t }
+lookedUp t a = record {
+  row = rowOf t (a .key);
+  place = placeOf t (rowOf t (a .key)) (a .fragment .number);
+  free = lowestFree t;
+  spare = spareRow t;
+  first = firstRow t (senderOf (a .key));
+}
 
--- Rule T6: 10 if no place is free, or if the key holds nothing and no row is free. Otherwise the fragment is kept.
-unfoldable pub keepWay : LookedUp → Way
-keepWay found =
-    cond (leb places (found .free)) (refuse 10 [])
+abbrev pub ownTotals : Table → Arrival → Totals
+ownTotals t a = totalsOf t (senderOf (a .key))
+
+-- Rule T6: the sender holds its share. It has 8 places, or it has 4 keys and its key holds nothing.
+abbrev pub hasShare : LookedUp → Totals → Bool
+hasShare found held = leb mostPlaces (held .places) || (leb keys (found .row) && leb mostKeys (held .keys))
+
+-- Rule T6: 20 if the sender holds its share. Then 10 if no place is free, or if the key holds nothing and no row is free.
+-- Otherwise the fragment is kept.
+unfoldable pub keepWay : LookedUp → Totals → Way
+keepWay found held =
+    cond (hasShare found held) (refuse 20 [])
+    (cond (leb places (found .free)) (refuse 10 [])
     (cond (ltb (found .row) keys) (keepAt (found .free))
     (cond (leb keys (found .spare)) (refuse 10 [])
-    (openAt (found .free) (found .spare))))
+    (openAt (found .free) (found .spare)))))
 
 -- Rule T9: a whole message of n fragments, where `room` is the output's length. A single fragment needs no output. For
 -- several, an output shorter than the message is refused by 13 with the message's length.
@@ -105,19 +122,32 @@ joinedWith t store row f payload room = joinWay (heldOf f payload) (andNew (held
 -- Rules T4 to T9: the way that a push goes. It depends on no age and on no TLV (rule T13).
 unfoldable pub way : Table → List ℕ → Arrival → List ℕ → (room : ℕ) → Way
 way t store a payload room =
-    wayBy (length store) (length payload) (lookedUp t a .place) (a .fragment .last) (keepWay (lookedUp t a))
+    wayBy (length store) (length payload) (lookedUp t a .place) (a .fragment .last) (keepWay (lookedUp t a) (ownTotals t a))
     (joinedWith t store (rowOf t (a .key)) (a .fragment) payload room)
 
 -- Rule T3: a fragment as its place keeps it.
 abbrev pub placeFor : ℕ → Fragment → ℕ → Place
 placeFor row f size = record { message-type = f .«message_type»; size = size; owner = ownerOf row; number = f .number; version = f .version }
 
+-- Rules T6 and T15: a fragment is kept under the row of its key, and its sender holds a place more.
+abbrev pub keptUnder : Table → ℕ → Arrival → ℕ → Table
+keptUnder t i a size =
+    withTotals (withPlace t i (placeFor (rowOf t (a .key)) (a .fragment) size))
+    (senderOf (a .key)) (record { keys = ownTotals t a .keys; places = ownTotals t a .places + 1 })
+
+-- Rules T6 and T15: a row that was free gets the key, and a place the fragment. The sender holds both more. Its totals
+-- leave the row that was its lowest, because the new one may be lower.
+abbrev pub openedFor : Table → ℕ → ℕ → Arrival → ℕ → Table
+openedFor t i row a size =
+    withTotals (withPlace (withKey (withTotals t (senderOf (a .key)) noTotals) row (a .key) (a .time)) i (placeFor row (a .fragment) size))
+    (senderOf (a .key)) (record { keys = ownTotals t a .keys + 1; places = ownTotals t a .places + 1 })
+
 -- Rules A3 and T5 to T7: what each way does to the table; `size` is the payload's length.
 abbrev pub tableBy : Way → Table → Arrival → ℕ → Table
 tableBy (refuse n values) t a size = t
 tableBy duplicate t a size = t
-tableBy (keepAt i) t a size = withPlace t i (placeFor (rowOf t (a .key)) (a .fragment) size)
-tableBy (openAt i row) t a size = withPlace (withKey t row (a .key) (a .time)) i (placeFor row (a .fragment) size)
+tableBy (keepAt i) t a size = keptUnder t i a size
+tableBy (openAt i row) t a size = openedFor t i row a size
 tableBy (end h bytes) t a size = droppedKey t (rowOf t (a .key))
 
 -- Rules T6 and T11: what each way does to the store. A kept fragment's payload goes to its place, and all else stays.

@@ -8,16 +8,15 @@ mod rows;
 
 use choose::Step;
 use choose::choose;
-use choose::under_row;
 use join::compare;
 use join::finish;
 use look::look_up;
 use numbers::Refusal;
 use rows::copy;
 use rows::with_fragment;
-use table::KEYS;
 use table::PLACE_SIZE;
 use table::Table;
+use table::totals_at;
 use table::without_key;
 ghost use lib.ListN.{length};
 ghost use Rattle.pushing.specs.Push.{way, Goes};
@@ -80,7 +79,8 @@ pub fn push_step(
         a.key,
         a.fragment.number,
     );
-    let step = choose(found, store.len(), payload.len(), a.fragment.last);
+    let held = totals_at(&t.sender_keys, &t.sender_places, found.first);
+    let step = choose(found, held, store.len(), payload.len(), a.fragment.last);
     match step {
         Step::Refuse(refusal) => AfterPush {
             table: t,
@@ -93,8 +93,7 @@ pub fn push_step(
         Step::Keep => {
             let size = payload.len();
             copy(payload, 0, size, store, found.free * PLACE_SIZE);
-            let under = under_row(found);
-            let table = with_fragment(t, found.free, under, KEYS <= found.row, a, size);
+            let table = with_fragment(t, found, held, a, size);
             AfterPush {
                 table,
                 answer: Pushed::WaitingForMoreFragments,

@@ -1,11 +1,14 @@
 // Looking up in the table: one pass for each question, over the lists that it needs, which are lent.
+use keys::sender_of;
 use table::KEYS;
 use table::PLACES;
+use table::first_row;
 ghost use mathlib.Core.Path.{_≡_};
 ghost use mathlib.Core.Bool.{not, _&&_};
 ghost use Prim.Native.Nat.{_≤_};
 ghost use lib.Dec.{eqb, ltb};
-ghost use Rattle.table.specs.Rows.{keys, places, ownerOf};
+ghost use Rattle.keys.specs.Keys.{senderOf};
+ghost use Rattle.table.specs.Rows.{keys, places, ownerOf, firstRowIn};
 ghost use Rattle.pushing.specs.PrivateSteps.{rowIn, spareRowIn, lowestFreeIn, numberedIn, unlikeIn, beyondIn, lookedIn};
 
 pub(crate) fn is_key(used: bool, own: u64, key: u64) -> bool
@@ -14,11 +17,17 @@ pub(crate) fn is_key(used: bool, own: u64, key: u64) -> bool
     if used { own == key } else { false }
 }
 
-// The row of a key, `KEYS` where there is none.
-pub(crate) fn find_key<'a>(used: &'a [bool; KEYS], row_keys: &'a [u64; KEYS], key: u64) -> usize
+// The row of a key, `KEYS` where there is none. The search starts at the lowest row of the key's sender.
+pub(crate) fn find_key<'a>(
+    used: &'a [bool; KEYS],
+    row_keys: &'a [u64; KEYS],
+    first: usize,
+    key: u64,
+) -> usize
+    requires { ⌜ first ≡ firstRowIn (now used) (now «row_keys») (senderOf key) ⌝ }
     ensures { λ r. ⌜ (r ≡ rowIn (now (used .entry)) (now («row_keys» .entry)) key) × (r ≤ keys) ⌝ }
 {
-    let mut i: usize = 0;
+    let mut i = first;
     while i < KEYS {
         if is_key(used[i], row_keys[i], key) {
             return i;
@@ -179,6 +188,8 @@ pub(crate) struct LookedUp {
     pub free: usize,
     // the lowest free row
     pub spare: usize,
+    // the lowest row of its sender
+    pub first: usize,
 }
 
 pub(crate) fn look_up<'a>(
@@ -192,7 +203,8 @@ pub(crate) fn look_up<'a>(
     requires { ⌜ (keys ≤ rowIn (now used) (now «row_keys») key → places ≤ numberedIn (now owners) (now numbers) (ownerOf (rowIn (now used) (now «row_keys») key)) number) ⌝ }
     ensures { λ r. ⌜ r ≡ lookedIn (now (used .entry)) (now («row_keys» .entry)) (now (owners .entry)) (now (numbers .entry)) key number ⌝ }
 {
-    let row = find_key(used, row_keys, key);
+    let first = first_row(used, row_keys, sender_of(key));
+    let row = find_key(used, row_keys, first, key);
     let place = held_at(owners, numbers, row, number);
     let free = find_free(owners);
     let spare = find_spare(used);
@@ -201,5 +213,6 @@ pub(crate) fn look_up<'a>(
         place,
         free,
         spare,
+        first,
     }
 }

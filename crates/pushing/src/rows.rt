@@ -1,13 +1,17 @@
 // Changes to the table's rows and places, and to the bytes that belong to them.
 use crate::Arrival;
+use crate::choose::under_row;
+use crate::look::LookedUp;
+use table::KEYS;
 use table::Table;
+use table::Totals;
+use table::with_total;
 ghost use mathlib.Core.Path.{_≡_};
 ghost use Prim.Native.Nat.{_+_, _≤_, _<_};
 ghost use lib.ListN.{length, drop};
 ghost use lib.Seq.{paste};
-ghost use Rattle.table.specs.Rows.{keys, places, placeSize, withPlace};
-ghost use Rattle.pushing.specs.Push.{placeFor};
-ghost use Rattle.pushing.specs.PrivateSteps.{opened};
+ghost use Rattle.table.specs.Rows.{keys, places, placeSize, mostKeys, mostPlaces};
+ghost use Rattle.pushing.specs.PrivateSteps.{underRow, lower, keptBy};
 
 // n bytes of src, from the byte `from` on, go to dst, from the byte `at` on.
 pub(crate) fn copy(src: &[u8], from: usize, n: usize, dst: &mut [u8], at: usize)
@@ -21,28 +25,43 @@ pub(crate) fn copy(src: &[u8], from: usize, n: usize, dst: &mut [u8], at: usize)
     }
 }
 
-// Rule T6: the table with a fragment in a place, under a row that has its key or gets it.
+fn lower_of(a: usize, b: usize) -> usize
+    ensures { λ r. ⌜ r ≡ lower a b ⌝ }
+{
+    if a < b { a } else { b }
+}
+
+// Rules T6 and T15: the table with a fragment in the lowest free place, under the row that has its key or gets it. A row
+// that gets its key may be the lowest one of its sender, with which the totals are.
 pub(crate) fn with_fragment(
     t: Table,
-    place: usize,
-    row: usize,
-    opens: bool,
+    found: LookedUp,
+    held: Totals,
     a: Arrival,
     size: usize,
 ) -> Table
-    requires { ⌜ (place < places) × (row < keys) × (size ≤ placeSize) ⌝ }
-    ensures { λ r. ⌜ r ≡ withPlace (opened opens t row a) place (placeFor row (a .fragment) size) ⌝ }
+    requires { ⌜ (found .free < places) × (underRow found < keys) × (held .places < mostPlaces) × (keys ≤ found .row → held .keys < mostKeys) × (size ≤ placeSize) ⌝ }
+    ensures { λ r. ⌜ r ≡ keptBy found held t a size ⌝ }
 {
     let mut n = t;
-    if opens {
+    let place = found.free;
+    let row = under_row(found);
+    let mut keys = held.keys;
+    if KEYS <= found.row {
+        n.sender_keys = with_total(n.sender_keys, found.first, 0);
+        n.sender_places = with_total(n.sender_places, found.first, 0);
         n.row_keys[row] = a.key;
         n.firsts[row] = a.time;
         n.used[row] = true;
+        keys += 1;
     }
     n.message_types[place] = a.fragment.message_type;
     n.sizes[place] = size as u16;
     n.owners[place] = row as u8 + 1;
     n.numbers[place] = a.fragment.number;
     n.versions[place] = a.fragment.version;
+    let first = lower_of(row, found.first);
+    n.sender_keys = with_total(n.sender_keys, first, keys);
+    n.sender_places = with_total(n.sender_places, first, held.places + 1);
     n
 }

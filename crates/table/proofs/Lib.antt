@@ -1,5 +1,5 @@
 pub mod Wiped
-mod Freed
+pub mod Freed
 pub mod Places
 pub mod Sound
 pub mod Apart

@@ -4,11 +4,11 @@ use mathlib.Core.List.{List, []}
 use mathlib.Core.Bool.{true}
 use Prim.Native.Nat.{ℕ, _*_, _≤_, _<_}
 use native.Mathlib.Omega.{arith}
-use lib.Dec.{leb}
 use lib.ListN.{length}
 use lib.Seq.{paste}
 use denote.Ref.{now}
 use Rattle.table.specs.declared.Table.{Table}
+use Rattle.table.specs.declared.Totals.{Totals}
 use Rattle.pushing.specs.declared.Arrival.{Arrival}
 use Rattle.pushing.specs.declared.Pushed.the-variants.{WaitingForMoreFragments}
 use Rattle.pushing.specs.declared.join.Verdict.{Verdict}
@@ -16,16 +16,16 @@ use Rattle.pushing.specs.declared.join.Compared.{Compared}
 use Rattle.pushing.specs.declared.look.LookedUp.{LookedUp}
 use Rattle.pushing.specs.declared.choose.Step.{Step}
 use Rattle.pushing.specs.declared.choose.Step.the-variants.{Keep, Join}
-use Rattle.table.specs.Rows.{placeOf, isRowOf, rowOf, withPlace, droppedKey}
-use Rattle.pushing.specs.Push.{Way, end, missing, lookedUp, keepWay, joinedWith, wayBy, way, placeFor, Goes}
-use Rattle.pushing.specs.PrivateSteps.{stepWay, underRow, opened, comparedIn, joinIn, Ends}
+use Rattle.table.specs.Rows.{placeOf, isRowOf, rowOf, totalsIn, droppedKey}
+use Rattle.pushing.specs.Push.{Way, end, missing, lookedUp, ownTotals, keepWay, joinedWith, wayBy, way, Goes}
+use Rattle.pushing.specs.PrivateSteps.{stepWay, keptBy, comparedIn, joinIn, Ends}
 use Rattle.table.proofs.Sound.{no-place}
 use Rattle.searching.proofs.Search.{lowest-le}
 use Rattle.pushing.proofs.Byte.{number-byte}
 use Rattle.pushing.proofs.Sound.{sound}
 use Rattle.pushing.proofs.Ways.{reached}
 use Rattle.pushing.proofs.Pieces.{judged}
-use Rattle.pushing.proofs.Steps.{keep-room, keep-goes, join-goes}
+use Rattle.pushing.proofs.Steps.{Fits, keep-room, keep-goes, join-goes}
 use borrow.Author.Needs.{needs}
 use Rattle.pushing.proofs.push_step.Statement.{statement}
 use Rattle.pushing.proofs.push_step.Tie as tie
@@ -33,7 +33,7 @@ use Rattle.pushing.proofs.push_step.Tie as tie
 -- once the step is chosen
 module _ (c : tie.After-choose) where
   abbrev start : tie.Start
-  start = c .before .before .before .before .before .before .before .before .before .before
+  start = c .before .before .before .before .before .before .before .before .before .before .before .before .before .before
 
   abbrev t : Table
   t = start .args .t1
@@ -51,7 +51,10 @@ module _ (c : tie.After-choose) where
   payload = now (start .args .payload)
 
   abbrev found : LookedUp
-  found = c .before .look-up .result
+  found = c .before .before .before .before .before .look-up .result
+
+  abbrev held : Totals
+  held = c .before .totals-at .result
 
   abbrev its : Way
   its = way t stored arrival payload (length lent)
@@ -60,29 +63,32 @@ module _ (c : tie.After-choose) where
   joins = joinedWith t stored (rowOf t (arrival .key)) (arrival .fragment) payload (length lent)
 
   found-is : found ≡ lookedUp t arrival
-  found-is = c .before .look-up .ensures
+  found-is = c .before .before .before .before .before .look-up .ensures
+
+  held-is : held ≡ ownTotals t arrival
+  held-is = c .before .totals-at .ensures ∙ ap (λ (l : LookedUp). totalsIn (t .«sender_keys») (t .«sender_places») (l .first)) found-is
 
   way-is : (step : Step) → c .choose .result ≡ step → its ≡ stepWay (lookedUp t arrival) step joins
   unfolding way
   way-is step told =
-      sym (ap (λ (l : LookedUp). wayBy (length stored) (length payload) (l .place) (arrival .fragment .last) (keepWay l) joins) found-is)
+      sym (λ i. wayBy (length stored) (length payload) (found-is i .place) (arrival .fragment .last) (keepWay (found-is i) (held-is i)) joins)
       ∙ sym (c .choose .ensures joins)
       ∙ ap (λ (s : Step). stepWay found s joins) told
       ∙ ap (λ (l : LookedUp). stepWay l step joins) found-is
 
-  room : c .choose .result ≡ Keep → (47744 ≤ length stored) × (length payload ≤ 1492) × (found .free < 32) × (underRow found < 16)
+  room : c .choose .result ≡ Keep → Fits t stored arrival payload (length lent) found held
   room told =
-      subst (λ (l : LookedUp). (47744 ≤ length stored) × (length payload ≤ 1492) × (l .free < 32) × (underRow l < 16)) (sym found-is)
-      (keep-room t stored arrival payload (length lent) joins (way-is Keep told))
+      let fits = Fits t stored arrival payload (length lent) in
+      subst (λ (h : Totals). fits found h) (sym held-is)
+      (subst (λ (l : LookedUp). fits l (ownTotals t arrival)) (sym found-is) (keep-room t stored arrival payload (length lent) joins (way-is Keep told)))
 
-  kept : c .choose .result ≡ Keep → (under : ℕ) → under ≡ underRow found → (t′ : Table) → t′ ≡ withPlace (opened (leb 16 (found .row)) t under arrival) (found .free) (placeFor under (arrival .fragment) (length payload))
+  kept : c .choose .result ≡ Keep → (t′ : Table) → t′ ≡ keptBy found held t arrival (length payload)
       → (stored′ : List ℕ) → stored′ ≡ paste stored (found .free * 1492) payload (length payload) → Goes its t stored lent arrival payload WaitingForMoreFragments t′ stored′ lent
-  kept told under is t′ keeps stored′ stores =
-      let goes = keep-goes t stored arrival payload (length lent) joins (way-is Keep told) lent in
-      let put : LookedUp → ℕ → Table = λ l u. withPlace (opened (leb 16 (l .row)) t u arrival) (l .free) (placeFor u (arrival .fragment) (length payload)) in
+  kept told t′ keeps stored′ stores =
+      let goes = keep-goes t stored arrival payload (length lent) (sound (start .pre)) joins (way-is Keep told) lent in
       record {
         answers = goes .answers;
-        keeps = keeps ∙ ap (put found) is ∙ ap (λ (l : LookedUp). put l (underRow l)) found-is ∙ goes .keeps;
+        keeps = keeps ∙ (λ i. keptBy (found-is i) (held-is i) t arrival (length payload)) ∙ goes .keeps;
         stores = stores ∙ ap (λ (l : LookedUp). paste stored (l .free * 1492) payload (length payload)) found-is ∙ goes .stores;
         puts = goes .puts;
       }
@@ -94,7 +100,7 @@ module _ (c : tie.After-choose) where
   row-in = omega (arith, row-is, lowest-le (isRowOf t (arrival .key)) 16)
 
   at-end : c .choose .result ≡ Join → (47744 ≤ length stored) × (length payload ≤ 1492) × (32 ≤ found .place) × (arrival .fragment .last ≡ true)
-  at-end told = reached (length stored) (length payload) found (arrival .fragment .last) (sym (c .choose .ensures (end missing [])) ∙ ap (λ (s : Step). stepWay found s (end missing [])) told)
+  at-end told = reached (length stored) (length payload) found held (arrival .fragment .last) (sym (c .choose .ensures (end missing [])) ∙ ap (λ (s : Step). stepWay found s (end missing [])) told)
 
   abbrev compared : ℕ → Compared
   compared row = comparedIn (t .owners) (t .versions) (t .«message_types») row (arrival .fragment)
@@ -125,8 +131,8 @@ copy-requires c κs =
 
 with-fragment-requires : tie.Need-with-fragment-requires
 with-fragment-requires c κs =
-    let has = room (c .before .before .before .before .before .before .before .before .before) (c .before .before .before .before .before .before .before .enum-told2 .given .1) in
-    (has .2, rw (c .before .under-row .ensures) (has .3), has .1)
+    let has = room (c .before .before .before .before .before .before .before) (c .before .before .before .before .before .enum-told2 .given .1) in
+    (has .2, has .3, has .4, has .5, has .1)
 
 compare-requires : tie.Need-compare-requires
 compare-requires c κs = row-in (c .before .before .before .before .before .before)
@@ -144,7 +150,7 @@ returns-2 : tie.Need-returns-2
 returns-2 c = rw (way-is (c .before .before) _ (c .enum-told .given .1)) (record { answers = refl; keeps = refl; stores = refl; puts = refl })
 
 returns-3 : tie.Need-returns-3
-returns-3 c = kept (c .before .before .before .before .before .before .before .before .before .before) (c .before .before .before .before .before .before .before .before .enum-told2 .given .1) (c .before .before .under-row .result) (c .before .before .under-row .ensures) _ (c .with-fragment .ensures) _ (c .before .before .before .before .before .copy .ensures)
+returns-3 c = kept (c .before .before .before .before .before .before .before .before) (c .before .before .before .before .before .before .enum-told2 .given .1) _ (c .with-fragment .ensures) _ (c .before .before .before .copy .ensures)
 
 returns-4 : tie.Need-returns-4
 returns-4 c =
@@ -157,12 +163,12 @@ push-step-spec =
     (tie.spec
     look-up-requires
     (λ c κs. search needs)
+    (λ c κs. search needs)
     (λ c. search needs)
     (λ c. search needs)
     (λ c. search needs)
     mul-copy
     copy-requires
-    (λ c κs. search needs)
     with-fragment-requires
     (λ c. search needs)
     compare-requires

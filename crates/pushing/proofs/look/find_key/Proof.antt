@@ -1,29 +1,50 @@
--- The loop has passed i rows of which none is sought.
-use mathlib.Core.Path.{_≡_, sym, ap, _∙_}
+-- The loop has passed i rows of which none is sought; those before the sender's lowest row have keys of others.
+use mathlib.Core.Path.{_≡_, refl, sym, ap, _∙_}
 use mathlib.Core.List.{List}
-use mathlib.Core.Bool.{Bool, false, _&&_}
+use mathlib.Core.Bool.{Bool, true, false, _&&_, and-eq-true-iff, false≢true}
 use Prim.Native.Nat.{ℕ, _≤_, _-_}
 use native.Mathlib.Omega.{arith}
 use lib.Dec.{eqb}
 use lib.ListN.{getD}
 use denote.Ref.{now}
 use borrow.Author.Needs.{needs}
+use borrow.Author.Tests.{eqb-true, eq-eqb}
 use Rattle.searching.specs.Search.{lowest}
-use Rattle.searching.proofs.Search.{before-all, found, passed}
+use Rattle.keys.specs.Keys.{senderOf}
+use Rattle.table.specs.Rows.{isSenders}
+use Rattle.searching.proofs.Search.{lowest-le, lowest-before, lowest-none, found, passed}
 use Rattle.pushing.proofs.look.find_key.Statement.{statement}
 use Rattle.pushing.proofs.look.find_key.Tie as tie
 
 abbrev test : List Bool → List ℕ → ℕ → ℕ → Bool
 test used row-keys key i = getD used i false && eqb (getD row-keys i 0) key
 
+-- a row of another sender has another key
+not-its : (used : List Bool) (row-keys : List ℕ) (key row : ℕ) → isSenders used row-keys (senderOf key) row ≡ false → test used row-keys key row ≡ false
+not-its used row-keys key row other = by-test (test used row-keys key row) refl
+  where
+    by-test : (b : Bool) → test used row-keys key row ≡ b → test used row-keys key row ≡ false
+    by-test false e = e
+    by-test true e =
+        let both = and-eq-true-iff (getD used row false) (eqb (getD row-keys row 0) key) .0 e in
+        let same : senderOf (getD row-keys row 0) ≡ senderOf key = ap senderOf (eqb-true _ _ (both .1)) in
+        absurd (false≢true (sym other ∙ rw (both .0, eq-eqb _ _ same)))
+
 abbrev Inv-loop : tie.InvT-loop
-Inv-loop used row-keys key i₀ i = (i ≤ 16) × (i ≡ lowest (test used row-keys key) i)
+Inv-loop used row-keys first key i₀ i = (i ≤ 16) × (i ≡ lowest (test used row-keys key) i)
 
 abbrev μ-loop : tie.MeasureT-loop
-μ-loop used row-keys key i₀ i = 16 - i
+μ-loop used row-keys first key i₀ i = 16 - i
 
 loop-holds : tie.Need-loop-holds Inv-loop μ-loop
-loop-holds c = (omega arith, before-all (test (now (c .args .used)) (now (c .args .row-keys)) (c .args .key)))
+loop-holds c =
+    let a = c .args in
+    let used = now (a .used) in
+    let row-keys = now (a .row-keys) in
+    let its = isSenders used row-keys (senderOf (a .key)) in (
+      omega (arith, c .pre, lowest-le its 16),
+      lowest-none (test used row-keys (a .key)) (a .first) (λ j h. not-its used row-keys (a .key) j (lowest-before its 16 j (omega (arith, c .pre)))),
+    )
 
 returns : tie.Need-returns Inv-loop μ-loop
 returns c =

@@ -1,26 +1,42 @@
--- Whether the row gets its key or has it, the place then gets the fragment.
-use mathlib.Core.Path.{sym, ap, _∙_}
-use mathlib.Core.Bool.{Bool}
+-- Whether the row gets its key or has it, the place then gets the fragment, and the sender's lowest row its totals.
+use mathlib.Core.Path.{_∙_}
+use mathlib.Core.Bool.{true, false}
 use mathlib.Core.Logic.{⊎-elim}
+use native.Mathlib.Omega.{arith}
 use borrow.Author.Needs.{needs}
-use Rattle.table.specs.declared.Table.{Table}
-use Rattle.table.specs.Rows.{withPlace}
-use Rattle.pushing.specs.Push.{placeFor}
-use Rattle.pushing.specs.PrivateSteps.{opened}
+use borrow.Author.Tests.{le-leb, lt-leb}
+use Rattle.pushing.proofs.Kept.{opened-by, kept-by}
 use Rattle.pushing.proofs.rows.with_fragment.Statement.{statement}
 use Rattle.pushing.proofs.rows.with_fragment.Tie as tie
 
+add-keys : tie.Need-add-keys
+add-keys c = omega (arith, c .before .before .before .before .before .before .before .pre .3 (c .before .before .before .before .if1 .taken))
+
 returns : tie.Need-returns
 returns c =
-    let a = c .before .args in
-    let put : Table → Table = λ z. withPlace z (a .place) (placeFor (a .row) (a .a .fragment) (a .size)) in
-    let as-opened : Bool → Table = λ b. put (opened b (a .t) (a .row) (a .a)) in
-    ⊎-elim (λ w. ap put (w .1) ∙ ap as-opened (sym (w .0 .taken))) (λ w. ap put (w .1) ∙ ap as-opened (sym (w .0 .left))) (c .if1 .came)
+    let a = c .before .before .before .before .before .before .before .before .before .args in
+    let under = c .before .before .before .before .before .before .before .before .under-row in
+    let low = c .before .before .before .before .before .lower-of in
+    let joined = c .before .before .before .before .before .before .if1 in
+    let kept = kept-by (a .t) (a .found) (a .held) (a .a) (a .size) (under .result) (under .ensures) in
+    ⊎-elim
+    (λ w. kept true (le-leb _ _ (w .0 .taken)) (joined .n) (w .5 ∙ opened-by (a .t) (a .found) (a .held) (a .a) (a .size) (under .result) (under .ensures) _ _ (w .2 .ensures) (w .4 .ensures)) (joined .keys) (w .6) (low .result) (low .ensures) _ _ (c .before .before .before .with-total3 .ensures) (c .with-total4 .ensures))
+    (λ w. kept false (lt-leb _ _ (w .0 .left)) (joined .n) (w .1) (joined .keys) (w .2) (low .result) (low .ensures) _ _ (c .before .before .before .with-total3 .ensures) (c .with-total4 .ensures))
+    (joined .came)
 
 pub with-fragment-spec : {M : Type 1} → statement M
 with-fragment-spec =
     tie.close
     (tie.spec
+    (λ c κs. search needs)
+    (λ c κs. search needs)
+    (λ c κs. search needs)
+    (λ c. search needs)
+    (λ c. search needs)
+    (λ c. search needs)
+    (λ c. search needs)
+    (λ c. search needs)
+    add-keys
     (λ c. search needs)
     (λ c. search needs)
     (λ c. search needs)
@@ -31,9 +47,8 @@ with-fragment-spec =
     (λ c. search needs)
     (λ c. search needs)
     (λ c. search needs)
+    (λ c κs. search needs)
+    (λ c κs. search needs)
     (λ c. search needs)
-    (λ c. search needs)
-    (λ c. search needs)
-    (λ c. search needs)
-    (λ c. search needs)
+    (λ c κs. search needs)
     returns)
