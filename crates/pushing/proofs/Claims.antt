@@ -1,6 +1,6 @@
 -- The claims of specs/Claims.antt, proved.
 use mathlib.Core.Path.{_≡_, sym, ap, _∙_}
-use mathlib.Core.List.{List}
+use mathlib.Core.List.{List, []}
 use Prim.Native.Nat.{ℕ}
 use lib.ListN.{length}
 use Rattle.numbers.specs.Numbers.{refuses, number, values}
@@ -9,9 +9,10 @@ use Rattle.table.specs.declared.Table.{Table}
 use Rattle.pushing.specs.declared.Arrival.{Arrival}
 use Rattle.pushing.specs.declared.Pushed.{Pushed}
 use Rattle.pushing.specs.Push.{waiting, duplicated, Way, refuse, duplicate, keepAt, openAt, end, way, tableBy, storeBy, outputBy, answerBy, Goes}
-use Rattle.pushing.specs.Claims.{Claims, Firmness, DuplicateUntouched, RefusalUntouched}
+use Rattle.pushing.specs.Claims.{Claims, Firmness, RoomForFew, DuplicateUntouched, RefusalUntouched}
 use Rattle.pushing.proofs.Firm.{one-answer}
 use Rattle.pushing.proofs.Sound.{sound}
+use Rattle.pushing.proofs.InStep.{good, not-full}
 use Rattle.pushing.proofs.Calls.{fresh-made, push-made, sweep-made}
 use Rattle.pushing.proofs.Ways.{isDuplicated, is-duplicate, shown-same}
 use Rattle.pushing.proofs.Apart.{push-untouched}
@@ -44,6 +45,10 @@ refused-by (end h bytes) n vs e = never h n vs (sym e)
 refusal-untouched : RefusalUntouched
 refusal-untouched t store out a payload refusal t′ store′ out′ goes = left-by (refuse (number refusal) (values refusal)) (refused-by (way t store a payload (length out)) (number refusal) (values refusal) (goes .answers)) goes
 
+room-for-few : RoomForFew
+room-for-few t store out a payload t′ store′ out′ made others few only goes =
+    not-full t made store a payload (length out) others few only (refused-by (way t store a payload (length out)) 10 [] (goes .answers))
+
 pub claims : Claims
 claims = record {
   firmness = firmness;
@@ -51,6 +56,9 @@ claims = record {
   push-made = push-made;
   sweep-made = sweep-made;
   made-sound = λ t made. sound made;
+  made-in-step = λ t made. good made .0;
+  made-within-shares = λ t made. good made .1;
+  room-for-few = room-for-few;
   push-untouched = push-untouched;
   duplicate-untouched = duplicate-untouched;
   refusal-untouched = refusal-untouched;

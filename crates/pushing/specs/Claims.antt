@@ -1,13 +1,16 @@
 -- What is claimed of push and of the tables that these calls make; proofs/Claims.antt proves it.
 use mathlib.Core.Path.{_≡_}
-use mathlib.Core.List.{List, []}
+use mathlib.Core.List.{List, [], _∷_}
 use Prim.Native.Nat.{ℕ, _<_}
 use lib.ListN.{length}
 use Rattle.numbers.specs.Firmness.{Firm}
 use Rattle.numbers.specs.declared.Refusal.{Refusal}
+use Rattle.numbers.specs.declared.Refusal.the-variants.{TableFull}
+use Rattle.keys.specs.Keys.{senderOf}
 use Rattle.table.specs.declared.Table.{Table}
 use Rattle.table.specs.Rows.{freshTable}
 use Rattle.table.specs.Sound.{Sound}
+use Rattle.table.specs.InStep.{InStep, WithinShares, OnlyOf}
 use Rattle.sweeping.specs.Sweep.{swept, sweptAs}
 use Rattle.pushing.specs.declared.Arrival.{Arrival}
 use Rattle.pushing.specs.declared.Pushed.{Pushed}
@@ -41,6 +44,21 @@ SweepMade = (t : Table) (time : ℕ) (t′ : Table) (dropped : ℕ) → Made t �
 abbrev pub MadeSound : Type 0
 MadeSound = (t : Table) → Made t → Sound t
 
+-- Rules T6 and T15: in such a table each sender's totals are its keys and places, counted, and no sender holds more than
+-- 4 keys or 8 places.
+abbrev pub MadeInStep : Type 0
+MadeInStep = (t : Table) → Made t → InStep t
+
+abbrev pub MadeWithinShares : Type 0
+MadeWithinShares = (t : Table) → Made t → WithinShares t
+
+-- Rule D7: if the keys that such a table holds are of the push's own sender and of fewer than four others, then the push
+-- is not refused by 10.
+abbrev pub RoomForFew : Type 0
+RoomForFew = (t : Table) (store out : List ℕ) (a : Arrival) (payload : List ℕ) (t′ : Table) (store′ out′ : List ℕ) → Made t
+    → (others : List ℕ) → length others < 4 → OnlyOf t (senderOf (a .key) ∷ others)
+    → Goes (way t store a payload (length out)) t store out a payload (Refused TableFull) t′ store′ out′ → ⊥
+
 -- what a key holds, and its first time, are the same in two tables
 abbrev pub Untouched : (key : ℕ) (t t′ : Table) (store store′ : List ℕ) → Type 0
 Untouched key t t′ store store′ = ((number : ℕ) → heldBy t′ store′ key number ≡ heldBy t store key number) × (firstTime t′ key ≡ firstTime t key)
@@ -72,6 +90,9 @@ pub record Claims : Type 0 where
   pub push-made : PushMade
   pub sweep-made : SweepMade
   pub made-sound : MadeSound
+  pub made-in-step : MadeInStep
+  pub made-within-shares : MadeWithinShares
+  pub room-for-few : RoomForFew
   pub push-untouched : PushUntouched
   pub duplicate-untouched : DuplicateUntouched
   pub refusal-untouched : RefusalUntouched
