@@ -248,14 +248,30 @@ static int place_of(const AshlarTable *t, int owner, int number) {
     return -1;
 }
 
+/* The lowest row of a sender, which has its totals. */
+static int first_row(const AshlarTable *t, uint64_t sender) {
+    for (int i = 0; i < 16; i++)
+        if (t->used[i] && t->row_keys[i] >> 16 == sender) return i;
+    return -1;
+}
+
 static void drop(AshlarTable *t, int row) {
+    uint64_t sender = t->row_keys[row] >> 16;
+    int first = first_row(t, sender), keys = 1, places = 0, freed = 0;
+    if (first >= 0) keys = t->sender_keys[first], places = t->sender_places[first];
     t->used[row] = false;
     t->row_keys[row] = t->firsts[row] = 0;
+    t->sender_keys[row] = t->sender_places[row] = 0;
     for (int i = 0; i < 32; i++) {
         if (t->owners[i] != row + 1) continue;
         t->message_types[i] = t->sizes[i] = 0;
         t->owners[i] = t->numbers[i] = t->versions[i] = 0;
+        freed++;
     }
+    first = first_row(t, sender);
+    if (first < 0) return;
+    t->sender_keys[first] = (uint8_t)(keys ? keys - 1 : 0);
+    t->sender_places[first] = (uint8_t)(places > freed ? places - freed : 0);
 }
 
 static void put(AshlarTable *t, uint8_t *store, int place, int row, const AshlarFragment *f, const uint8_t *payload, size_t n) {
@@ -274,7 +290,7 @@ static AshlarPushed end(AshlarTable *t, int row, uint8_t answer, size_t length) 
 
 /* A last fragment: what is kept is joined with it. */
 static AshlarPushed finish(AshlarTable *t, const uint8_t *store, uint8_t *out, size_t room, int row, const AshlarFragment *f, const uint8_t *payload, size_t n) {
-    int place[33], kept = 0, highest = f->number;
+    int place[9], kept = 0, highest = f->number;
     size_t total = n;
     bool unlike = false;
     if (row >= 0)
@@ -282,7 +298,7 @@ static AshlarPushed finish(AshlarTable *t, const uint8_t *store, uint8_t *out, s
             if (t->owners[i] != row + 1) continue;
             unlike |= t->versions[i] != f->version || t->message_types[i] != f->message_type;
             if (t->numbers[i] > highest) highest = t->numbers[i];
-            if (t->numbers[i] < 33) place[t->numbers[i]] = i;
+            if (t->numbers[i] < 9) place[t->numbers[i]] = i;
             total += t->sizes[i];
             kept++;
         }
@@ -306,13 +322,19 @@ static AshlarPushed finish(AshlarTable *t, const uint8_t *store, uint8_t *out, s
 AshlarPushed plain_push(AshlarTable *t, uint8_t *store, size_t store_length, uint8_t *out, size_t room, AshlarArrival a, const uint8_t *payload, size_t n) {
     if (store_length < ASHLAR_STORE) return (AshlarPushed){0, ASHLAR_REFUSED, 11};
     if (n > ASHLAR_PAYLOAD) return (AshlarPushed){0, ASHLAR_REFUSED, 12};
-    int row = -1, spare = -1;
+    int row = -1, spare = -1, first = -1, keys = 0, places = 0;
     for (int i = 15; i >= 0; i--) {
-        if (!t->used[i]) spare = i;
-        else if (t->row_keys[i] == a.key) row = i;
+        if (!t->used[i]) {
+            spare = i;
+        } else if (t->row_keys[i] >> 16 == a.key >> 16) {
+            first = i;
+            if (t->row_keys[i] == a.key) row = i;
+        }
     }
     if (row >= 0 && place_of(t, row + 1, a.fragment.number) >= 0) return (AshlarPushed){0, ASHLAR_DUPLICATED, 0};
     if (a.fragment.last) return finish(t, store, out, room, row, &a.fragment, payload, n);
+    if (first >= 0) keys = t->sender_keys[first], places = t->sender_places[first];
+    if (places >= ASHLAR_SENDER_PLACES || (row < 0 && keys >= ASHLAR_SENDER_KEYS)) return (AshlarPushed){0, ASHLAR_REFUSED, 20};
     int free = 0;
     while (free < 32 && t->owners[free]) free++;
     if (free == 32 || (row < 0 && spare < 0)) return (AshlarPushed){0, ASHLAR_REFUSED, 10};
@@ -321,7 +343,12 @@ AshlarPushed plain_push(AshlarTable *t, uint8_t *store, size_t store_length, uin
         t->used[row] = true;
         t->row_keys[row] = a.key;
         t->firsts[row] = a.time;
+        if (first >= 0) t->sender_keys[first] = t->sender_places[first] = 0;
+        if (first < 0 || row < first) first = row;
+        keys++;
     }
+    t->sender_keys[first] = (uint8_t)keys;
+    t->sender_places[first] = (uint8_t)(places + 1);
     put(t, store, free, row, &a.fragment, payload, n);
     return (AshlarPushed){0, ASHLAR_WAITING, 0};
 }

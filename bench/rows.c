@@ -51,8 +51,9 @@ static void url(size_t n) {
     while (size < n) byte((uint8_t)(' ' + size % 95));
 }
 
+/* four keys are of one sender, which with two fragments each is its share (rule T6) */
 static AshlarArrival piece(int key, int number, bool last) {
-    return (AshlarArrival){0x020000000000u * 65536 + (unsigned)key, 1000, {2, 0, (uint8_t)number, last}};
+    return (AshlarArrival){(0x020000000000u + (unsigned)key / 4) * 65536 + (unsigned)key, 1000, {2, 0, (uint8_t)number, last}};
 }
 
 /* every table gets the first so many of: numbers 0 and 1 of key 0, of key 1, .. */

@@ -62,8 +62,10 @@ extern "C" {
 #define ASHLAR_PLACES 32                /* fragments that a table holds, at most */
 #define ASHLAR_PAYLOAD 1492             /* bytes of a fragment's payload, at most (rule T4) */
 #define ASHLAR_STORE 47744              /* bytes of a store, at least: ASHLAR_PLACES times ASHLAR_PAYLOAD */
-#define ASHLAR_MESSAGE 49236            /* bytes of a joined message, at most: 33 fragments (rule T9) */
-#define ASHLAR_TABLE 496                /* bytes of an AshlarTable */
+#define ASHLAR_SENDER_KEYS 4            /* messages of one sender among these, at most (rule T6) */
+#define ASHLAR_SENDER_PLACES 8          /* fragments of one sender among these, at most */
+#define ASHLAR_MESSAGE 13428            /* bytes of a joined message, at most: nine fragments (rule T9) */
+#define ASHLAR_TABLE 528                /* bytes of an AshlarTable */
 #define ASHLAR_STATIONS 128             /* stations that a station table holds, at most (rule P1) */
 #define ASHLAR_STATION_TABLE 2048       /* bytes of an AshlarStations */
 #define ASHLAR_PAIRS 1024               /* pairs that a report is over, at most (rule Q4) */
@@ -103,7 +105,7 @@ typedef enum {
     /* A record to be written is one that reading never gives. Not given to C. */
     ASHLAR_NEVER_READ = 9,
     /* All places are taken, or all keys are and the fragment starts a new message: sweep, or drop the
-       fragment. */
+       fragment. Not given while fewer than four other senders have fragments in the table (rule D7). */
     ASHLAR_TABLE_FULL = 10,
     /* The store has fewer than ASHLAR_STORE bytes: a mistake of the caller. */
     ASHLAR_STORE_TOO_SMALL = 11,
@@ -125,7 +127,12 @@ typedef enum {
     /* A text of a value is not valid UTF-8 (RFC 3629): skip the TLV. */
     ASHLAR_NOT_TEXT = 18,
     /* A value has more than 1,024 pairs, or two reports can't be made into one. */
-    ASHLAR_NO_REPORT = 19
+    ASHLAR_NO_REPORT = 19,
+    /* The fragment's sender has its share of the table: ASHLAR_SENDER_PLACES fragments, or
+       ASHLAR_SENDER_KEYS messages and the fragment starts another. Drop the fragment: its message will not
+       become whole. The sender gets room again when one of its messages ends or is swept. Other senders are
+       not affected. */
+    ASHLAR_SENDER_FULL = 20
 } AshlarRefusal;
 
 /* ---- Kinds ---- */
@@ -229,10 +236,11 @@ typedef struct {
     uint8_t refusal; /* an AshlarRefusal */
 } AshlarPart;
 
-/* The fragments that are held, without their payloads (rules T1 and T14). Only to be looked at. A row of
-   `row_keys`, `firsts` and `used` is a message that waits. A row of the other lists is a place with a
-   fragment of it. Where a row or a place is free, all its elements are 0. No fragment that is held is marked
-   last: one that is marked ends its message at once, or is a duplicate. */
+/* The fragments that are held, without their payloads (rules T1 and T14). Only to be looked at. A row of the
+   lists of ASHLAR_KEYS elements is a message that waits. A row of the other lists is a place with a fragment
+   of it. Where a row or a place is free, all its elements are 0. No fragment that is held is marked last: one
+   that is marked ends its message at once, or is a duplicate. The lowest row of a sender says how many
+   messages and fragments of it are held; its other rows have 0 there (rule T15). */
 typedef struct {
     uint64_t row_keys[ASHLAR_KEYS];         /* the key of the message */
     uint64_t firsts[ASHLAR_KEYS];           /* the time at which its first fragment came */
@@ -243,6 +251,8 @@ typedef struct {
     uint8_t numbers[ASHLAR_PLACES];         /* its number */
     uint8_t versions[ASHLAR_PLACES];        /* the message version in its header */
     bool used[ASHLAR_KEYS];                 /* whether the row holds a message */
+    uint8_t sender_keys[ASHLAR_KEYS];       /* in the sender's lowest row, how many messages it has here */
+    uint8_t sender_places[ASHLAR_KEYS];     /* there too, how many fragments */
 } AshlarTable;
 
 /* What the table keeps of a fragment's header: fields of an AshlarHeader, with the same names (rule T3). */
@@ -394,8 +404,8 @@ AshlarPart ashlar_radio_text(size_t number, const uint8_t *value, size_t value_l
 AshlarTable ashlar_fresh(void);
 
 /* Takes a fragment (rules T4 to T9). A message that is joined from several fragments is written to the start
-   of `out`. The other bytes of `out` stay as they are; for any other answer all of them do. Refusals: 10, 11,
-   12, 13. */
+   of `out`. The other bytes of `out` stay as they are; for any other answer all of them do. Refusals: 11,
+   12, 20, 10, 13. */
 AshlarPushed ashlar_push(AshlarTable *table, uint8_t *store, size_t store_length, uint8_t *out,
                          size_t out_length, AshlarArrival arrival, const uint8_t *payload,
                          size_t payload_length);

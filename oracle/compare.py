@@ -84,6 +84,12 @@ def table_full(words, original, ours, before):
     return line == "c" and (shown.startswith("ok 16 ") or shown.split(" ")[2:3] == ["32"])
 
 
+def sender_full(words, original, ours, before):
+    """Rule T6 refuses a fragment of a sender that holds its share; the original has none."""
+    lines, table = [line for line, _, _ in before] + [" ".join(words)], model.Table()
+    return words[0] == "p" and lines[0] == "z" and original == "waiting" and ours == "no 20" == [model.told(table, line) for line in lines][-1]
+
+
 def payload_above_1492(words, original, ours, before):
     return words[0] == "p" and ours == "no 12" and len(model.to_bytes(words[8])) > 1492
 
@@ -167,6 +173,7 @@ EXPLAINED = {
     "single-fragment-checked": single_fragment_checked,
     "first-copy-kept": first_copy_kept,
     "table-full": table_full,
+    "sender-full": sender_full,
     "payload-above-1492": payload_above_1492,
 }
 

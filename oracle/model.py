@@ -14,6 +14,7 @@ import itertools
 import sys
 
 STORE_PLACES, STORE_KEYS, PLACE = 32, 16, 1492
+SENDER_PLACES, SENDER_KEYS = 8, 4
 MOST_STATIONS = 128
 MOST_PAIRS = 1024
 # The last request that counts, where none is named.
@@ -414,6 +415,18 @@ class Table:
     def places(self):
         return sum(len(key[1]) for key in self.keys.values())
 
+    def held_by(self, sender):
+        """How many keys a sender holds, and how many places (rule T15)."""
+        held = [kept for (of, _), (_, kept) in self.keys.items() if of == sender]
+        return len(held), sum(map(len, held))
+
+    def wanting(self, name):
+        """The number by which one more fragment of this key is refused, or 0 (rule T6)."""
+        (keys, places), new = self.held_by(name[0]), name not in self.keys
+        if places == SENDER_PLACES or new and keys == SENDER_KEYS:
+            return 20
+        return 10 if self.places() == STORE_PLACES or new and len(self.keys) == STORE_KEYS else 0
+
     def push(self, sender, ident, version, kind, number, last, now, payload):
         if len(payload) > PLACE:
             raise Refused(12)
@@ -424,8 +437,8 @@ class Table:
                 key[1][number] = new
             return "DuplicatedFragment"
         if not last:
-            if self.places() == STORE_PLACES or not key and len(self.keys) == STORE_KEYS:
-                raise Refused(10)
+            if self.wanting(name):
+                raise Refused(self.wanting(name))
             self.keys.setdefault(name, (now, {}))[1][number] = new
             return "waiting"
         kept = dict(key[1]) if key else {}
@@ -456,6 +469,10 @@ class Table:
             for number, (version, kind, last, payload) in sorted(kept.items()):
                 text.append("%d:%d:%d:%d:%s" % (number, version, kind, last, shown(payload)))
         return " ".join(text)
+
+    def totals(self):
+        senders = sorted({sender for sender, _ in self.keys})
+        return " ".join(["ok %d" % len(senders)] + ["%s:%d:%d" % ((sender,) + self.held_by(sender)) for sender in senders])
 
 
 # --- stations (rules P1 to P7) ---
@@ -585,6 +602,8 @@ def answer(table, stations, line):
         return "ok"
     if command == "c":
         return table.contents()
+    if command == "C":
+        return table.totals()
     if command == "v":
         return table.sweep(int(words[1]))
     if command == "p":

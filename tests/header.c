@@ -262,6 +262,9 @@ static AshlarTable table;
 
 static AshlarArrival piece(uint64_t key, uint8_t number, bool last) { return (AshlarArrival){.key = key, .time = 5000, .fragment = {.message_type = 0x1234, .version = 0x56, .number = number, .last = last}}; }
 
+/* the key of a sender and a message id */
+static uint64_t of(uint64_t sender, uint64_t id) { return sender * 65536 + id; }
+
 static AshlarPushed pushed(AshlarArrival a, size_t size) {
     AshlarPushed p = ashlar_push(&table, store, sizeof store, out, sizeof out, a, payload, size);
     answers |= 1u << p.answer;
@@ -295,6 +298,9 @@ static void fields(void) {
     check("AshlarTable: numbers, AshlarFragment: number", table.numbers[0] == 7 && table.numbers[1] == 8);
     check("AshlarTable: versions, AshlarFragment: version", table.versions[0] == 0x56 && table.versions[1] == 0x65);
     check("AshlarTable: used", table.used[0] && table.used[1] && !table.used[2]);
+    pushed(piece(100, 0, false), 1), pushed(piece(99, 9, false), 1);
+    check("AshlarTable: sender_keys", table.sender_keys[0] == 1 && table.sender_keys[1] == 2 && table.sender_keys[2] == 0);
+    check("AshlarTable: sender_places", table.sender_places[0] == 1 && table.sender_places[1] == 3 && table.sender_places[2] == 0);
     check("ASHLAR_PAYLOAD: a place in the store", !memcmp(store, payload, 10) && store[10] == 0 && !memcmp(store + ASHLAR_PAYLOAD, payload, 20));
 }
 
@@ -349,18 +355,20 @@ static void limits(void) {
     table = ashlar_fresh();
     refused("ASHLAR_STORE: 11 with a byte less", piece(1, 0, false), ASHLAR_STORE - 1, sizeof out, 5, ASHLAR_STORE_TOO_SMALL, 0);
     refused("ASHLAR_PAYLOAD: 12 with a byte more", piece(1, 0, false), sizeof store, sizeof out, ASHLAR_PAYLOAD + 1, ASHLAR_PAYLOAD_TOO_LONG, 0);
-    for (uint64_t key = 0; key < ASHLAR_KEYS; key++) pushed(piece(key, 0, false), 5);
-    refused("ASHLAR_KEYS: 10 with one more", piece(ASHLAR_KEYS, 0, false), sizeof store, sizeof out, 5, ASHLAR_TABLE_FULL, 0);
+    for (uint64_t n = 0; n < ASHLAR_KEYS; n++) pushed(piece(of(n / ASHLAR_SENDER_KEYS, n), 0, false), 5);
+    refused("ASHLAR_SENDER_KEYS: 20 with one more, before 10", piece(of(0, ASHLAR_KEYS), 0, false), sizeof store, sizeof out, 5, ASHLAR_SENDER_FULL, 0);
+    refused("ASHLAR_KEYS: 10 with one more", piece(of(ASHLAR_KEYS, 0), 0, false), sizeof store, sizeof out, 5, ASHLAR_TABLE_FULL, 0);
     table = ashlar_fresh();
-    for (int n = 0; n < ASHLAR_PLACES; n++) pushed(piece(1, (uint8_t)n, false), ASHLAR_PAYLOAD);
-    refused("ASHLAR_PLACES: 10 with one more", piece(1, ASHLAR_PLACES, false), sizeof store, sizeof out, 5, ASHLAR_TABLE_FULL, 0);
-    check("ASHLAR_MESSAGE: the longest that can be joined", answered(pushed(piece(1, ASHLAR_PLACES, true), ASHLAR_PAYLOAD), ASHLAR_JOINED, ASHLAR_MESSAGE));
+    for (int n = 0; n < ASHLAR_PLACES; n++) pushed(piece(of((uint64_t)n / ASHLAR_SENDER_PLACES, 1), (uint8_t)(n % ASHLAR_SENDER_PLACES), false), ASHLAR_PAYLOAD);
+    refused("ASHLAR_SENDER_PLACES: 20 with one more, before 10", piece(of(0, 1), ASHLAR_SENDER_PLACES, false), sizeof store, sizeof out, 5, ASHLAR_SENDER_FULL, 0);
+    refused("ASHLAR_PLACES: 10 with one more", piece(of(ASHLAR_PLACES, 1), 0, false), sizeof store, sizeof out, 5, ASHLAR_TABLE_FULL, 0);
+    check("ASHLAR_MESSAGE: the longest that can be joined", answered(pushed(piece(of(0, 1), ASHLAR_SENDER_PLACES, true), ASHLAR_PAYLOAD), ASHLAR_JOINED, ASHLAR_MESSAGE));
 }
 
 /* sixteen keys are due, or none; a key that holds nothing, which no call leaves, is dropped and counted like others */
 static void sweeps(void) {
     table = ashlar_fresh();
-    for (uint64_t key = 0; key + 1 < ASHLAR_KEYS; key++) pushed(piece(key, 0, false), 5), pushed(piece(key, 1, false), 5);
+    for (uint64_t n = 0; n + 1 < ASHLAR_KEYS; n++) pushed(piece(of(n, 0), 0, false), 5), pushed(piece(of(n, 0), 1, false), 5);
     table.used[ASHLAR_KEYS - 1] = true, table.firsts[ASHLAR_KEYS - 1] = 5000;
     AshlarTable before = table;
     check("ASHLAR_OLD: none a millisecond before", ashlar_sweep(&table, 5000 + ASHLAR_OLD - 1) == 0 && !memcmp(&before, &table, sizeof table));
@@ -570,7 +578,7 @@ static void merges(void) {
 int main(void) {
     for (size_t i = 0; i < sizeof payload; i++) payload[i] = (uint8_t)(i + 1);
     headings(), walks(), paddings(), reads(), texts(), finds(), fields(), duplicates(), pushes(), limits(), sweeps(), moves(), values(), crowd(), link_reports(), merges();
-    check("every refusal that a call can give came: 1 to 6 and 10 to 19", (refusals & ~1u) == 0xFFC7E);
+    check("every refusal that a call can give came: 1 to 6 and 10 to 20", (refusals & ~1u) == 0x1FFC7E);
     check("every answer of push came: 0 to 7", answers == 0xFF);
     check("every answer of an event came: 0 to 5", events == 0x3F);
     return failed != 0;

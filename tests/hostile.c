@@ -1,6 +1,7 @@
 /* hostile CALLS SEED: CALLS random calls (rules A1 to A4). Each slice ends at a page that can't be touched, lengths are
    any, tables are those that the calls made; a station table may be any bytes. Every refusal is one that the rules give
-   the call. Every answer and every lent byte is the same as that of the plain C of bench/plain.c. */
+   the call. Every answer and every lent byte is the same as that of the plain C of bench/plain.c. A table's totals
+   are counted anew after every call. */
 #include "../bench/calls.h"
 #include <stdio.h>
 #include <stdlib.h>
@@ -21,7 +22,7 @@ static const unsigned numbers[KINDS] = {
     1u << 0 | 1u << 3 | 1u << 4 | 1u << 5 | 1u << 6 | 1u << 16 | 1u << 18,
     1u << 0 | 1u << 3 | 1u << 6 | 1u << 18,
     1u << 0 | 1u << 3 | 1u << 6 | 1u << 18,
-    1u << 0 | 1u << 10 | 1u << 11 | 1u << 12 | 1u << 13,
+    1u << 0 | 1u << 10 | 1u << 11 | 1u << 12 | 1u << 13 | 1u << 20,
     1u << 0,
     1u << 0,
     1u << 0 | 1u << 17,
@@ -61,7 +62,7 @@ static Room room(size_t most) {
 
 static void told(int call, unsigned number, bool same) {
     calls[call]++;
-    if (number > 19 || !(numbers[call] >> number & 1) || !same) wrong[call]++;
+    if (number > 20 || !(numbers[call] >> number & 1) || !same) wrong[call]++;
     else seen[call] |= 1u << number;
 }
 
@@ -223,17 +224,36 @@ static void text(void) {
     told(RADIO_TEXT, a.refusal, same_part(a, plain_radio_text(number, p, n), n));
 }
 
+/* The totals are what counting gives, in the lowest row of each sender and nowhere else, and no more than a share (rules
+   T6 and T15). */
+static bool in_step(const AshlarTable *t) {
+    for (int row = 0; row < ASHLAR_KEYS; row++) {
+        int keys = 0, places = 0;
+        bool lowest = t->used[row];
+        for (int i = 0; i < ASHLAR_KEYS && t->used[row]; i++) {
+            if (!t->used[i] || t->row_keys[i] >> 16 != t->row_keys[row] >> 16) continue;
+            lowest &= i >= row;
+            keys++;
+            for (int j = 0; j < ASHLAR_PLACES; j++) places += t->owners[j] == i + 1;
+        }
+        if (keys > ASHLAR_SENDER_KEYS || places > ASHLAR_SENDER_PLACES) return false;
+        if (t->sender_keys[row] != (lowest ? keys : 0) || t->sender_places[row] != (lowest ? places : 0)) return false;
+    }
+    return true;
+}
+
 static void push(void) {
     size_t n = below(8) ? below(40) : below(4) ? below(1493) : below(1600);
     size_t kept = below(64) ? ASHLAR_STORE + below(2) : below(ASHLAR_STORE), space = below(3) ? 200 : below(6000);
     uint8_t *p = bytes(n);
-    AshlarArrival a = {below(20), any() % 8000, {(uint16_t)(2 + !below(30)), (uint8_t)!below(40), (uint8_t)(below(20) ? below(4) : any()), !below(4)}};
+    AshlarArrival a = {below(8) << 16 | below(6), any() % 8000, {(uint16_t)(2 + !below(30)), (uint8_t)!below(40), (uint8_t)(below(20) ? below(4) : any()), !below(4)}};
     uint8_t *out[2];
     for (int i = 0; i < 2; i++) out[i] = outs[i].end - space;
     AshlarPushed x = ashlar_push(&tables[0], stores[0].end - kept, kept, out[0], space, a, p, n);
     AshlarPushed y = plain_push(&tables[1], stores[1].end - kept, kept, out[1], space, a, p, n);
     bool same = x.length == y.length && x.answer == y.answer && x.refusal == y.refusal && !memcmp(&tables[0], &tables[1], sizeof tables[0]) && !memcmp(out[0], out[1], space);
     if (!below(16)) same &= !memcmp(stores[0].end - kept, stores[1].end - kept, kept);
+    same &= in_step(&tables[0]);
     told(PUSH, x.refusal, same && x.answer <= ASHLAR_JOINED && (x.answer == ASHLAR_REFUSED) == (x.refusal != 0));
     answers |= 1u << x.answer;
     if (below(2)) x = (AshlarPushed){(size_t)any() >> below(48), (uint8_t)any(), (uint8_t)any()};
@@ -244,7 +264,7 @@ static void push(void) {
 static void sweep(void) {
     uint64_t time = below(20) ? any() % 11000 : any() << 40;
     size_t a = ashlar_sweep(&tables[0], time), b = plain_sweep(&tables[1], time);
-    told(SWEEP, 0, a == b && !memcmp(&tables[0], &tables[1], sizeof tables[0]));
+    told(SWEEP, 0, a == b && !memcmp(&tables[0], &tables[1], sizeof tables[0]) && in_step(&tables[0]));
 }
 
 static void fresh(void) {
@@ -409,7 +429,7 @@ int main(int argc, char **argv) {
     for (int k = 0; k < KINDS; k++) {
         failed += wrong[k] != 0;
         printf("%s ashlar_%s, %lu calls, %lu wrong, numbers", wrong[k] ? "FAILED" : "ok", names[k], calls[k], wrong[k]);
-        for (int n = 0; n <= 19; n++)
+        for (int n = 0; n <= 20; n++)
             if (seen[k] >> n & 1) printf(" %d", n);
         printf("\n");
     }

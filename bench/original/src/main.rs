@@ -70,8 +70,9 @@ fn cmdu(key: usize, number: u8, last: bool, payload: &[u8]) -> CMDU {
     }
 }
 
-fn sender() -> MacAddr {
-    MacAddr(2, 0, 0, 0, 0, 0)
+/// Four keys are of one sender.
+fn sender(key: usize) -> MacAddr {
+    MacAddr(2, 0, 0, 0, 0, (key / 4) as u8)
 }
 
 fn sum(bytes: &[u8]) -> u64 {
@@ -131,7 +132,7 @@ fn runtime() -> Runtime {
 
 /// The first so many of: numbers 0 and 1 of key 0, of key 1, ..
 fn filled(places: usize, store: &[u8]) -> Vec<(MacAddr, CMDU)> {
-    (0..places).map(|i| (sender(), cmdu(i / 2, (i % 2) as u8, false, &store[..16]))).collect()
+    (0..places).map(|i| (sender(i / 2), cmdu(i / 2, (i % 2) as u8, false, &store[..16]))).collect()
 }
 
 fn complete(turns: usize, store: &[u8], n: usize) {
@@ -143,7 +144,7 @@ fn complete(turns: usize, store: &[u8], n: usize) {
         let mut message = vec![];
         for _ in 0..turns {
             for fragment in messages.pop().expect("a message") {
-                if let Some(answer) = table.push_fragment(sender(), fragment).await {
+                if let Some(answer) = table.push_fragment(sender(1), fragment).await {
                     message = answer.expect("a whole message").payload;
                 }
             }
@@ -162,7 +163,7 @@ fn waiting(turns: usize, store: &[u8], places: usize, n: usize) {
         let mut said = "something else";
         for _ in 0..turns {
             table.take(made.pop().expect("contents")).await;
-            let answer = table.push_fragment(sender(), fragments.pop().expect("a fragment")).await;
+            let answer = table.push_fragment(sender(places / 2), fragments.pop().expect("a fragment")).await;
             said = if answer.is_none() { "waiting" } else { "something else" };
         }
         println!("{said}, keys {}", table.keys().await);

@@ -1,4 +1,4 @@
-// The commands of the fragment table: z, p, v and c.
+// The commands of the fragment table: z, p, v, c and C.
 mod contents;
 
 use answer_lines::Answers;
@@ -19,7 +19,8 @@ pub struct Served {
     pub used: usize,
 }
 
-// Rule T9: how many bytes the longest message has, with a fragment from each place and the last one.
+// How many bytes of output a push is lent: a fragment's from each place and one more. The longest message has fewer
+// (rule T9).
 const OUTPUT: usize = STORE_SIZE + PLACE_SIZE;
 
 fn key_in(line: &[u8]) -> u64 {
@@ -187,7 +188,7 @@ fn fresh(text: &mut Answers, used: usize) -> Served
     }
 }
 
-// z, v and c, which bring no fragment.
+// z, v, c and C, which bring no fragment.
 fn answer_shown(t: Table, line: &[u8], store: &[u8], text: &mut Answers, used: usize) -> Served
     requires { ⌜ Made t ⌝ }
     ensures { λ r. ⌜ Made (r .table) × (r .used ≤ 65536) ⌝ }
@@ -195,9 +196,13 @@ fn answer_shown(t: Table, line: &[u8], store: &[u8], text: &mut Answers, used: u
     match command_lines::byte_at(line, 0) {
         b'z' => fresh(text, used),
         b'v' => sweep(t, command_lines::number_in(line, 1), text, used),
-        _ => Served {
+        b'c' => Served {
             table: t,
             used: contents::put_contents(t, store, text, used),
+        },
+        _ => Served {
+            table: t,
+            used: contents::put_senders(t, store, text, used),
         },
     }
 }
@@ -208,7 +213,7 @@ pub fn field_of_bytes(letter: u8) -> usize
     ensures { λ r. ⌜ r ≤ 8 ⌝ }
 {
     match letter {
-        b'z' | b'p' | b'v' | b'c' => 8,
+        b'z' | b'p' | b'v' | b'c' | b'C' => 8,
         _ => 0,
     }
 }
