@@ -1,15 +1,16 @@
 -- The totals of every sender stay in step with what the table holds: the laws for each change of the table.
 use mathlib.Core.Path.{_≡_, refl, sym, ap, _∙_, subst}
+use mathlib.Core.List.{List}
 use mathlib.Core.Bool.{Bool, true, false, cond, not, _&&_, _||_, and-false, or-false, and-eq-true-iff, false≢true}
 use Prim.Native.Nat.{ℕ, zero, suc, _+_, _-_, _≤_, _<_}
 use native.Mathlib.Omega.{arith}
 use lib.Dec.{eqb, ltb}
-use lib.ListN.{length, getD, length-set, List·getD-eq-default}
+use lib.ListN.{length, getD, set, length-set, List·getD-eq-default}
 use lib.Seq.{getD-set-same, getD-set-other}
 use borrow.Author.Tests.{eqb-true, eqb-false, eq-eqb, ne-eqb, ltb-true, ltb-false, lt-ltb, le-ltb}
 use Rattle.keys.specs.Keys.{senderOf}
 use Rattle.searching.specs.Count.{howMany}
-use Rattle.searching.proofs.Search.{lowest-holds, lowest-before, lowest-none, lowest-same}
+use Rattle.searching.proofs.Search.{lowest-holds, lowest-before, lowest-none, lowest-is, lowest-same}
 use Rattle.searching.proofs.Count.{count-none, count-same, count-more, count-sum}
 use Rattle.table.specs.declared.Table.{Table}
 use Rattle.table.specs.declared.Totals.{Totals}
@@ -65,14 +66,29 @@ rows-apart : (t : Table) (x sender row : ℕ) → (x ≡ sender → ⊥) → ofS
 rows-apart t x sender row ne its l e =
     ne (sym (of-sender t x (firstRow t x) (lowest-holds (ofSender t x) 16 l) .1) ∙ ap (senderAt t) e ∙ of-sender t sender row its .1)
 
-told-apart : (t : Table) (x row : ℕ) (held : Totals) → firstRow t x < 16 → (firstRow t x ≡ row → ⊥) → totalsOf (putTotals t row held) x ≡ totalsOf t x
-told-apart t x row held l apart =
-    told-by-row (putTotals t row held) x l
-    ∙ (λ j. record { keys = getD-set-other (t .«sender_keys») row (firstRow t x) (held .keys) 0 apart j; places = getD-set-other (t .«sender_places») row (firstRow t x) (held .places) 0 apart j })
-    ∙ sym (told-by-row t x l)
+-- a total that is put into another row, or 0 into this one
+put-apart : (sender-keys sender-places : List ℕ) (row at : ℕ) (held : Totals) → (row ≡ at → ⊥) → totalsIn (set sender-keys at (held .keys)) (set sender-places at (held .places)) row ≡ totalsIn sender-keys sender-places row
+put-apart sender-keys sender-places row at held apart = λ j.
+    cond (ltb row 16) (record { keys = getD-set-other sender-keys at row (held .keys) 0 apart j; places = getD-set-other sender-places at row (held .places) 0 apart j }) noTotals
+
+put-none : (sender-keys sender-places : List ℕ) (row at : ℕ) → length sender-keys ≡ 16 → length sender-places ≡ 16 → row ≡ at → totalsIn (set sender-keys at 0) (set sender-places at 0) row ≡ noTotals
+put-none sender-keys sender-places row at long long′ here = ap (totalsIn (set sender-keys at 0) (set sender-places at 0)) here ∙ by-row (ltb at 16) refl
+  where
+    by-row : (b : Bool) → ltb at 16 ≡ b → cond b (record { keys = getD (set sender-keys at 0) at 0; places = getD (set sender-places at 0) at 0 }) noTotals ≡ noTotals
+    by-row true q =
+        let l = ltb-true at 16 q in
+        λ j. record { keys = getD-set-same sender-keys at 0 0 (omega arith) j; places = getD-set-same sender-places at 0 0 (omega arith) j }
+    by-row false q = refl
 
 first-apart : (t : Table) (x sender : ℕ) → (x ≡ sender → ⊥) → firstRow t x < 16 → firstRow t x ≡ firstRow t sender → ⊥
 first-apart t x sender ne l e = rows-apart t x sender (firstRow t sender) ne (lowest-holds (ofSender t sender) 16 (omega arith)) l e
+
+-- a row that is no sender's lowest, and a table in which such a row has no totals
+abbrev Behind : Table → ℕ → Type 0
+Behind t row = (x : ℕ) → firstRow t x ≡ row → ⊥
+
+abbrev Lone : Table → Type 0
+Lone t = (row : ℕ) → Behind t row → totalsIn (t .«sender_keys») (t .«sender_places») row ≡ noTotals
 
 -- A change that concerns one sender: the totals of it are put anew, and what the others hold, and what is said of them, stays.
 pub record Changed (t u : Table) (sender : ℕ) (held : Totals) : Type 0 where
@@ -82,6 +98,7 @@ pub record Changed (t u : Table) (sender : ℕ) (held : Totals) : Type 0 where
   pub counted : countedFor u sender ≡ held
   pub others : (x : ℕ) → (x ≡ sender → ⊥) → countedFor u x ≡ countedFor t x
   pub told : (x : ℕ) → (x ≡ sender → ⊥) → firstRow u x < 16 → totalsOf u x ≡ totalsOf t x
+  pub lone : Lone t → Lone u
 
 module _ (t u : Table) (sender : ℕ) (held : Totals) (change : Changed t u sender held) where
   put-own : firstRow u sender < 16 → totalsOf (withTotals u sender held) sender ≡ countedFor u sender
@@ -94,15 +111,18 @@ module _ (t u : Table) (sender : ℕ) (held : Totals) (change : Changed t u send
       ∙ sym (change .counted)
 
   pub stays-in-step : InStep t → InStep (withTotals u sender held)
-  stays-in-step step x = by-row (ltb (firstRow u x) 16) refl (eqb x sender) refl
+  stays-in-step step = record {
+    counted = λ x. by-row x (ltb (firstRow u x) 16) refl (eqb x sender) refl;
+    no-others = λ row behind. put-apart (u .«sender_keys») (u .«sender_places») row (firstRow u sender) held (λ e. behind sender (sym e)) ∙ change .lone (step .no-others) row behind;
+  }
     where
-      by-row : (b : Bool) → ltb (firstRow u x) 16 ≡ b → (c : Bool) → eqb x sender ≡ c → totalsOf (withTotals u sender held) x ≡ countedFor u x
-      by-row true q true e = let same : x ≡ sender = eqb-true _ _ e in subst (λ (y : ℕ). totalsOf (withTotals u sender held) y ≡ countedFor u y) (sym same) (put-own (subst (λ (y : ℕ). firstRow u y < 16) same (ltb-true _ _ q)))
-      by-row true q false e =
+      by-row : (x : ℕ) (b : Bool) → ltb (firstRow u x) 16 ≡ b → (c : Bool) → eqb x sender ≡ c → totalsOf (withTotals u sender held) x ≡ countedFor u x
+      by-row x true q true e = let same : x ≡ sender = eqb-true _ _ e in subst (λ (y : ℕ). totalsOf (withTotals u sender held) y ≡ countedFor u y) (sym same) (put-own (subst (λ (y : ℕ). firstRow u y < 16) same (ltb-true _ _ q)))
+      by-row x true q false e =
           let l = ltb-true (firstRow u x) 16 q in
           let ne = eqb-false x sender e in
-          told-apart u x (firstRow u sender) held l (first-apart u x sender ne l) ∙ change .told x ne l ∙ step x ∙ sym (change .others x ne)
-      by-row false q c e = rw q (sym (nothing-counted u (change .used-long) x (ltb-false _ _ q)))
+          put-apart (u .«sender_keys») (u .«sender_places») (firstRow u x) (firstRow u sender) held (first-apart u x sender ne l) ∙ change .told x ne l ∙ step .counted x ∙ sym (change .others x ne)
+      by-row x false q c e = rw q (sym (nothing-counted u (change .used-long) x (ltb-false _ _ q)))
 
   pub stays-within : WithinShares t → held .keys ≤ 4 → held .places ≤ 8 → WithinShares (withTotals u sender held)
   stays-within within h₁ h₂ x = by-sender (eqb x sender) refl
@@ -131,11 +151,12 @@ module _ (t : Table) (s : Sound t) (step : InStep t) (sender row i : ℕ) (in-32
     keys-long = s .sender-keys-long;
     places-long = s .sender-places-long;
     counted = λ j. record {
-      keys = sym (ap (λ (z : Totals). z .keys) (step sender)) j;
-      places = (count-more (keptFor t sender) (keptFor put sender) i (λ k ne. sym (kept-elsewhere sender k ne)) 32 in-32 (kept-free t sender i free) (kept-here sender ∙ its) ∙ ap (λ (z : Totals). z .places + 1) (sym (step sender))) j;
+      keys = sym (ap (λ (z : Totals). z .keys) (step .counted sender)) j;
+      places = (count-more (keptFor t sender) (keptFor put sender) i (λ k ne. sym (kept-elsewhere sender k ne)) 32 in-32 (kept-free t sender i free) (kept-here sender ∙ its) ∙ ap (λ (z : Totals). z .places + 1) (sym (step .counted sender))) j;
     };
     others = λ x ne j. record { keys = countedFor t x .keys; places = count-same (keptFor put x) (keptFor t x) 32 (λ k h. by-place x ne k (eqb k i) refl) j };
     told = λ x ne l. refl;
+    lone = λ lone. lone;
   }
     where
       by-place : (x : ℕ) → (x ≡ sender → ⊥) → (k : ℕ) (b : Bool) → eqb k i ≡ b → keptFor put x k ≡ keptFor t x k
@@ -199,26 +220,37 @@ module _ (t : Table) (s : Sound t) (step : InStep t) (row key time i : ℕ) (in-
     places-long = length-set (t .«sender_places») (firstRow t opener) 0 ∙ s .sender-places-long;
     counted = λ j. record {
       keys = (count-more (ofSender t opener) (ofSender opened opener) row (λ k ne. sym (row-elsewhere t opened row same-used same-key opener k ne)) 16 in-16 (row-before opener) (row-here opener ∙ eq-eqb opener opener refl)
-          ∙ ap (λ (z : Totals). z .keys + 1) (sym (step opener))) j;
+          ∙ ap (λ (z : Totals). z .keys + 1) (sym (step .counted opener))) j;
       places = (count-more (keptFor t opener) (keptFor filled opener) i (λ k ne. sym (kept-as-was opener k ne)) 32 in-32 (kept-free t opener i free) (filled-here opener ∙ eq-eqb opener opener refl)
-          ∙ ap (λ (z : Totals). z .places + 1) (sym (step opener))) j;
+          ∙ ap (λ (z : Totals). z .places + 1) (sym (step .counted opener))) j;
     };
     others = λ x ne j. record {
       keys = count-same (ofSender opened x) (ofSender t x) 16 (λ r h. same-row x ne r) j;
       places = count-same (keptFor filled x) (keptFor t x) 32 (λ k h. by-place x ne k (eqb k i) refl) j;
     };
     told = told-as-was;
+    lone = λ lone row behind. by-first lone row behind (eqb row (firstRow t opener)) refl;
   }
     where
+      first-same : (x : ℕ) → (x ≡ opener → ⊥) → firstRow opened x ≡ firstRow t x
+      first-same x ne = lowest-same (ofSender opened x) (ofSender t x) 16 (λ r h. same-row x ne r)
+
+      by-first : Lone t → (r : ℕ) → Behind opened r → (b : Bool) → eqb r (firstRow t opener) ≡ b → totalsIn (opened .«sender_keys») (opened .«sender_places») r ≡ noTotals
+      by-first lone r behind true e = put-none (t .«sender_keys») (t .«sender_places») r (firstRow t opener) (s .sender-keys-long) (s .sender-places-long) (eqb-true _ _ e)
+      by-first lone r behind false e = put-apart (t .«sender_keys») (t .«sender_places») r (firstRow t opener) noTotals (eqb-false _ _ e) ∙ lone r (λ x q. by-sender x q (eqb x opener) refl)
+        where
+          by-sender : (x : ℕ) → firstRow t x ≡ r → (c : Bool) → eqb x opener ≡ c → ⊥
+          by-sender x q true f = eqb-false r (firstRow t opener) e (sym q ∙ ap (firstRow t) (eqb-true x opener f))
+          by-sender x q false f = behind x (first-same x (eqb-false _ _ f) ∙ q)
+
       by-place : (x : ℕ) → (x ≡ opener → ⊥) → (k : ℕ) (b : Bool) → eqb k i ≡ b → keptFor filled x k ≡ keptFor t x k
       by-place x ne k true e = ap (keptFor filled x) (eqb-true _ _ e) ∙ filled-here x ∙ ne-eqb _ _ (λ (q : opener ≡ x). ne (sym q)) ∙ sym (kept-free t x i free) ∙ ap (keptFor t x) (sym (eqb-true _ _ e))
       by-place x ne k false e = kept-as-was x k (eqb-false _ _ e)
 
       told-as-was : (x : ℕ) → (x ≡ opener → ⊥) → firstRow opened x < 16 → totalsOf opened x ≡ totalsOf t x
       told-as-was x ne l =
-          let first : firstRow opened x ≡ firstRow t x = lowest-same (ofSender opened x) (ofSender t x) 16 (λ r h. same-row x ne r) in
-          let l′ : firstRow t x < 16 = omega arith in
-          ap (totalsIn (opened .«sender_keys») (opened .«sender_places»)) first ∙ told-apart t x (firstRow t opener) noTotals l′ (first-apart t x opener ne l′)
+          let first = first-same x ne in
+          ap (totalsIn (opened .«sender_keys») (opened .«sender_places»)) first ∙ put-apart (t .«sender_keys») (t .«sender_places») (firstRow t x) (firstRow t opener) noTotals (first-apart t x opener ne (omega arith))
 
 -- a row's key is dropped
 module _ (t : Table) (s : Sound t) (step : InStep t) (row : ℕ) (in-16 : row < 16) (used : getD (t .used) row false ≡ true) where
@@ -301,25 +333,53 @@ module _ (t : Table) (s : Sound t) (step : InStep t) (row : ℕ) (in-16 : row < 
     counted = λ j. record { keys = keys-less j; places = places-less j };
     others = λ x ne j. record { keys = count-same (ofSender left x) (ofSender t x) 16 (λ r h. same-left x ne r) j; places = count-same (keptFor left x) (keptFor t x) 32 (λ k h. same-kept x ne k) j };
     told = told-as-was;
+    lone = λ lone r behind. by-dropped lone r behind (eqb r row) refl;
   }
     where
+      first-same : (x : ℕ) → (x ≡ loser → ⊥) → firstRow left x ≡ firstRow t x
+      first-same x ne = lowest-same (ofSender left x) (ofSender t x) 16 (λ r h. same-left x ne r)
+
+      -- the sender's lowest row stays, if it is another one
+      first-stays : (firstRow t loser ≡ row → ⊥) → firstRow t loser ≡ firstRow left loser
+      first-stays ne = lowest-is (ofSender left loser) 16 (firstRow t loser) inside (left-elsewhere loser (firstRow t loser) ne ∙ lowest-holds (ofSender t loser) 16 inside) (λ j h. by-row j h (eqb j row) refl)
+        where
+          inside : firstRow t loser < 16
+          inside = by-end (ltb (firstRow t loser) 16) refl
+            where
+              by-end : (b : Bool) → ltb (firstRow t loser) 16 ≡ b → firstRow t loser < 16
+              by-end true q = ltb-true _ _ q
+              by-end false q = absurd (false≢true (sym (lowest-before (ofSender t loser) 16 row (omega (arith, ltb-false (firstRow t loser) 16 q))) ∙ its-row))
+
+          by-row : (j : ℕ) → j < firstRow t loser → (b : Bool) → eqb j row ≡ b → ofSender left loser j ≡ false
+          by-row j h true q = ap (ofSender left loser) (eqb-true _ _ q) ∙ gone loser
+          by-row j h false q = left-elsewhere loser j (eqb-false _ _ q) ∙ lowest-before (ofSender t loser) 16 j h
+
+      by-dropped : Lone t → (r : ℕ) → Behind left r → (b : Bool) → eqb r row ≡ b → totalsIn (left .«sender_keys») (left .«sender_places») r ≡ noTotals
+      by-dropped lone r behind true e = put-none (t .«sender_keys») (t .«sender_places») r row (s .sender-keys-long) (s .sender-places-long) (eqb-true _ _ e)
+      by-dropped lone r behind false e = put-apart (t .«sender_keys») (t .«sender_places») r row noTotals (eqb-false _ _ e) ∙ lone r (λ x q. by-sender x q (eqb x loser) refl)
+        where
+          by-sender : (x : ℕ) → firstRow t x ≡ r → (c : Bool) → eqb x loser ≡ c → ⊥
+          by-sender x q true f =
+              let its = sym (ap (firstRow t) (eqb-true x loser f)) ∙ q in
+              behind loser (sym (first-stays (λ z. eqb-false r row e (sym its ∙ z))) ∙ its)
+          by-sender x q false f = behind x (first-same x (eqb-false _ _ f) ∙ q)
+
       keys-less : howMany (ofSender left loser) 16 ≡ totalsOf t loser .keys - 1
       keys-less =
           let more = count-more (ofSender left loser) (ofSender t loser) row (left-elsewhere loser) 16 in-16 (gone loser) its-row in
-          let said = ap (λ (z : Totals). z .keys) (step loser) in
+          let said = ap (λ (z : Totals). z .keys) (step .counted loser) in
           omega arith
 
       places-less : howMany (keptFor left loser) 32 ≡ totalsOf t loser .places - placesIn t row
       places-less =
           let sum = count-same (keptFor t loser) (λ j. keptFor left loser j || owns j) 32 (λ j h. split j) ∙ count-sum (keptFor left loser) owns 32 (λ j h. apart j) in
-          let said = ap (λ (z : Totals). z .places) (step loser) in
+          let said = ap (λ (z : Totals). z .places) (step .counted loser) in
           omega arith
 
       told-as-was : (x : ℕ) → (x ≡ loser → ⊥) → firstRow left x < 16 → totalsOf left x ≡ totalsOf t x
       told-as-was x ne l =
-          let first : firstRow left x ≡ firstRow t x = lowest-same (ofSender left x) (ofSender t x) 16 (λ r h. same-left x ne r) in
-          let l′ : firstRow t x < 16 = omega arith in
-          ap (totalsIn (left .«sender_keys») (left .«sender_places»)) first ∙ told-apart t x row noTotals l′ (rows-apart t x loser row ne its-row l′)
+          let first = first-same x ne in
+          ap (totalsIn (left .«sender_keys») (left .«sender_places»)) first ∙ put-apart (t .«sender_keys») (t .«sender_places») (firstRow t x) row noTotals (rows-apart t x loser row ne its-row (omega arith))
 
   pub drop-in-step : InStep (without t row)
   unfolding without
@@ -328,24 +388,28 @@ module _ (t : Table) (s : Sound t) (step : InStep t) (row : ℕ) (in-16 : row < 
   pub drop-within : WithinShares t → WithinShares (without t row)
   unfolding without
   drop-within within =
-      let said = step loser in
+      let said = step .counted loser in
       let had = within loser in
       stays-within t left loser (lessKey (totalsOf t loser) (placesIn t row)) dropped-changes within
       (omega (arith, ap (λ (z : Totals). z .keys) said)) (omega (arith, ap (λ (z : Totals). z .places) said))
 
 -- a fresh table
 module _ (sender : ℕ) where
-  fresh-row : (row : ℕ) → ofSender freshTable sender row ≡ false
-  fresh-row row = rw (all-same 16 row false)
-
   fresh-none : 16 ≤ firstRow freshTable sender
-  fresh-none = omega (arith, lowest-none (ofSender freshTable sender) 16 (λ row h. fresh-row row))
+  fresh-none = omega (arith, lowest-none (ofSender freshTable sender) 16 (λ row h. rw (all-same 16 row false)))
 
   fresh-counted : countedFor freshTable sender ≡ noTotals
   fresh-counted = nothing-counted freshTable (fresh-sound .used-long) sender fresh-none
 
-  pub fresh-in-step : totalsOf freshTable sender ≡ countedFor freshTable sender
-  fresh-in-step = rw (le-ltb _ _ fresh-none) (sym fresh-counted)
-
   pub fresh-within : (countedFor freshTable sender .keys ≤ 4) × (countedFor freshTable sender .places ≤ 8)
   fresh-within = subst (λ (z : Totals). (z .keys ≤ 4) × (z .places ≤ 8)) (sym fresh-counted) (omega arith, omega arith)
+
+pub fresh-in-step : InStep freshTable
+fresh-in-step = record {
+  counted = λ sender. rw (le-ltb _ _ (fresh-none sender)) (sym (fresh-counted sender));
+  no-others = λ row behind. (λ j. cond (ltb row 16) (record { keys = all-same {A = ℕ} 16 row 0 j; places = all-same {A = ℕ} 16 row 0 j }) noTotals) ∙ either (ltb row 16);
+}
+  where
+    either : (b : Bool) → cond b noTotals noTotals ≡ noTotals
+    either true = refl
+    either false = refl

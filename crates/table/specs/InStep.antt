@@ -9,7 +9,7 @@ use lib.ListN.{getD}
 use Rattle.searching.specs.Count.{howMany}
 use Rattle.table.specs.declared.Table.{Table}
 use Rattle.table.specs.declared.Totals.{Totals}
-use Rattle.table.specs.Rows.{keys, places, mostKeys, mostPlaces, placeAt, isFree, isSenders, totalsOf, senderAt}
+use Rattle.table.specs.Rows.{keys, places, mostKeys, mostPlaces, placeAt, isFree, isSenders, firstRow, noTotals, totalsIn, totalsOf, senderAt}
 
 -- Rule T15, counted: how many rows have a key of the sender, and how many places have a fragment of such a row.
 abbrev pub ofSender : Table → ℕ → ℕ → Bool
@@ -21,9 +21,10 @@ keptFor t sender i = not (isFree (placeAt t i)) && ofSender t sender (placeAt t 
 abbrev pub countedFor : Table → ℕ → Totals
 countedFor t sender = record { keys = howMany (ofSender t sender) keys; places = howMany (keptFor t sender) places }
 
--- for every sender
-abbrev pub InStep : Table → Type 0
-InStep t = (sender : ℕ) → totalsOf t sender ≡ countedFor t sender
+-- Rule T15: the totals of every sender are those numbers, and a row that is no sender's lowest has none.
+pub record InStep (t : Table) : Type 0 where
+  pub counted : (sender : ℕ) → totalsOf t sender ≡ countedFor t sender
+  pub no-others : (row : ℕ) → ((sender : ℕ) → firstRow t sender ≡ row → ⊥) → totalsIn (t .«sender_keys») (t .«sender_places») row ≡ noTotals
 
 -- Rule T6: no more than its share.
 abbrev pub WithinShares : Table → Type 0
