@@ -16,7 +16,7 @@ pub use Rattle.pushing.specs.Claims.{Untouched}
 use Rattle.pushing.specs.Push.{Way, way, tableBy, storeBy, placeFor}
 use Rattle.searching.proofs.Search.{lowest-holds}
 use Rattle.table.proofs.Apart.{Same, same-place, put-same, row-after-drop, drop-same, row-after-open}
-use Rattle.table.proofs.Sound.{dropped-time, Sound, place-holds, row-holds}
+use Rattle.table.proofs.Sound.{dropped-time, Sound, place-holds, row-holds, own-used}
 use Rattle.pushing.proofs.Pieces.{kept-out, kept-same}
 use Rattle.pushing.proofs.Ways.{Went, went, went-refuse, went-duplicate, went-keep, went-open, went-end}
 
@@ -83,7 +83,7 @@ module _ (t : Table) (s : Sound t) (store : List ℕ) (a : Arrival) (payload : L
       let same = put-same t s store payload (rowOf t key) i p h h₁ h₂ (λ f. omega arith) (λ f. ne (omega arith)) in
       untouched-by key t (withPlace (withKey t row (a .key) (a .time)) i p) store (paste store (i * 1492) payload (length payload)) (row-after-open t s row (a .key) (a .time) key other h₄ spare)
       (λ q. getD-set-other (t .firsts) row (rowOf t key) (a .time) 0 ne) (record { stays = same .stays; bytes = same .bytes; none = same .none })
-  push-apart (went-end heard bytes h₁ h₂ h₃ l e) = by-row (ltb own 16) refl
+  push-apart (went-end heard bytes h₁ h₂ h₃ l e) = rw (own-used t s (a .key)) (by-row (ltb own 16) refl)
     where
       by-row : (b : Bool) → ltb own 16 ≡ b → Untouched key t (cond b (without t own) t) store store
       by-row true q = drop-untouched t s own (ltb-true _ _ q) store key (λ same. other (sym (row-holds t (a .key) (ltb-true _ _ q) .1) ∙ same))

@@ -5,9 +5,8 @@ use mathlib.Core.Bool.{Bool, true, false, cond}
 use mathlib.Core.Logic.{_⊎_, inl, inr}
 use Prim.Native.Nat.{ℕ, _+_, _≤_, _<_}
 use native.Mathlib.Omega.{arith}
-use lib.Dec.{ltb}
 use lib.ListN.{length, getD}
-use borrow.Author.Tests.{eqb-true, eq-eqb, ltb-true, not-true}
+use borrow.Author.Tests.{eqb-true, eq-eqb, not-true}
 use Rattle.keys.specs.Keys.{senderOf}
 use Rattle.table.specs.declared.Table.{Table}
 use Rattle.table.specs.declared.Totals.{Totals}
@@ -17,7 +16,7 @@ use Rattle.table.specs.InStep.{ofSender, countedFor, InStep, WithinShares, Only
 use Rattle.pushing.specs.Push.{Way, refuse, way, tableBy, placeFor, ownTotals}
 use Rattle.pushing.specs.Made.{Made, byFresh, byPush, bySweep}
 use Rattle.searching.proofs.Search.{lowest-holds}
-use Rattle.table.proofs.Sound.{Sound, row-holds}
+use Rattle.table.proofs.Sound.{Sound, used-row, row-holds}
 use Rattle.table.proofs.InStep.{Changed, stays-in-step, stays-within, kept-changes, opened-changes, drop-in-step, drop-within, fresh-in-step, fresh-within}
 use Rattle.table.proofs.Shares.{row-left, place-left}
 use Rattle.sweeping.proofs.Sound.{sweep-in-step}
@@ -46,14 +45,13 @@ push-good t s good store a payload room (went-open i row h₁ h₂ h₃ l e h k 
     let free : placeAt t i .owner ≡ 0 = eqb-true _ _ (ap (λ (j : ℕ). isFree (placeAt t j)) e ∙ lowest-holds (λ j. isFree (placeAt t j)) 32 (omega arith)) in
     let spare : getD (t .used) row false ≡ false = ap (λ (r : ℕ). getD (t .used) r false) e₂ ∙ not-true _ (lowest-holds (isSpare t) 16 (omega arith)) in
     changed t _ (senderOf (a .key)) _ good (opened-changes t s (good .0) row (a .key) (a .time) i h₄ h (placeFor row (a .fragment) (length payload)) refl free spare) (omega arith) (omega arith)
-push-good t s good store a payload room (went-end heard bytes h₁ h₂ h₃ l e) = by-row (ltb (rowOf t (a .key)) 16) refl
+push-good t s good store a payload room (went-end heard bytes h₁ h₂ h₃ l e) = by-row (getD (t .used) (rowOf t (a .key)) false) refl
   where
-    by-row : (b : Bool) → ltb (rowOf t (a .key)) 16 ≡ b → Good (cond b (without t (rowOf t (a .key))) t)
-    by-row true q =
-        let in-16 = ltb-true (rowOf t (a .key)) 16 q in
-        let used = row-holds t (a .key) in-16 .0 in
+    by-row : (b : Bool) → getD (t .used) (rowOf t (a .key)) false ≡ b → Good (cond b (without t (rowOf t (a .key))) t)
+    by-row true used =
+        let in-16 = used-row t s (rowOf t (a .key)) used in
         (drop-in-step t s (good .0) (rowOf t (a .key)) in-16 used, drop-within t s (good .0) (rowOf t (a .key)) in-16 used (good .1))
-    by-row false q = good
+    by-row false none = good
 
 pub good : {t : Table} → Made t → InStep t × WithinShares t
 good byFresh = (fresh-in-step, fresh-within)

@@ -4,20 +4,20 @@ use mathlib.Core.List.{List}
 use mathlib.Core.Bool.{Bool, true, false, cond, false≢true}
 use Prim.Native.Nat.{ℕ, _+_, _≤_, _<_}
 use native.Mathlib.Omega.{arith}
-use lib.Dec.{eqb, ltb, leb}
+use lib.Dec.{ltb, leb}
 use lib.ListN.{getD, set}
 use lib.Seq.{getD-set-same, getD-set-other}
-use borrow.Author.Tests.{eqb-true, eqb-false, eq-eqb, ltb-true, ltb-false, lt-ltb, le-ltb, lt-leb, le-leb}
+use borrow.Author.Tests.{eq-eqb, ltb-true, ltb-false, lt-ltb, le-ltb, lt-leb, le-leb}
 use Rattle.keys.specs.Keys.{senderOf}
 use Rattle.table.specs.declared.Table.{Table}
 use Rattle.table.specs.declared.Totals.{Totals}
 use Rattle.pushing.specs.declared.Arrival.{Arrival}
 use Rattle.pushing.specs.declared.look.LookedUp.{LookedUp}
-use Rattle.table.specs.Rows.{rowOf, withKey, withPlace, firstRow, noTotals, putTotals, withTotals}
+use Rattle.table.specs.Rows.{rowOf, withKey, withPlace, firstRow, lower, noTotals, putTotals, withTotals}
 use Rattle.table.specs.InStep.{ofSender}
 use Rattle.pushing.specs.Push.{lookedUp, ownTotals, placeFor, keptUnder, openedFor}
-use Rattle.pushing.specs.PrivateSteps.{underRow, opened, lower, keptBy}
-use Rattle.searching.proofs.Search.{lowest-holds, lowest-before, lowest-is}
+use Rattle.pushing.specs.PrivateSteps.{underRow, opened, keptBy}
+use Rattle.searching.proofs.Search.{lowest-before, lowest-with}
 use Rattle.table.proofs.Sound.{Sound, row-holds}
 use Rattle.table.proofs.Freed.{retold}
 
@@ -29,11 +29,9 @@ module _ (t : Table) (found : LookedUp) (held : Totals) (a : Arrival) (size row 
   opened-by first-keys first-places k p = λ i. withKey (retold t (k i) (p i)) row (a .key) (a .time)
 
   pub kept-by : (opens : Bool) → leb 16 (found .row) ≡ opens → (n : Table) → n ≡ opened opens t (found .first) row a → (many : ℕ) → many ≡ cond opens (held .keys + 1) (held .keys) → (low : ℕ) → low ≡ lower row (found .first)
-      → (keys′ places′ : List ℕ) → keys′ ≡ set (n .«sender_keys») low many → places′ ≡ set (n .«sender_places») low (held .places + 1)
-      → retold (withPlace n (found .free) (placeFor row (a .fragment) size)) keys′ places′ ≡ keptBy found held t a size
-  kept-by opens e n is many counts low lowest keys′ places′ k p =
-      (λ i. retold (withPlace n (found .free) (placeFor row (a .fragment) size)) (k i) (p i))
-      ∙ (λ i. putTotals (withPlace (is i) (found .free) (placeFor row (a .fragment) size)) (lowest i) (record { keys = counts i; places = held .places + 1 }))
+      → putTotals (withPlace n (found .free) (placeFor row (a .fragment) size)) low (record { keys = many; places = held .places + 1 }) ≡ keptBy found held t a size
+  kept-by opens e n is many counts low lowest =
+      (λ i. putTotals (withPlace (is i) (found .free) (placeFor row (a .fragment) size)) (lowest i) (record { keys = counts i; places = held .places + 1 }))
       ∙ (λ i. putTotals (withPlace (opened (sym e i) t (found .first) (under i) a) (found .free) (placeFor (under i) (a .fragment) size)) (lower (under i) (found .first)) (record { keys = cond (sym e i) (held .keys + 1) (held .keys); places = held .places + 1 }))
 
 -- the sender's lowest row is at or before that of one of its keys
@@ -66,20 +64,7 @@ module _ (t : Table) (s : Sound t) (key row time : ℕ) (in-16 : row < 16) where
   other-row r ne = rw (getD-set-other (t .used) row r true false ne, getD-set-other (t .«row_keys») row r key 0 ne)
 
   pub opened-first : lower row first ≡ firstRow (withKey t row key time) (senderOf key)
-  opened-first = by-order (ltb row first) refl
-    where
-      none-before : (j : ℕ) → j < row → j < first → after j ≡ false
-      none-before j h h₂ = other-row j (λ e. omega arith) ∙ lowest-before (ofSender t (senderOf key)) 16 j h₂
-
-      by-order : (b : Bool) → ltb row first ≡ b → cond b row first ≡ firstRow (withKey t row key time) (senderOf key)
-      by-order true e = let l = ltb-true row first e in lowest-is after 16 row in-16 new-row (λ j h. none-before j h (omega arith))
-      by-order false e =
-          let l = ltb-false row first e in
-          lowest-is after 16 first (omega arith) (by-row (eqb first row) refl) (λ j h. none-before j (omega arith) h)
-        where
-          by-row : (c : Bool) → eqb first row ≡ c → after first ≡ true
-          by-row true q = ap after (eqb-true _ _ q) ∙ new-row
-          by-row false q = other-row first (eqb-false _ _ q) ∙ lowest-holds (ofSender t (senderOf key)) 16 (omega (arith, ltb-false row first e))
+  opened-first = sym (lowest-with after (ofSender t (senderOf key)) 16 row in-16 new-row other-row)
 
 -- what is kept is what the way says
 module _ (t : Table) (s : Sound t) (a : Arrival) (size : ℕ) where

@@ -16,7 +16,7 @@ use Rattle.pushing.specs.Joining.{Fragments, Held, Kept, nothing, kept, 
 use Rattle.pushing.specs.Push.{Way, refuse, duplicate, keepAt, openAt, end, way, tableBy, storeBy, placeFor}
 use Rattle.searching.proofs.Search.{lowest-is, lowest-holds, lowest-before, lowest-same}
 use Rattle.table.proofs.Places.{put-here, put-elsewhere}
-use Rattle.table.proofs.Sound.{Sound, place-holds, no-place, not-held, numbered-both, open-sound, drop-sound}
+use Rattle.table.proofs.Sound.{Sound, own-used, place-holds, no-place, not-held, numbered-both, open-sound, drop-sound}
 use Rattle.pushing.proofs.Pieces.{kept-in, kept-out, kept-same}
 use Rattle.table.proofs.Apart.{bytes-apart, drop-gone}
 use Rattle.pushing.proofs.Ways.{Went, went, went-refuse, went-duplicate, went-keep, went-open, went-end}
@@ -177,7 +177,7 @@ module _ (t : Table) (s : Sound t) (store : List ℕ) (a : Arrival) (payload : L
             ∙ ap (λ (x : Kept). cond (eqb n number) (kept new) x) (opened-empty t s row (a .key) (a .time) h₄ k spare store n ∙ sym (absent t s (a .key) k store n))),
         opened-since t s row (a .key) (a .time) h₄ k,
       )
-  told-by (went-end heard bytes h₁ h₂ h₃ l e) = by-row (ltb own 16) refl
+  told-by (went-end heard bytes h₁ h₂ h₃ l e) = rw (own-used t s (a .key)) (by-row (ltb own 16) refl)
     where
       by-row : (b : Bool) → ltb own 16 ≡ b → ((k : ℕ) → heldBy (cond b (without t own) t) store (a .key) k ≡ nothing) × (firstTime (cond b (without t own) t) (a .key) ≡ never)
       by-row false q = (absent t s (a .key) (ltb-false _ _ q) store, absent-since t s (a .key) (ltb-false _ _ q))

@@ -5,7 +5,7 @@ use mathlib.Core.Bool.{Bool, true, false, cond}
 use Prim.Native.Nat.{ℕ, _*_, _≤_, _<_}
 use native.Mathlib.Omega.{arith}
 use lib.Dec.{ltb}
-use lib.ListN.{length}
+use lib.ListN.{length, List·getD-eq-default}
 use lib.Seq.{paste}
 use borrow.Author.Tests.{ltb-true, ltb-false}
 use Rattle.table.specs.declared.Table.{Table}
@@ -71,9 +71,11 @@ module _ (t : Table) (store : List ℕ) (a : Arrival) (payload : List ℕ) (room
   abbrev Left : Way → Type 0
   Left w = (droppedKey t (dropBy w row) ≡ tableBy w t a (length payload)) × (store ≡ storeBy w store payload)
 
-  pub join-goes : its ≡ joinedWith t store row (a .fragment) payload room → (out out′ : List ℕ) (r : Verdict) → Ends (joinedWith t store row (a .fragment) payload room) row r out out′
+  pub join-goes : Sound t → its ≡ joinedWith t store row (a .fragment) payload room → (out out′ : List ℕ) (r : Verdict) → Ends (joinedWith t store row (a .fragment) payload room) row r out out′
       → Goes its t store out a payload (r .answer) (droppedKey t (r .dropped)) store out′
-  join-goes e out out′ r ends =
-      let left : Left (joinedWith t store row (a .fragment) payload room) = by-ends Left (refl, refl) (refl, refl) (refl, refl) (λ n. (refl, refl)) (λ n. (refl, refl)) (λ bytes. (refl, refl))
+  join-goes s e out out′ r ends =
+      let long : length (t .used) ≤ 16 = omega (arith, s .used-long) in
+      let none : droppedKey t 16 ≡ t = rw (List·getD-eq-default (t .used) false long) in
+      let left : Left (joinedWith t store row (a .fragment) payload room) = by-ends Left (refl, refl) (refl, refl) (refl, refl) (λ n. (refl, refl)) (λ n. (none, refl)) (λ bytes. (refl, refl))
       (heldOf (a .fragment) payload) (andNew (heldIn t store row) (a .fragment .number) (heldOf (a .fragment) payload)) room in
       rw e (record { answers = ends .answers; keeps = ap (droppedKey t) (ends .drops) ∙ left .0; stores = left .1; puts = ends .puts })

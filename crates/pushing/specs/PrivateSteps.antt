@@ -18,7 +18,7 @@ use Rattle.pushing.specs.declared.look.LookedUp.{LookedUp}
 use Rattle.pushing.specs.declared.choose.Step.{Step}
 use Rattle.pushing.specs.declared.choose.Step.the-variants.{Refuse, Duplicate, Keep, Join}
 use Rattle.searching.specs.Search.{lowest}
-use Rattle.table.specs.Rows.{keys, places, ownerOf, bytesAt, withKey, withPlace, firstRowIn, noTotals, putTotals}
+use Rattle.table.specs.Rows.{keys, places, ownerOf, bytesAt, withKey, withPlace, firstRowIn, lower, noTotals, putTotals}
 use Rattle.pushing.specs.Joining.{inOrder}
 use Rattle.pushing.specs.Push.{Way, refuse, duplicate, keepAt, openAt, end, joinBy, placeFor, pushedOf, over, answerBy, outputBy}
 
@@ -133,9 +133,6 @@ pub record Ends (w : Way) (row : ℕ) (r : Verdict) (out out′ : List ℕ) : Ty
 -- Rules T6 and T15: a row gets the key, and the sender's totals leave its lowest row; or the row has the key.
 abbrev pub opened : Bool → Table → (first row : ℕ) → Arrival → Table
 opened opens t first row a = cond opens (withKey (putTotals t first noTotals) row (a .key) (a .time)) t
-
-abbrev pub lower : ℕ → ℕ → ℕ
-lower a b = cond (ltb a b) a b
 
 -- Rules T6 and T15: a fragment is kept where there is room for it.
 abbrev pub keptBy : LookedUp → Totals → Table → Arrival → (size : ℕ) → Table

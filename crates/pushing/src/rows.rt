@@ -5,13 +5,13 @@ use crate::look::LookedUp;
 use table::KEYS;
 use table::Table;
 use table::Totals;
-use table::with_total;
+use table::lower_row;
 ghost use mathlib.Core.Path.{_≡_};
 ghost use Prim.Native.Nat.{_+_, _≤_, _<_};
-ghost use lib.ListN.{length, drop};
+ghost use lib.ListN.{length, drop, set};
 ghost use lib.Seq.{paste};
 ghost use Rattle.table.specs.Rows.{keys, places, placeSize, mostKeys, mostPlaces};
-ghost use Rattle.pushing.specs.PrivateSteps.{underRow, lower, keptBy};
+ghost use Rattle.pushing.specs.PrivateSteps.{underRow, keptBy};
 
 // n bytes of src, from the byte `from` on, go to dst, from the byte `at` on.
 pub(crate) fn copy(src: &[u8], from: usize, n: usize, dst: &mut [u8], at: usize)
@@ -25,10 +25,15 @@ pub(crate) fn copy(src: &[u8], from: usize, n: usize, dst: &mut [u8], at: usize)
     }
 }
 
-fn lower_of(a: usize, b: usize) -> usize
-    ensures { λ r. ⌜ r ≡ lower a b ⌝ }
+// Rule T15: a list of totals with 0 in a row. For a row that the table does not have, it stays.
+fn without_total(totals: [u8; KEYS], row: usize) -> [u8; KEYS]
+    ensures { λ r. ⌜ r ≡ set totals row 0 ⌝ }
 {
-    if a < b { a } else { b }
+    let mut n = totals;
+    if row < KEYS {
+        n[row] = 0;
+    }
+    n
 }
 
 // Rules T6 and T15: the table with a fragment in the lowest free place, under the row that has its key or gets it. A row
@@ -48,8 +53,8 @@ pub(crate) fn with_fragment(
     let row = under_row(found);
     let mut keys = held.keys;
     if KEYS <= found.row {
-        n.sender_keys = with_total(n.sender_keys, found.first, 0);
-        n.sender_places = with_total(n.sender_places, found.first, 0);
+        n.sender_keys = without_total(n.sender_keys, found.first);
+        n.sender_places = without_total(n.sender_places, found.first);
         n.row_keys[row] = a.key;
         n.firsts[row] = a.time;
         n.used[row] = true;
@@ -60,8 +65,8 @@ pub(crate) fn with_fragment(
     n.owners[place] = row as u8 + 1;
     n.numbers[place] = a.fragment.number;
     n.versions[place] = a.fragment.version;
-    let first = lower_of(row, found.first);
-    n.sender_keys = with_total(n.sender_keys, first, keys);
-    n.sender_places = with_total(n.sender_places, first, held.places + 1);
+    let first = lower_row(row, found.first);
+    n.sender_keys[first] = keys;
+    n.sender_places[first] = held.places + 1;
     n
 }

@@ -4,8 +4,8 @@ use mathlib.Core.Bool.{Bool, true, false, cond, false≢true}
 use Prim.Native.Nat.{ℕ, zero, suc, _+_, _≤_, _<_}
 use native.Mathlib.Omega.{arith}
 use native.Mathlib.Numerals.{add-one}
-use lib.Dec.{ltb}
-use borrow.Author.Tests.{ltb-true, ltb-false, lt-ltb, le-ltb}
+use lib.Dec.{eqb, ltb}
+use borrow.Author.Tests.{eqb-true, eqb-false, ltb-true, ltb-false, lt-ltb, le-ltb}
 use Rattle.searching.specs.Search.{lowest}
 
 module _ (test : ℕ → Bool) where
@@ -93,3 +93,20 @@ lowest-same p q n same = by-end (ltb (lowest p n) n) refl
     by-end false e =
         let end : lowest p n ≡ n = omega (arith, ltb-false (lowest p n) n e, lowest-le p n) in
         end ∙ lowest-none q n (λ j l. sym (same j l) ∙ lowest-before p n j (omega arith))
+
+-- one number more passes
+pub lowest-with : (p q : ℕ → Bool) (n i : ℕ) → i < n → p i ≡ true → ((k : ℕ) → (k ≡ i → ⊥) → p k ≡ q k) → lowest p n ≡ cond (ltb i (lowest q n)) i (lowest q n)
+lowest-with p q n i l passes same = by-order (ltb i (lowest q n)) refl
+  where
+    none-before : (j : ℕ) → j < i → j < lowest q n → p j ≡ false
+    none-before j h h₂ = same j (λ e. omega arith) ∙ lowest-before q n j h₂
+
+    by-order : (b : Bool) → ltb i (lowest q n) ≡ b → lowest p n ≡ cond b i (lowest q n)
+    by-order true e = let h = ltb-true i (lowest q n) e in sym (lowest-is p n i l passes (λ j k. none-before j k (omega arith)))
+    by-order false e =
+        let h = ltb-false i (lowest q n) e in
+        sym (lowest-is p n (lowest q n) (omega arith) (by-number (eqb (lowest q n) i) refl) (λ j k. none-before j (omega arith) k))
+      where
+        by-number : (c : Bool) → eqb (lowest q n) i ≡ c → p (lowest q n) ≡ true
+        by-number true f = ap p (eqb-true _ _ f) ∙ passes
+        by-number false f = same (lowest q n) (eqb-false _ _ f) ∙ lowest-holds q n (omega (arith, ltb-false i (lowest q n) e))

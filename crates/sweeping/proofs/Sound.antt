@@ -1,15 +1,14 @@
 -- A sweep of a sound table leaves it sound, and leaves the totals in step and within the shares.
-use mathlib.Core.Path.{_≡_, refl, _∙_}
-use mathlib.Core.Bool.{Bool, true, false, cond, and-eq-true-iff}
+use mathlib.Core.Path.{_≡_, refl}
+use mathlib.Core.Bool.{Bool, true, false, cond}
 use Prim.Native.Nat.{ℕ, zero, suc, _≤_}
 use native.Mathlib.Omega.{arith}
-use lib.ListN.{getD}
 use Rattle.table.specs.declared.Table.{Table}
 use Rattle.table.specs.Rows.{keys, without}
-use Rattle.sweeping.specs.Sweep.{isOld, sweptRows, expired}
+use Rattle.sweeping.specs.Sweep.{sweptRows, expired}
 use Rattle.table.proofs.Sound.{Sound, drop-sound}
 use Rattle.table.proofs.InStep.{InStep, WithinShares, drop-in-step, drop-within}
-use Rattle.sweeping.proofs.Sweeping.{rows-none, rows-next, later}
+use Rattle.sweeping.proofs.Sweeping.{rows-none, rows-next, expired-used}
 
 pub sweep-sound : (t : Table) → Sound t → (time n : ℕ) → n ≤ keys → Sound (sweptRows t time n)
 sweep-sound t s time zero h = rw (← rows-none t time) s
@@ -29,7 +28,7 @@ module _ (t : Table) (s : Sound t) (step : InStep t) (within : WithinShares t) (
     where
       by-age : (b : Bool) → expired t time n ≡ b → InStep (to n) × WithinShares (to n) → InStep (cond b (without (to n) n) (to n)) × WithinShares (cond b (without (to n) n) (to n))
       by-age true e was =
-          let used : getD (to n .used) n false ≡ true = later t time n n (omega arith) .0 ∙ and-eq-true-iff (getD (t .used) n false) (isOld time (getD (t .firsts) n 0)) .0 e .0 in
+          let used = expired-used t time n e in
           let sound = sweep-sound t s time n (omega arith) in
           (drop-in-step (to n) sound (was .0) n (omega arith) used, drop-within (to n) sound (was .0) n (omega arith) used (was .1))
       by-age false e was = was

@@ -1,6 +1,6 @@
 -- Laws of the sweep: what one row adds, and that the rows which it has not reached are as they were.
 use mathlib.Core.Path.{_≡_, refl, ap, _∙_}
-use mathlib.Core.Bool.{Bool, true, false, cond}
+use mathlib.Core.Bool.{Bool, true, false, cond, and-eq-true-iff}
 use Prim.Native.Nat.{ℕ, zero, suc, _+_, _≤_, _<_}
 use native.Mathlib.Omega.{arith}
 use native.Mathlib.Nat.{add-zero}
@@ -12,7 +12,7 @@ use Rattle.searching.specs.Count.{howMany}
 use Rattle.table.specs.declared.Table.{Table}
 use Rattle.sweeping.specs.declared.Swept.{Swept}
 use Rattle.table.specs.Rows.{without}
-use Rattle.sweeping.specs.Sweep.{expired, sweptRows, sweptAs}
+use Rattle.sweeping.specs.Sweep.{isOld, expired, sweptRows, sweptAs}
 use Rattle.searching.proofs.Count.{count-before-all, count-next}
 use Rattle.table.proofs.Sound.{dropped-other, dropped-time}
 
@@ -37,6 +37,10 @@ module _ (t : Table) (time : ℕ) where
 
   pub expired-later : (n r : ℕ) → n ≤ r → expired (sweptRows t time n) time r ≡ expired t time r
   expired-later n r l = let was = later n r l in rw (was .0, was .1)
+
+  -- a row that it comes to next, and drops, has its key still
+  pub expired-used : (n : ℕ) → expired t time n ≡ true → getD (sweptRows t time n .used) n false ≡ true
+  expired-used n e = later n n (omega arith) .0 ∙ and-eq-true-iff (getD (t .used) n false) (isOld time (getD (t .firsts) n 0)) .0 e .0
 
   -- what the loop has once it has swept the rows below n
   abbrev pub sweptTo : ℕ → Swept

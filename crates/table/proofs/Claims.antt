@@ -1,8 +1,7 @@
 -- The claims of specs/Claims.antt, proved.
 use mathlib.Core.Path.{sym, _∙_}
-use lib.ListN.{set}
 use Rattle.numbers.proofs.Firm.{by-equation}
-use Rattle.table.specs.Rows.{freshTable, totalsIn, droppedKey}
+use Rattle.table.specs.Rows.{freshTable, totalsIn, lower, droppedKey}
 use Rattle.table.specs.Claims.{Claims}
 
 pub claims : Claims
@@ -11,7 +10,7 @@ claims = record {
     fresh = by-equation freshTable;
     first-row = λ used row-keys sender a b x y. x .0 ∙ sym (y .0);
     totals-at = λ sender-keys sender-places row. by-equation (totalsIn sender-keys sender-places row);
-    with-total = λ totals row total. by-equation (set totals row total);
+    lower-row = λ a b. by-equation (lower a b);
     without-key = λ t row. by-equation (droppedKey t row);
   };
 }

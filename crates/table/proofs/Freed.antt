@@ -1,18 +1,21 @@
 -- What the loop of `without_key` has done: the places below i are freed, if the owner has them.
-use mathlib.Core.Path.{_≡_, sym, ap, _∙_}
+use mathlib.Core.Path.{_≡_, refl, sym, ap, _∙_}
 use mathlib.Core.List.{List}
-use mathlib.Core.Bool.{Bool, false}
+use mathlib.Core.Bool.{Bool, true, false, cond}
 use Prim.{⊥}
-use Prim.Native.Nat.{ℕ, _+_, _≤_}
+use Prim.Native.Nat.{ℕ, _+_, _-_, _≤_, _<_}
+use native.Mathlib.Omega.{arith}
 use native.Mathlib.Nat.{add-zero}
 use native.Mathlib.Numerals.{add-one}
-use lib.Dec.{eqb}
-use lib.ListN.{length, getD, set}
-use borrow.Author.Tests.{eq-eqb, ne-eqb}
+use lib.Dec.{eqb, ltb}
+use lib.ListN.{length, getD, set, length-set}
+use lib.Seq.{set-out, getD-set-other}
+use borrow.Author.Tests.{eq-eqb, ne-eqb, lt-ltb, ltb-false}
 use Rattle.table.specs.declared.Table.{Table}
 use Rattle.table.specs.declared.Totals.{Totals}
-use Rattle.table.specs.Rows.{ownerOf, freePlace, withPlace, firstRow, totalsOf, putTotals, withTotals, cleared, senderAt, placesIn, lessKey, without}
+use Rattle.table.specs.Rows.{ownerOf, freePlace, withPlace, isSenders, firstRow, lower, totalsIn, totalsOf, putTotals, withTotals, cleared, senderAt, placesIn, lessKey, without}
 use Rattle.searching.specs.Count.{howMany}
+use Rattle.searching.proofs.Search.{lowest-with}
 use Rattle.searching.proofs.Count.{count-next}
 use Rattle.table.proofs.Wiped.{wipedTo, wiped-none, wiped-ahead, wiped-met, wiped-passed, wiped-all}
 
@@ -67,6 +70,22 @@ by-rule f g same t =
       «sender_places» = t .«sender_places»;
     }
 
+-- a table with these lists of totals
+abbrev pub retold : Table → (sender-keys sender-places : List ℕ) → Table
+retold t sender-keys sender-places =
+    record {
+      «row_keys» = t .«row_keys»;
+      firsts = t .firsts;
+      «message_types» = t .«message_types»;
+      sizes = t .sizes;
+      owners = t .owners;
+      numbers = t .numbers;
+      versions = t .versions;
+      used = t .used;
+      «sender_keys» = sender-keys;
+      «sender_places» = sender-places;
+    }
+
 pub freed-none : (owner : ℕ) (t : Table) → t ≡ freedTo owner t 0
 freed-none owner t = by-rule (λ xs. xs) (λ xs. wipedTo owner 0 (t .owners) xs 0) (wiped-none owner 0 (t .owners)) t
 
@@ -102,35 +121,53 @@ pub freed-all : (t : Table) (row i : ℕ) → length (t .owners) ≤ i → freed
 freed-all t row i behind =
     by-rule (λ xs. wipedTo (ownerOf row) 0 (t .owners) xs i) _ (λ xs. wiped-all (ownerOf row) 0 (t .owners) xs i behind) (rowCleared t row)
 
--- a table with these lists of totals
-abbrev pub retold : Table → (sender-keys sender-places : List ℕ) → Table
-retold t sender-keys sender-places =
-    record {
-      «row_keys» = t .«row_keys»;
-      firsts = t .firsts;
-      «message_types» = t .«message_types»;
-      sizes = t .sizes;
-      owners = t .owners;
-      numbers = t .numbers;
-      versions = t .versions;
-      used = t .used;
-      «sender_keys» = sender-keys;
-      «sender_places» = sender-places;
-    }
+-- the lower of two rows is one of the table's if the first is
+pub lower-inside : (row next : ℕ) → row < 16 → lower row next < 16
+lower-inside row next h = by-order (ltb row next) refl
+  where
+    by-order : (b : Bool) → ltb row next ≡ b → cond b row next < 16
+    by-order true e = h
+    by-order false e = omega (arith, ltb-false row next e)
 
--- the totals of the row's sender, once the row is cleared
-module _ (t : Table) (row : ℕ) (n : Table) (done : n ≡ cleared t row) (sender next : ℕ) (its : sender ≡ senderAt t row) (is : next ≡ firstRow n sender) where
+-- a row's key is dropped
+module _ (t : Table) (row : ℕ) (in-16 : row < 16) (used : getD (t .used) row false ≡ true) (n : Table) (done : n ≡ cleared t row) (sender next : ℕ) (its : sender ≡ senderAt t row) (is : next ≡ firstRow (cleared t row) sender) where
   next-is : next ≡ firstRow (cleared t row) (senderAt t row)
-  next-is = is ∙ ap (λ (z : Table). firstRow z sender) done ∙ ap (firstRow (cleared t row)) its
+  next-is = is ∙ ap (firstRow (cleared t row)) its
+
+  -- its sender's totals were in this row or in the next one, whichever is lower
+  first-is : lower row next ≡ firstRow t (senderAt t row)
+  first-is =
+      ap (lower row) next-is
+      ∙ sym (lowest-with (isSenders (t .used) (t .«row_keys») (senderAt t row)) (isSenders (cleared t row .used) (cleared t row .«row_keys») (senderAt t row)) 16 row in-16
+      (rw (used, eq-eqb (senderAt t row) (senderAt t row) refl)) (λ k ne. sym (rw (getD-set-other (t .used) row k false false ne, getD-set-other (t .«row_keys») row k 0 0 ne))))
+
+  abbrev held : Totals
+  held = totalsOf t (senderAt t row)
+
+  held-is : held ≡ record { keys = getD (t .«sender_keys») (lower row next) 0; places = getD (t .«sender_places») (lower row next) 0 }
+  held-is = sym (ap (totalsIn (t .«sender_keys») (t .«sender_places»)) first-is) ∙ rw (lt-ltb _ _ (lower-inside row next in-16))
 
   abbrev rest : Totals
-  rest = lessKey (totalsOf t (senderAt t row)) (placesIn t row)
+  rest = lessKey held (placesIn t row)
 
-  pub lowered : (many many′ : ℕ) → many ≡ rest .keys → many′ ≡ rest .places → (keys′ places′ : List ℕ) → keys′ ≡ set (n .«sender_keys») next many → places′ ≡ set (n .«sender_places») next many′
-      → retold n keys′ places′ ≡ without t row
+  -- what is left of them goes to the next row, if there is one
+  pub lowered : (first : ℕ) → first ≡ lower row next → (many many′ : ℕ) → many ≡ getD (t .«sender_keys») first 0 - 1 → many′ ≡ getD (t .«sender_places») first 0 - placesIn t row
+      → putTotals n next (record { keys = many; places = many′ }) ≡ without t row
   unfolding without
-  lowered many many′ e f keys′ places′ k p =
-      (λ i. retold n (k i) (p i))
-      ∙ ap (λ (z : Table). putTotals z next (record { keys = many; places = many′ })) done
+  lowered first low many many′ e f =
+      ap (λ (z : Table). putTotals z next (record { keys = many; places = many′ })) done
       ∙ ap (λ (r : ℕ). putTotals (cleared t row) r (record { keys = many; places = many′ })) next-is
-      ∙ ap (withTotals (cleared t row) (senderAt t row)) (λ i. record { keys = e i; places = f i })
+      ∙ ap (withTotals (cleared t row) (senderAt t row)) (λ i. record { keys = keys-are i; places = places-are i })
+    where
+      keys-are : many ≡ rest .keys
+      keys-are = e ∙ ap (λ (r : ℕ). getD (t .«sender_keys») r 0 - 1) low ∙ ap (λ (z : Totals). z .keys - 1) (sym held-is)
+
+      places-are : many′ ≡ rest .places
+      places-are = f ∙ ap (λ (r : ℕ). getD (t .«sender_places») r 0 - placesIn t row) low ∙ ap (λ (z : Totals). z .places - placesIn t row) (sym held-is)
+
+  pub none-left : length (t .«sender_keys») ≡ 16 → length (t .«sender_places») ≡ 16 → 16 ≤ next → n ≡ without t row
+  unfolding without
+  none-left long long′ out =
+      done
+      ∙ (λ i. retold (cleared t row) (sym (set-out (cleared t row .«sender_keys») (firstRow (cleared t row) (senderAt t row)) (rest .keys) (omega (arith, next-is, length-set (t .«sender_keys») row 0))) i)
+      (sym (set-out (cleared t row .«sender_places») (firstRow (cleared t row) (senderAt t row)) (rest .places) (omega (arith, next-is, length-set (t .«sender_places») row 0))) i))

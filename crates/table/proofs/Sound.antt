@@ -87,6 +87,14 @@ row-both t key row e = by-tests (getD (t .used) row false) refl (eqb (getD (t .�
 pub row-holds : (t : Table) (key : ℕ) → rowOf t key < 16 → (getD (t .used) (rowOf t key) false ≡ true) × (getD (t .«row_keys») (rowOf t key) 0 ≡ key)
 row-holds t key h = row-both t key (rowOf t key) (lowest-holds (isRowOf t key) 16 h)
 
+-- the row of a key has one exactly if it is one of the table's
+pub own-used : (t : Table) → Sound t → (key : ℕ) → getD (t .used) (rowOf t key) false ≡ ltb (rowOf t key) 16
+own-used t s key = by-end (ltb (rowOf t key) 16) refl
+  where
+    by-end : (b : Bool) → ltb (rowOf t key) 16 ≡ b → getD (t .used) (rowOf t key) false ≡ b
+    by-end true q = row-holds t key (ltb-true _ _ q) .0
+    by-end false q = let long : length (t .used) ≤ rowOf t key = omega (arith, s .used-long, ltb-false (rowOf t key) 16 q) in List·getD-eq-default (t .used) false long
+
 pub no-row : (t : Table) → Sound t → (key : ℕ) → 16 ≤ rowOf t key → (row : ℕ) → getD (t .used) row false ≡ true → getD (t .«row_keys») row 0 ≡ key → ⊥
 no-row t s key h row e f =
     let is : isRowOf t key row ≡ true = rw (e, eq-eqb _ _ f) in
@@ -247,8 +255,8 @@ module _ (t : Table) (s : Sound t) (row : ℕ) (in-16 : row < 16) where
   }
 
 pub end-sound : (t : Table) → Sound t → (row : ℕ) → Sound (droppedKey t row)
-end-sound t s row = by-row (ltb row 16) refl
+end-sound t s row = by-used (getD (t .used) row false) refl
   where
-    by-row : (b : Bool) → ltb row 16 ≡ b → Sound (cond b (without t row) t)
-    by-row true e = drop-sound t s row (ltb-true _ _ e)
-    by-row false e = s
+    by-used : (b : Bool) → getD (t .used) row false ≡ b → Sound (cond b (without t row) t)
+    by-used true e = drop-sound t s row (used-row t s row e)
+    by-used false e = s

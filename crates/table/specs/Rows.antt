@@ -142,6 +142,10 @@ firstRowIn used row-keys sender = lowest (isSenders used row-keys sender) keys
 abbrev pub firstRow : Table → ℕ → ℕ
 firstRow t sender = firstRowIn (t .used) (t .«row_keys») sender
 
+-- the lower of two rows
+abbrev pub lower : ℕ → ℕ → ℕ
+lower a b = cond (ltb a b) a b
+
 -- Rule T15: what a sender holds as the table says it, how many keys and how many places; nothing, for one without a row.
 abbrev pub noTotals : Totals
 noTotals = record { keys = 0; places = 0 }
@@ -208,9 +212,9 @@ lessKey held many = record { keys = held .keys - 1; places = held .places - many
 unfoldable pub without : Table → ℕ → Table
 without t row = withTotals (cleared t row) (senderAt t row) (lessKey (totalsOf t (senderAt t row)) (placesIn t row))
 
--- Rules T7 and T12: the key of a row is dropped, if the table has this row.
+-- Rules T7 and T12: the key of a row is dropped, if the row has one.
 abbrev pub droppedKey : Table → ℕ → Table
-droppedKey t row = cond (ltb row keys) (without t row) t
+droppedKey t row = cond (getD (t .used) row false) (without t row) t
 
 -- Rule T1: the payload in place i of the store, from byte 1,492 times i on.
 abbrev pub bytesAt : List ℕ → ℕ → ℕ → List ℕ

@@ -6,9 +6,8 @@ ghost use mathlib.Core.Path.{_≡_};
 ghost use mathlib.Core.Bool.{_&&_};
 ghost use Prim.Native.Nat.{_-_, _≤_};
 ghost use lib.Dec.{eqb};
-ghost use lib.ListN.{set};
 ghost use Rattle.keys.specs.Keys.{senderOf};
-ghost use Rattle.table.specs.Rows.{keys, freshTable, firstRowIn, totalsIn, droppedKey};
+ghost use Rattle.table.specs.Rows.{keys, freshTable, firstRowIn, totalsIn, lower, droppedKey};
 
 // Rule T1: how many keys and fragments a table can hold, and how many bytes a place and the whole store have.
 pub const KEYS: usize = 16;
@@ -110,15 +109,11 @@ pub fn totals_at<'a>(
     Totals { keys: 0, places: 0 }
 }
 
-// Rule T15: a list of totals with this one in a row. For a row that the table does not have, it stays.
-pub fn with_total(totals: [u8; KEYS], row: usize, total: u8) -> [u8; KEYS]
-    ensures { λ r. ⌜ r ≡ set totals row total ⌝ }
+// Rule T15: the lower of two rows, of which one may be `KEYS`.
+pub fn lower_row(a: usize, b: usize) -> usize
+    ensures { λ r. ⌜ r ≡ lower a b ⌝ }
 {
-    let mut n = totals;
-    if row < KEYS {
-        n[row] = total;
-    }
-    n
+    if a < b { a } else { b }
 }
 
 // What is left of a after b is taken away, at least 0.
@@ -129,39 +124,44 @@ fn less(a: u8, b: u8) -> u8
 }
 
 // Rules T12 and T15: the table without a row's key. The row and its places are as fresh ones, and its sender's totals
-// are less by one key and these places. For a row that the table does not have, nothing is dropped. There is one pass
-// over the places, so that the compiler puts this function into push and sweep. As a call it would keep a copy of the
-// table on the stack.
+// are less by one key and these places. For a row that has no key, nothing is dropped. There is one pass over the
+// places, and one search for the sender's next row, so that the compiler puts this function into push and sweep. As a
+// call it would keep a copy of the table on the stack.
 pub fn without_key(t: Table, row: usize) -> Table
     ensures { λ r. ⌜ r ≡ droppedKey t row ⌝ }
 {
     let mut n = t;
     if row < KEYS {
-        let owner = row as u8 + 1;
-        let sender = sender_of(n.row_keys[row]);
-        let first = first_row(&n.used, &n.row_keys, sender);
-        let held = totals_at(&n.sender_keys, &n.sender_places, first);
-        n.row_keys[row] = 0;
-        n.firsts[row] = 0;
-        n.used[row] = false;
-        n.sender_keys[row] = 0;
-        n.sender_places[row] = 0;
-        let mut freed: u8 = 0;
-        let mut i: usize = 0;
-        while i < PLACES {
-            if n.owners[i] == owner {
-                n.message_types[i] = 0;
-                n.sizes[i] = 0;
-                n.owners[i] = 0;
-                n.numbers[i] = 0;
-                n.versions[i] = 0;
-                freed += 1;
+        if n.used[row] {
+            let owner = row as u8 + 1;
+            let sender = sender_of(n.row_keys[row]);
+            n.row_keys[row] = 0;
+            n.firsts[row] = 0;
+            n.used[row] = false;
+            let next = first_row(&n.used, &n.row_keys, sender);
+            let first = lower_row(row, next);
+            let keys = n.sender_keys[first];
+            let places = n.sender_places[first];
+            n.sender_keys[row] = 0;
+            n.sender_places[row] = 0;
+            let mut freed: u8 = 0;
+            let mut i: usize = 0;
+            while i < PLACES {
+                if n.owners[i] == owner {
+                    n.message_types[i] = 0;
+                    n.sizes[i] = 0;
+                    n.owners[i] = 0;
+                    n.numbers[i] = 0;
+                    n.versions[i] = 0;
+                    freed += 1;
+                }
+                i += 1;
             }
-            i += 1;
+            if next < KEYS {
+                n.sender_keys[next] = less(keys, 1);
+                n.sender_places[next] = less(places, freed);
+            }
         }
-        let next = first_row(&n.used, &n.row_keys, sender);
-        n.sender_keys = with_total(n.sender_keys, next, less(held.keys, 1));
-        n.sender_places = with_total(n.sender_places, next, less(held.places, freed));
     }
     n
 }

@@ -112,7 +112,7 @@ module _ (c : tie.After-choose) where
       let held : 32 ≤ placeOf t row (arrival .fragment .number) = subst (λ (l : LookedUp). 32 ≤ l .place) found-is (at-end told .2) in
       let byte = number-byte arrival _ (start .good .1 .1 .1 .0) in
       rw dropped
-      (join-goes t stored arrival payload (length lent) (way-is Join told) lent lent′ r
+      (join-goes t stored arrival payload (length lent) (sound (start .pre)) (way-is Join told) lent lent′ r
       (subst (λ (w : Way). Ends w row r lent lent′) (judged t stored row (arrival .fragment) payload (sound (start .pre)) byte held (at-end told .3) (length lent))
       (subst (λ (l : Compared). Ends (joinIn (t .sizes) (t .owners) (t .numbers) stored payload l (length lent)) (l .row) r lent lent′) (is ∙ ap compared row-is) ends)))
 

@@ -1,14 +1,14 @@
 -- The loop has swept the rows below `row`, whose key is too old if it is one, and has dropped no more keys than it has passed rows.
 use mathlib.Core.Path.{_≡_, sym, ap, _∙_}
-use mathlib.Core.Bool.{true}
+use mathlib.Core.Bool.{true, false}
 use Prim.Native.Nat.{ℕ, _+_, _≤_, _<_, _-_}
 use native.Mathlib.Omega.{arith}
-use borrow.Author.Tests.{lt-ltb}
+use lib.ListN.{getD}
 use Rattle.table.specs.declared.Table.{Table}
 use Rattle.table.specs.Rows.{without}
 use Rattle.sweeping.specs.Sweep.{expired, sweptAs}
 use Rattle.sweeping.specs.declared.Swept.{Swept}
-use Rattle.sweeping.proofs.Sweeping.{sweptTo, expired-later, swept-none, swept-here, swept-skip}
+use Rattle.sweeping.proofs.Sweeping.{sweptTo, expired-used, expired-later, swept-none, swept-here, swept-skip}
 use borrow.Author.Needs.{needs}
 use Rattle.sweeping.proofs.sweep_step.Statement.{statement}
 use Rattle.sweeping.proofs.sweep_step.Tie as tie
@@ -36,8 +36,10 @@ loop-again c =
     let row = b .loop .row in
     let in-16 : row < 16 = search needs in
     let next = c .next-expired2 .ensures in
+    let used : getD (b .loop .n .used) row false ≡ true
+    = ap (λ (z : Swept). getD (z .table .used) row false) (b .loop .inv .1) ∙ expired-used (a .t) (a .time) row (b .loop .inv .3 in-16) in
     let here : sweptAs (w .without-key .result) (b .loop .dropped + 1) ≡ sweptTo (a .t) (a .time) (row + 1)
-    = ap (λ (z : Table). sweptAs z (b .loop .dropped + 1)) (w .without-key .ensures ∙ rw (lt-ltb row 16 in-16))
+    = ap (λ (z : Table). sweptAs z (b .loop .dropped + 1)) (w .without-key .ensures ∙ rw used)
     ∙ ap (λ (z : Swept). sweptAs (without (z .table) row) (z .dropped + 1)) (b .loop .inv .1)
     ∙ swept-here (a .t) (a .time) row (b .loop .inv .3 in-16) in
     let table-is = ap (λ (z : Swept). z .table) here in
