@@ -40,7 +40,7 @@ push-good t s good store a payload room (went-keep i h₁ h₂ h₃ l e h k shar
     let its : ofSender t (senderOf (a .key)) row ≡ true = rw (own .0, own .1, eq-eqb (senderOf (a .key)) (senderOf (a .key)) refl) in
     let few = good .1 (senderOf (a .key)) .0 in
     changed t _ (senderOf (a .key)) _ good (kept-changes t s (good .0) (senderOf (a .key)) row i h (placeFor row (a .fragment) (length payload)) refl free its)
-    (omega (arith, ap (λ (z : Totals). z .keys) (good .0 .counted (senderOf (a .key))))) (omega arith)
+    (omega (arith, ap (λ (z : Totals). z .keys) (good .0 .as-counted (senderOf (a .key))))) (omega arith)
 push-good t s good store a payload room (went-open i row h₁ h₂ h₃ l e h k e₂ h₄ share share₂) =
     let free : placeAt t i .owner ≡ 0 = eqb-true _ _ (ap (λ (j : ℕ). isFree (placeAt t j)) e ∙ lowest-holds (λ j. isFree (placeAt t j)) 32 (omega arith)) in
     let spare : getD (t .used) row false ≡ false = ap (λ (r : ℕ). getD (t .used) r false) e₂ ∙ not-true _ (lowest-holds (isSpare t) 16 (omega arith)) in
@@ -67,7 +67,7 @@ module _ (t : Table) (made : Made t) (store : List ℕ) (a : Arrival) (payload :
       full = is-full t store a payload room e
 
       said : ownTotals t a ≡ countedFor t (senderOf (a .key))
-      said = good made .0 .counted (senderOf (a .key))
+      said = good made .0 .as-counted (senderOf (a .key))
 
       by-want : (32 ≤ lowestFree t) ⊎ ((16 ≤ rowOf t (a .key)) × (16 ≤ spareRow t)) → ⊥
       by-want (inl none) = let left = place-left t (sound made) (good made .1) (senderOf (a .key)) others few only (omega (arith, full .few-places, ap (λ (z : Totals). z .places) said)) in omega arith

@@ -13,7 +13,7 @@ use Rattle.table.specs.declared.Table.{Table}
 use Rattle.table.specs.declared.Totals.{Totals}
 use Rattle.pushing.specs.declared.Arrival.{Arrival}
 use Rattle.pushing.specs.declared.look.LookedUp.{LookedUp}
-use Rattle.table.specs.Rows.{rowOf, withKey, withPlace, firstRow, lower, noTotals, putTotals, withTotals}
+use Rattle.table.specs.Rows.{rowOf, withKey, withPlace, firstRow, lowerRow, noTotals, putTotals, withTotals}
 use Rattle.table.specs.InStep.{ofSender}
 use Rattle.pushing.specs.Push.{lookedUp, ownTotals, placeFor, keptUnder, openedFor}
 use Rattle.pushing.specs.PrivateSteps.{underRow, opened, keptBy}
@@ -28,11 +28,11 @@ module _ (t : Table) (found : LookedUp) (held : Totals) (a : Arrival) (size row 
       → withKey (retold t first-keys first-places) row (a .key) (a .time) ≡ opened true t (found .first) row a
   opened-by first-keys first-places k p = λ i. withKey (retold t (k i) (p i)) row (a .key) (a .time)
 
-  pub kept-by : (opens : Bool) → leb 16 (found .row) ≡ opens → (n : Table) → n ≡ opened opens t (found .first) row a → (many : ℕ) → many ≡ cond opens (held .keys + 1) (held .keys) → (low : ℕ) → low ≡ lower row (found .first)
+  pub kept-by : (opens : Bool) → leb 16 (found .row) ≡ opens → (n : Table) → n ≡ opened opens t (found .first) row a → (many : ℕ) → many ≡ cond opens (held .keys + 1) (held .keys) → (low : ℕ) → low ≡ lowerRow row (found .first)
       → putTotals (withPlace n (found .free) (placeFor row (a .fragment) size)) low (record { keys = many; places = held .places + 1 }) ≡ keptBy found held t a size
   kept-by opens e n is many counts low lowest =
       (λ i. putTotals (withPlace (is i) (found .free) (placeFor row (a .fragment) size)) (lowest i) (record { keys = counts i; places = held .places + 1 }))
-      ∙ (λ i. putTotals (withPlace (opened (sym e i) t (found .first) (under i) a) (found .free) (placeFor (under i) (a .fragment) size)) (lower (under i) (found .first)) (record { keys = cond (sym e i) (held .keys + 1) (held .keys); places = held .places + 1 }))
+      ∙ (λ i. putTotals (withPlace (opened (sym e i) t (found .first) (under i) a) (found .free) (placeFor (under i) (a .fragment) size)) (lowerRow (under i) (found .first)) (record { keys = cond (sym e i) (held .keys + 1) (held .keys); places = held .places + 1 }))
 
 -- the sender's lowest row is at or before that of one of its keys
 module _ (t : Table) (key : ℕ) where
@@ -63,7 +63,7 @@ module _ (t : Table) (s : Sound t) (key row time : ℕ) (in-16 : row < 16) where
   other-row : (r : ℕ) → (r ≡ row → ⊥) → after r ≡ ofSender t (senderOf key) r
   other-row r ne = rw (getD-set-other (t .used) row r true false ne, getD-set-other (t .«row_keys») row r key 0 ne)
 
-  pub opened-first : lower row first ≡ firstRow (withKey t row key time) (senderOf key)
+  pub opened-first : lowerRow row first ≡ firstRow (withKey t row key time) (senderOf key)
   opened-first = sym (lowest-with after (ofSender t (senderOf key)) 16 row in-16 new-row other-row)
 
 -- what is kept is what the way says

@@ -18,7 +18,7 @@ use Rattle.pushing.specs.declared.look.LookedUp.{LookedUp}
 use Rattle.pushing.specs.declared.choose.Step.{Step}
 use Rattle.pushing.specs.declared.choose.Step.the-variants.{Refuse, Duplicate, Keep, Join}
 use Rattle.searching.specs.Search.{lowest}
-use Rattle.table.specs.Rows.{keys, places, ownerOf, bytesAt, withKey, withPlace, firstRowIn, lower, noTotals, putTotals}
+use Rattle.table.specs.Rows.{keys, places, ownerOf, bytesAt, withKey, withPlace, firstRowIn, lowerRow, noTotals, putTotals}
 use Rattle.pushing.specs.Joining.{inOrder}
 use Rattle.pushing.specs.Push.{Way, refuse, duplicate, keepAt, openAt, end, joinBy, placeFor, pushedOf, over, answerBy, outputBy}
 
@@ -138,4 +138,4 @@ opened opens t first row a = cond opens (withKey (putTotals t first noTotals) ro
 abbrev pub keptBy : LookedUp → Totals → Table → Arrival → (size : ℕ) → Table
 keptBy found held t a size =
     putTotals (withPlace (opened (leb keys (found .row)) t (found .first) (underRow found) a) (found .free) (placeFor (underRow found) (a .fragment) size))
-    (lower (underRow found) (found .first)) (record { keys = cond (leb keys (found .row)) (held .keys + 1) (held .keys); places = held .places + 1 })
+    (lowerRow (underRow found) (found .first)) (record { keys = cond (leb keys (found .row)) (held .keys + 1) (held .keys); places = held .places + 1 })

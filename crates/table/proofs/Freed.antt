@@ -13,7 +13,7 @@ use lib.Seq.{set-out, getD-set-other}
 use borrow.Author.Tests.{eq-eqb, ne-eqb, lt-ltb, ltb-false}
 use Rattle.table.specs.declared.Table.{Table}
 use Rattle.table.specs.declared.Totals.{Totals}
-use Rattle.table.specs.Rows.{ownerOf, freePlace, withPlace, isSenders, firstRow, lower, totalsIn, totalsOf, putTotals, withTotals, cleared, senderAt, placesIn, lessKey, without}
+use Rattle.table.specs.Rows.{ownerOf, freePlace, withPlace, isSenders, firstRow, lowerRow, totalsIn, totalsOf, putTotals, withTotals, cleared, senderAt, placesIn, lessKey, without}
 use Rattle.searching.specs.Count.{howMany}
 use Rattle.searching.proofs.Search.{lowest-with}
 use Rattle.searching.proofs.Count.{count-next}
@@ -122,7 +122,7 @@ freed-all t row i behind =
     by-rule (λ xs. wipedTo (ownerOf row) 0 (t .owners) xs i) _ (λ xs. wiped-all (ownerOf row) 0 (t .owners) xs i behind) (rowCleared t row)
 
 -- the lower of two rows is one of the table's if the first is
-pub lower-inside : (row next : ℕ) → row < 16 → lower row next < 16
+pub lower-inside : (row next : ℕ) → row < 16 → lowerRow row next < 16
 lower-inside row next h = by-order (ltb row next) refl
   where
     by-order : (b : Bool) → ltb row next ≡ b → cond b row next < 16
@@ -135,23 +135,23 @@ module _ (t : Table) (row : ℕ) (in-16 : row < 16) (used : getD (t .used) row f
   next-is = is ∙ ap (firstRow (cleared t row)) its
 
   -- its sender's totals were in this row or in the next one, whichever is lower
-  first-is : lower row next ≡ firstRow t (senderAt t row)
+  first-is : lowerRow row next ≡ firstRow t (senderAt t row)
   first-is =
-      ap (lower row) next-is
+      ap (lowerRow row) next-is
       ∙ sym (lowest-with (isSenders (t .used) (t .«row_keys») (senderAt t row)) (isSenders (cleared t row .used) (cleared t row .«row_keys») (senderAt t row)) 16 row in-16
       (rw (used, eq-eqb (senderAt t row) (senderAt t row) refl)) (λ k ne. sym (rw (getD-set-other (t .used) row k false false ne, getD-set-other (t .«row_keys») row k 0 0 ne))))
 
   abbrev held : Totals
   held = totalsOf t (senderAt t row)
 
-  held-is : held ≡ record { keys = getD (t .«sender_keys») (lower row next) 0; places = getD (t .«sender_places») (lower row next) 0 }
+  held-is : held ≡ record { keys = getD (t .«sender_keys») (lowerRow row next) 0; places = getD (t .«sender_places») (lowerRow row next) 0 }
   held-is = sym (ap (totalsIn (t .«sender_keys») (t .«sender_places»)) first-is) ∙ rw (lt-ltb _ _ (lower-inside row next in-16))
 
   abbrev rest : Totals
   rest = lessKey held (placesIn t row)
 
   -- what is left of them goes to the next row, if there is one
-  pub lowered : (first : ℕ) → first ≡ lower row next → (many many′ : ℕ) → many ≡ getD (t .«sender_keys») first 0 - 1 → many′ ≡ getD (t .«sender_places») first 0 - placesIn t row
+  pub lowered : (first : ℕ) → first ≡ lowerRow row next → (many many′ : ℕ) → many ≡ getD (t .«sender_keys») first 0 - 1 → many′ ≡ getD (t .«sender_places») first 0 - placesIn t row
       → putTotals n next (record { keys = many; places = many′ }) ≡ without t row
   unfolding without
   lowered first low many many′ e f =

@@ -95,7 +95,7 @@ pub record Changed (t u : Table) (sender : ℕ) (held : Totals) : Type 0 where
   pub used-long : length (u .used) ≡ 16
   pub keys-long : length (u .«sender_keys») ≡ 16
   pub places-long : length (u .«sender_places») ≡ 16
-  pub counted : countedFor u sender ≡ held
+  pub as-counted : countedFor u sender ≡ held
   pub others : (x : ℕ) → (x ≡ sender → ⊥) → countedFor u x ≡ countedFor t x
   pub told : (x : ℕ) → (x ≡ sender → ⊥) → firstRow u x < 16 → totalsOf u x ≡ totalsOf t x
   pub lone : Lone t → Lone u
@@ -108,11 +108,11 @@ module _ (t u : Table) (sender : ℕ) (held : Totals) (change : Changed t u send
         keys = getD-set-same (u .«sender_keys») (firstRow u sender) (held .keys) 0 (omega (arith, change .keys-long)) j;
         places = getD-set-same (u .«sender_places») (firstRow u sender) (held .places) 0 (omega (arith, change .places-long)) j;
       })
-      ∙ sym (change .counted)
+      ∙ sym (change .as-counted)
 
   pub stays-in-step : InStep t → InStep (withTotals u sender held)
   stays-in-step step = record {
-    counted = λ x. by-row x (ltb (firstRow u x) 16) refl (eqb x sender) refl;
+    as-counted = λ x. by-row x (ltb (firstRow u x) 16) refl (eqb x sender) refl;
     no-others = λ row behind. put-apart (u .«sender_keys») (u .«sender_places») row (firstRow u sender) held (λ e. behind sender (sym e)) ∙ change .lone (step .no-others) row behind;
   }
     where
@@ -121,14 +121,14 @@ module _ (t u : Table) (sender : ℕ) (held : Totals) (change : Changed t u send
       by-row x true q false e =
           let l = ltb-true (firstRow u x) 16 q in
           let ne = eqb-false x sender e in
-          put-apart (u .«sender_keys») (u .«sender_places») (firstRow u x) (firstRow u sender) held (first-apart u x sender ne l) ∙ change .told x ne l ∙ step .counted x ∙ sym (change .others x ne)
+          put-apart (u .«sender_keys») (u .«sender_places») (firstRow u x) (firstRow u sender) held (first-apart u x sender ne l) ∙ change .told x ne l ∙ step .as-counted x ∙ sym (change .others x ne)
       by-row x false q c e = rw q (sym (nothing-counted u (change .used-long) x (ltb-false _ _ q)))
 
   pub stays-within : WithinShares t → held .keys ≤ 4 → held .places ≤ 8 → WithinShares (withTotals u sender held)
   stays-within within h₁ h₂ x = by-sender (eqb x sender) refl
     where
       by-sender : (c : Bool) → eqb x sender ≡ c → (countedFor u x .keys ≤ 4) × (countedFor u x .places ≤ 8)
-      by-sender true e = subst (λ (z : Totals). (z .keys ≤ 4) × (z .places ≤ 8)) (sym (ap (countedFor u) (eqb-true _ _ e) ∙ change .counted)) (h₁, h₂)
+      by-sender true e = subst (λ (z : Totals). (z .keys ≤ 4) × (z .places ≤ 8)) (sym (ap (countedFor u) (eqb-true _ _ e) ∙ change .as-counted)) (h₁, h₂)
       by-sender false e = subst (λ (z : Totals). (z .keys ≤ 4) × (z .places ≤ 8)) (sym (change .others x (eqb-false _ _ e))) (within x)
 
 -- a fragment is kept in a free place, for a row of the sender
@@ -150,9 +150,9 @@ module _ (t : Table) (s : Sound t) (step : InStep t) (sender row i : ℕ) (in-32
     used-long = s .used-long;
     keys-long = s .sender-keys-long;
     places-long = s .sender-places-long;
-    counted = λ j. record {
-      keys = sym (ap (λ (z : Totals). z .keys) (step .counted sender)) j;
-      places = (count-more (keptFor t sender) (keptFor put sender) i (λ k ne. sym (kept-elsewhere sender k ne)) 32 in-32 (kept-free t sender i free) (kept-here sender ∙ its) ∙ ap (λ (z : Totals). z .places + 1) (sym (step .counted sender))) j;
+    as-counted = λ j. record {
+      keys = sym (ap (λ (z : Totals). z .keys) (step .as-counted sender)) j;
+      places = (count-more (keptFor t sender) (keptFor put sender) i (λ k ne. sym (kept-elsewhere sender k ne)) 32 in-32 (kept-free t sender i free) (kept-here sender ∙ its) ∙ ap (λ (z : Totals). z .places + 1) (sym (step .as-counted sender))) j;
     };
     others = λ x ne j. record { keys = countedFor t x .keys; places = count-same (keptFor put x) (keptFor t x) 32 (λ k h. by-place x ne k (eqb k i) refl) j };
     told = λ x ne l. refl;
@@ -218,11 +218,11 @@ module _ (t : Table) (s : Sound t) (step : InStep t) (row key time i : ℕ) (in-
     used-long = length-set (t .used) row true ∙ s .used-long;
     keys-long = length-set (t .«sender_keys») (firstRow t opener) 0 ∙ s .sender-keys-long;
     places-long = length-set (t .«sender_places») (firstRow t opener) 0 ∙ s .sender-places-long;
-    counted = λ j. record {
+    as-counted = λ j. record {
       keys = (count-more (ofSender t opener) (ofSender opened opener) row (λ k ne. sym (row-elsewhere t opened row same-used same-key opener k ne)) 16 in-16 (row-before opener) (row-here opener ∙ eq-eqb opener opener refl)
-          ∙ ap (λ (z : Totals). z .keys + 1) (sym (step .counted opener))) j;
+          ∙ ap (λ (z : Totals). z .keys + 1) (sym (step .as-counted opener))) j;
       places = (count-more (keptFor t opener) (keptFor filled opener) i (λ k ne. sym (kept-as-was opener k ne)) 32 in-32 (kept-free t opener i free) (filled-here opener ∙ eq-eqb opener opener refl)
-          ∙ ap (λ (z : Totals). z .places + 1) (sym (step .counted opener))) j;
+          ∙ ap (λ (z : Totals). z .places + 1) (sym (step .as-counted opener))) j;
     };
     others = λ x ne j. record {
       keys = count-same (ofSender opened x) (ofSender t x) 16 (λ r h. same-row x ne r) j;
@@ -330,7 +330,7 @@ module _ (t : Table) (s : Sound t) (step : InStep t) (row : ℕ) (in-16 : row < 
     used-long = length-set (t .used) row false ∙ s .used-long;
     keys-long = length-set (t .«sender_keys») row 0 ∙ s .sender-keys-long;
     places-long = length-set (t .«sender_places») row 0 ∙ s .sender-places-long;
-    counted = λ j. record { keys = keys-less j; places = places-less j };
+    as-counted = λ j. record { keys = keys-less j; places = places-less j };
     others = λ x ne j. record { keys = count-same (ofSender left x) (ofSender t x) 16 (λ r h. same-left x ne r) j; places = count-same (keptFor left x) (keptFor t x) 32 (λ k h. same-kept x ne k) j };
     told = told-as-was;
     lone = λ lone r behind. by-dropped lone r behind (eqb r row) refl;
@@ -367,13 +367,13 @@ module _ (t : Table) (s : Sound t) (step : InStep t) (row : ℕ) (in-16 : row < 
       keys-less : howMany (ofSender left loser) 16 ≡ totalsOf t loser .keys - 1
       keys-less =
           let more = count-more (ofSender left loser) (ofSender t loser) row (left-elsewhere loser) 16 in-16 (gone loser) its-row in
-          let said = ap (λ (z : Totals). z .keys) (step .counted loser) in
+          let said = ap (λ (z : Totals). z .keys) (step .as-counted loser) in
           omega arith
 
       places-less : howMany (keptFor left loser) 32 ≡ totalsOf t loser .places - placesIn t row
       places-less =
           let sum = count-same (keptFor t loser) (λ j. keptFor left loser j || owns j) 32 (λ j h. split j) ∙ count-sum (keptFor left loser) owns 32 (λ j h. apart j) in
-          let said = ap (λ (z : Totals). z .places) (step .counted loser) in
+          let said = ap (λ (z : Totals). z .places) (step .as-counted loser) in
           omega arith
 
       told-as-was : (x : ℕ) → (x ≡ loser → ⊥) → firstRow left x < 16 → totalsOf left x ≡ totalsOf t x
@@ -388,7 +388,7 @@ module _ (t : Table) (s : Sound t) (step : InStep t) (row : ℕ) (in-16 : row < 
   pub drop-within : WithinShares t → WithinShares (without t row)
   unfolding without
   drop-within within =
-      let said = step .counted loser in
+      let said = step .as-counted loser in
       let had = within loser in
       stays-within t left loser (lessKey (totalsOf t loser) (placesIn t row)) dropped-changes within
       (omega (arith, ap (λ (z : Totals). z .keys) said)) (omega (arith, ap (λ (z : Totals). z .places) said))
@@ -406,7 +406,7 @@ module _ (sender : ℕ) where
 
 pub fresh-in-step : InStep freshTable
 fresh-in-step = record {
-  counted = λ sender. rw (le-ltb _ _ (fresh-none sender)) (sym (fresh-counted sender));
+  as-counted = λ sender. rw (le-ltb _ _ (fresh-none sender)) (sym (fresh-counted sender));
   no-others = λ row behind. (λ j. cond (ltb row 16) (record { keys = all-same {A = ℕ} 16 row 0 j; places = all-same {A = ℕ} 16 row 0 j }) noTotals) ∙ either (ltb row 16);
 }
   where

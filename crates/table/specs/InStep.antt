@@ -23,7 +23,7 @@ countedFor t sender = record { keys = howMany (ofSender t sender) keys; places =
 
 -- Rule T15: the totals of every sender are those numbers, and a row that is no sender's lowest has none.
 pub record InStep (t : Table) : Type 0 where
-  pub counted : (sender : ℕ) → totalsOf t sender ≡ countedFor t sender
+  pub as-counted : (sender : ℕ) → totalsOf t sender ≡ countedFor t sender
   pub no-others : (row : ℕ) → ((sender : ℕ) → firstRow t sender ≡ row → ⊥) → totalsIn (t .«sender_keys») (t .«sender_places») row ≡ noTotals
 
 -- Rule T6: no more than its share.

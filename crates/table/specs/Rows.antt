@@ -143,8 +143,8 @@ abbrev pub firstRow : Table → ℕ → ℕ
 firstRow t sender = firstRowIn (t .used) (t .«row_keys») sender
 
 -- the lower of two rows
-abbrev pub lower : ℕ → ℕ → ℕ
-lower a b = cond (ltb a b) a b
+abbrev pub lowerRow : ℕ → ℕ → ℕ
+lowerRow a b = cond (ltb a b) a b
 
 -- Rule T15: what a sender holds as the table says it, how many keys and how many places; nothing, for one without a row.
 abbrev pub noTotals : Totals

@@ -7,7 +7,7 @@ ghost use mathlib.Core.Bool.{_&&_};
 ghost use Prim.Native.Nat.{_-_, _≤_};
 ghost use lib.Dec.{eqb};
 ghost use Rattle.keys.specs.Keys.{senderOf};
-ghost use Rattle.table.specs.Rows.{keys, freshTable, firstRowIn, totalsIn, lower, droppedKey};
+ghost use Rattle.table.specs.Rows.{keys, freshTable, firstRowIn, totalsIn, lowerRow, droppedKey};
 
 // Rule T1: how many keys and fragments a table can hold, and how many bytes a place and the whole store have.
 pub const KEYS: usize = 16;
@@ -111,7 +111,7 @@ pub fn totals_at<'a>(
 
 // Rule T15: the lower of two rows, of which one may be `KEYS`.
 pub fn lower_row(a: usize, b: usize) -> usize
-    ensures { λ r. ⌜ r ≡ lower a b ⌝ }
+    ensures { λ r. ⌜ r ≡ lowerRow a b ⌝ }
 {
     if a < b { a } else { b }
 }

@@ -1,4 +1,4 @@
--- The test is that of `lower`.
+-- The test is that of `lowerRow`.
 use borrow.Author.Tests.{le-ltb, lt-ltb}
 use Rattle.table.proofs.lower_row.Statement.{statement}
 use Rattle.table.proofs.lower_row.Tie as tie
