@@ -8,34 +8,41 @@ use native.Mathlib.Omega.{arith}
 use lib.Dec.{eqb}
 use borrow.Author.Tests.{eqb-true, eqb-false, eq-eqb, ne-eqb, not-false}
 use Rattle.numbers.specs.Numbers.{Answer}
+use Rattle.keys.specs.Keys.{senderOf}
 use Rattle.table.specs.declared.Table.{Table}
-use Rattle.table.specs.Rows.{places, ownerOf, freshTable, placeAt, rowOf, isSpare, lowestFree, isFree}
+use Rattle.table.specs.declared.Totals.{Totals}
+use Rattle.table.specs.Rows.{places, ownerOf, freshTable, placeAt, rowOf, isSpare, lowestFree, isFree, totalsOf}
+use Rattle.table.specs.InStep.{ofSender, keptFor}
 use Rattle.pushing.specs.Joining.{isKept, never, since, due}
-use Rattle.pushing.specs.Push.{PushAnswer, Way, keepAt}
+use Rattle.pushing.specs.Push.{PushAnswer, Way, keepAt, ownTotals}
 use Rattle.searching.proofs.Search.{lowest-holds, lowest-before}
 use Rattle.pushing.proofs.Ways.{Went, went, went-refuse, went-duplicate, went-keep, went-open, went-end}
-use Rattle.table.proofs.Sound.{Sound, fresh-sound}
+use Rattle.table.proofs.Sound.{Sound, fresh-sound, used-row, row-holds}
+use Rattle.table.proofs.InStep.{kept-by}
 use Rattle.pushing.proofs.Sound.{sound}
+use Rattle.pushing.proofs.InStep.{good}
 use Rattle.orders.specs.Runs.{State, Push, Call, push, sweep, pushed, finishedBy, refusedBy, part, wayOf, after, isLeft, concerns, start, Holding, holding, holdsNothing}
 use Rattle.orders.specs.Claims.{CoversRoom}
 use Rattle.table.proofs.Places.{all-same}
 use Rattle.orders.proofs.Rows.{isUsed, codeAt, firstAt}
-use Rattle.orders.proofs.Lookups.{row-none, row-is}
+use Rattle.orders.proofs.Lookups.{never-true, row-none, row-is}
 use Rattle.orders.proofs.Holdings.{absent, present}
 use Rattle.orders.proofs.Telling.{acts, shape, passesBy, passes-is, ownWay}
-use Rattle.orders.proofs.Pushing.{Good, Full, no-place, no-row, Turn, as-told, full, turn, same-answer, way-shape}
+use Rattle.orders.proofs.Pushing.{Good, Full, many-places, many-keys, no-place, no-row, Turn, as-told, full, turn, same-answer, way-shape}
 use Rattle.searching.specs.Count.{howMany}
-use Rattle.searching.proofs.Count.{count-all, count-less}
+use Rattle.searching.proofs.Count.{count-none, count-all, count-less}
+use Rattle.machines.proofs.Lists.{left-true}
+use Rattle.orders.proofs.Count.{count-within}
 use Rattle.orders.proofs.Found.{owns, count-held}
 use Rattle.orders.proofs.Locality.{has-room, left-room, untouched, own-sweep}
 use Rattle.machines.specs.Story.{Echo}
 
--- a push that was kept found a free place
-kept-free : (t : Table) (store : List ℕ) (p : Push) {w : Way} → Went t store (p .arrival) (p .payload) (p .room) w → shape w ≡ keepAt 0 → lowestFree t < 32
-kept-free t store p (went-refuse n values) e = let no : _≡_ {A = ℕ} 0 1 = cc in absurd (omega arith)
+-- a push that was kept found a free place, and its sender below its share
+kept-free : (t : Table) (store : List ℕ) (p : Push) {w : Way} → Went t store (p .arrival) (p .payload) (p .room) w → shape w ≡ keepAt 0 → (lowestFree t < 32) × (ownTotals t (p .arrival) .places < 8)
+kept-free t store p (went-refuse n values why) e = let no : _≡_ {A = ℕ} 0 1 = cc in absurd (omega arith)
 kept-free t store p went-duplicate e = let no : _≡_ {A = ℕ} 0 1 = cc in absurd (omega arith)
-kept-free t store p (went-keep i h₁ h₂ h₃ l q h k) e = omega arith
-kept-free t store p (went-open i r h₁ h₂ h₃ l q h k q₂ h₄) e = omega arith
+kept-free t store p (went-keep i h₁ h₂ h₃ l q h k few) e = (omega arith, few)
+kept-free t store p (went-open i r h₁ h₂ h₃ l q h k q₂ h₄ few few₂) e = (omega arith, few)
 kept-free t store p (went-end h bytes h₁ h₂ h₃ l q) e = let no : _≡_ {A = ℕ} 0 1 = cc in absurd (omega arith)
 
 -- only this key holds anything
@@ -54,21 +61,64 @@ module _ (out : ℕ → Bool) (covers : CoversRoom out) (long : ℕ) (c : ℕ) w
           absurd (omega arith)
 
   -- a table that hears this key alone and is full for it
-  module _ (z z′ : State) (s : Sound (z .table)) (s′ : Sound (z′ .table)) (lone : Lone c z′) (same : holding c z ≡ holding c z′) (free : lowestFree (z .table) < 32) where
-    owned-all : 32 ≤ lowestFree (z′ .table) → (i : ℕ) → i < 32 → placeAt (z′ .table) i .owner ≡ ownerOf (rowOf (z′ .table) c)
-    owned-all h i l =
+  module _ (z z′ : State) (g : Good long z) (g′ : Good long z′) (lone : Lone c z′) (same : holding c z ≡ holding c z′) (free : lowestFree (z .table) < 32) (few : totalsOf (z .table) (senderOf c) .places < 8) where
+    s : Sound (z .table)
+    s = sound (g .made)
+
+    s′ : Sound (z′ .table)
+    s′ = sound (g′ .made)
+
+    -- each place that is not free is the key's
+    owned-one : (i : ℕ) → (placeAt (z′ .table) i .owner ≡ 0 → ⊥) → placeAt (z′ .table) i .owner ≡ ownerOf (rowOf (z′ .table) c)
+    owned-one i some =
         let p = placeAt (z′ .table) i in
-        let some : p .owner ≡ 0 → ⊥ = λ e. false≢true (sym (lowest-before (λ k. isFree (placeAt (z′ .table) k)) 32 i (omega arith)) ∙ eq-eqb (p .owner) 0 e) in
         let is : p .owner ≡ ownerOf (p .owner - 1) = omega (arith, some) in
         let used = s′ .owned i (p .owner - 1) is in
         is ∙ ap ownerOf (sym (row-is (z′ .table) c s′ (p .owner - 1) used (lone-code z′ s′ lone (p .owner - 1) used)))
 
+    owned-all : 32 ≤ lowestFree (z′ .table) → (i : ℕ) → i < 32 → placeAt (z′ .table) i .owner ≡ ownerOf (rowOf (z′ .table) c)
+    owned-all h i l = owned-one i (λ e. false≢true (sym (lowest-before (λ k. isFree (placeAt (z′ .table) k)) 32 i (omega arith)) ∙ eq-eqb (placeAt (z′ .table) i .owner) 0 e))
+
+    -- the key has as many places in both tables
+    equal : howMany (owns (z .table) (rowOf (z .table) c)) places ≡ howMany (owns (z′ .table) (rowOf (z′ .table) c)) places
+    equal =
+        count-held (z .table) s (z .store) (rowOf (z .table) c)
+        ∙ ap (λ (v : Holding). howMany (λ k. isKept (v .fragments k)) 256) same
+        ∙ sym (count-held (z′ .table) s′ (z′ .store) (rowOf (z′ .table) c))
+
+    -- its sender has these among others, and no other alone
+    sender-has : (i : ℕ) → owns (z .table) (rowOf (z .table) c) i ≡ true → keptFor (z .table) (senderOf c) i ≡ true
+    sender-has i e =
+        let at : placeAt (z .table) i .owner ≡ ownerOf (rowOf (z .table) c) = eqb-true _ _ e in
+        let own = row-holds (z .table) c (used-row (z .table) s (rowOf (z .table) c) (s .owned i (rowOf (z .table) c) at)) in
+        let its : ofSender (z .table) (senderOf c) (rowOf (z .table) c) ≡ true = rw (own .0, own .1, eq-eqb (senderOf c) (senderOf c) refl) in
+        kept-by (z .table) (senderOf c) i (rowOf (z .table) c) at ∙ its
+
+    key-has : (i : ℕ) → keptFor (z′ .table) (senderOf c) i ≡ true → owns (z′ .table) (rowOf (z′ .table) c) i ≡ true
+    key-has i e = eq-eqb _ _ (owned-one i (λ none. false≢true (sym (kept-none none) ∙ e)))
+      where
+        kept-none : placeAt (z′ .table) i .owner ≡ 0 → keptFor (z′ .table) (senderOf c) i ≡ false
+        kept-none none = rw (eq-eqb (placeAt (z′ .table) i .owner) 0 none)
+
+    -- a key without a row is held by nobody alone
+    none-of : 16 ≤ rowOf (z′ .table) c → (row : ℕ) → row < 16 → ofSender (z′ .table) (senderOf c) row ≡ false
+    none-of h row l = never-true _ (λ e.
+        let used : isUsed (z′ .table) row ≡ true = left-true (isUsed (z′ .table) row) _ e in
+        let at : rowOf (z′ .table) c ≡ row = row-is (z′ .table) c s′ row used (lone-code z′ s′ lone row used) in
+        omega arith)
+
     never-full : Full (z′ .table) c → ⊥
+    never-full (many-places h) =
+        let more = count-within (owns (z .table) (rowOf (z .table) c)) (keptFor (z .table) (senderOf c)) places sender-has in
+        let less = count-within (keptFor (z′ .table) (senderOf c)) (owns (z′ .table) (rowOf (z′ .table) c)) places key-has in
+        let said = ap (λ (held : Totals). held .places) (good (g .made) .0 .counted (senderOf c)) in
+        let said′ = ap (λ (held : Totals). held .places) (good (g′ .made) .0 .counted (senderOf c)) in
+        omega (arith, more, less, said, said′, equal)
+    never-full (many-keys h k) =
+        let none = count-none (ofSender (z′ .table) (senderOf c)) 16 (none-of h) in
+        let said′ = ap (λ (held : Totals). held .keys) (good (g′ .made) .0 .counted (senderOf c)) in
+        omega (arith, none, said′)
     never-full (no-place h) =
-        let here = count-held (z .table) s (z .store) (rowOf (z .table) c) in
-        let there = count-held (z′ .table) s′ (z′ .store) (rowOf (z′ .table) c) in
-        let equal : howMany (owns (z .table) (rowOf (z .table) c)) places ≡ howMany (owns (z′ .table) (rowOf (z′ .table) c)) places
-        = here ∙ ap (λ (v : Holding). howMany (λ k. isKept (v .fragments k)) 256) same ∙ sym there in
         let all = count-all (owns (z′ .table) (rowOf (z′ .table) c)) places (λ i l. eq-eqb _ _ (owned-all h i l)) in
         let open-place : placeAt (z .table) (lowestFree (z .table)) .owner ≡ 0 = eqb-true _ _ (lowest-holds (λ k. isFree (placeAt (z .table) k)) 32 free) in
         let less = count-less (owns (z .table) (rowOf (z .table) c)) places (lowestFree (z .table)) free (ne-eqb (placeAt (z .table) (lowestFree (z .table)) .owner) (ownerOf (rowOf (z .table) c)) (λ o. omega arith)) in
@@ -93,9 +143,10 @@ module _ (out : ℕ → Bool) (covers : CoversRoom out) (long : ℕ) (c : ℕ) w
 
       by-turn : Turn long z′ p → isLeft out z′ (push p) ≡ true
       by-turn (as-told e) = left-by z′ p ∙ ap (passesBy out) (e ∙ sym alike ∙ sym told) ∙ sym (left-by z p) ∙ acc
-      by-turn (full e own l f) =
-          let free = kept-free (z .table) (part z p) p (went (z .table) (part z p) (p .arrival) (p .payload) (p .room)) (told ∙ alike ∙ own) in
-          absurd (never-full z z′ (sound (g .made)) (sound (g′ .made)) lone same free (subst (Full (z′ .table)) is f))
+      by-turn (full r for e own l f) =
+          let found = kept-free (z .table) (part z p) p (went (z .table) (part z p) (p .arrival) (p .payload) (p .room)) (told ∙ alike ∙ own) in
+          let few : totalsOf (z .table) (senderOf c) .places < 8 = subst (λ (k : ℕ). totalsOf (z .table) (senderOf k) .places < 8) is (found .1) in
+          absurd (never-full z z′ g g′ lone same (found .0) few (subst (Full (z′ .table)) is f))
 
   echoed : (z z′ : State) (e : Call) → Good long z → Good long z′ → Lone c z′ → holding c z ≡ holding c z′ → concerns c e ≡ true → isLeft out z e ≡ true → isLeft out z′ e ≡ true
   echoed z z′ (push p) g g′ lone same h acc = push-echoed z z′ p (eqb-true _ _ (sym (or-false (eqb (p .arrival .key) c)) ∙ h)) g g′ lone same acc

@@ -9,7 +9,6 @@ use lib.ListN.{length, take, drop, drop-of-length-le}
 use lib.Seq.{length-take-le, take-all, take-at, drop-at}
 use borrow.Author.Tests.{leb-true, leb-false}
 use Rattle.numbers.specs.Numbers.{Answer, gives}
-use Rattle.numbers.specs.declared.Refusal.the-variants.{TableFull}
 use Rattle.pushing.specs.declared.Pushed.{Pushed}
 use Rattle.pushing.specs.declared.Pushed.the-variants.{WaitingForMoreFragments, DuplicatedFragment, InconsistentMetadata, MissingFragments, MissingLastFragment, Single, Joined, Refused}
 use Rattle.pushing.specs.Push.{PushAnswer, waiting, duplicated, inconsistent, missing, missingLast, single, joined, Way, pushedOf, Goes, storeBy, outputBy, answerBy}
@@ -60,7 +59,7 @@ module _ (long : ℕ) (z : State) (g : Good long z) where
 
       by-turn : Turn long z p → Said (answerBy (wayOf z p))
       by-turn (as-told e) = subst Said (sym (ap answerBy e) ∙ same-answer (wayOf z p)) told
-      by-turn (full e own l f) = (Refused TableFull, sym (ap answerBy e))
+      by-turn (full r for e own l f) = (Refused r, sym (ap answerBy e))
 
   push-meets : (p : Push) (out : List ℕ) → length out ≡ p .room → PushMeets z p out (push-said p .0) (outputBy (wayOf z p) out) (after z (push p))
   push-meets p out room =

@@ -5,13 +5,16 @@ use mathlib.Core.Bool.{Bool, true, false, cond, not, _||_, false≢true, true≢
 use Prim.Native.Nat.{ℕ, _+_, _≤_, _<_}
 use native.Mathlib.Omega.{arith}
 use lib.Dec.{eqb, ltb, leb}
-use lib.ListN.{length}
+use lib.ListN.{length, getD, set, length-set}
+use lib.Seq.{getD-set-same}
 use borrow.Author.Tests.{leb-true, leb-false, eq-eqb, ne-eqb, ltb-true, not-true}
+use Rattle.keys.specs.Keys.{senderOf}
 use Rattle.table.specs.declared.Table.{Table}
+use Rattle.table.specs.declared.Totals.{Totals}
 use Rattle.searching.specs.Search.{lowest}
-use Rattle.table.specs.Rows.{places, freshTable, placeAt, isFree, rowOf, spareRow, lowestFree, withKey, withPlace}
+use Rattle.table.specs.Rows.{places, freshTable, placeAt, isFree, rowOf, spareRow, lowestFree, withKey, withPlace, firstRow, noTotals, totalsOf, withTotals}
 use Rattle.pushing.specs.Joining.{Held, nothing, kept, Since, never, since, due}
-use Rattle.pushing.specs.Push.{Way, keepAt, placeFor, tableBy, answerBy}
+use Rattle.pushing.specs.Push.{Way, keepAt, placeFor, ownTotals, tableBy, answerBy}
 use Rattle.pushing.specs.Made.{Made, byFresh}
 use Rattle.pushing.proofs.Ways.{Went, went, went-refuse, went-duplicate, went-keep, went-open, went-end}
 use Rattle.table.proofs.Sound.{Sound}
@@ -19,14 +22,14 @@ use Rattle.pushing.proofs.Sound.{sound}
 use Rattle.machines.specs.Machine.{those, gathered, every}
 use Rattle.orders.specs.Runs.{State, Push, Call, push, sweep, Reply, pushed, finishedBy, part, wayOf, after, replyTo, isLeft, anyNumber, forRoom, hasRoom, isOwn, concerns, start, Holding, holding, holdsNothing, ends, crossed, repliesToLeft}
 use Rattle.orders.specs.Shares.{isIn, distinct}
-use Rattle.orders.specs.Messages.{Message, heldAt, whole, Brings, Sent, sending, freeIn, Room, spares, completing}
+use Rattle.orders.specs.Messages.{Message, heldAt, whole, Brings, Sent, sending, freeIn, sendersTotals, Room, spares, completing}
 use Rattle.orders.specs.Claims.{CoversRoom, Completes, CompletesAmong}
 use Rattle.searching.proofs.Search.{lowest-before}
 use Rattle.table.proofs.Places.{put-elsewhere}
 use Rattle.machines.proofs.Lists.{left-true, right-true, every-remains, every-gathered}
 use Rattle.orders.proofs.Holdings.{absent}
 use Rattle.orders.proofs.Telling.{acts, shape, ownWay, sinceOr, byOwn, withNew, tell, answer}
-use Rattle.orders.proofs.Pushing.{Good, Full, no-place, no-row, way-shape, room-unless}
+use Rattle.orders.proofs.Pushing.{Good, Full, many-places, many-keys, no-place, no-row, way-shape, room-unless}
 use Rattle.orders.proofs.Locality.{has-room, good-after, own-push, own-mine, local}
 use Rattle.orders.proofs.Alone.{fresh-holds}
 use Rattle.searching.specs.Count.{howMany}
@@ -48,15 +51,34 @@ some-free t h = by-order (leb places (lowestFree t)) refl
 taken : (t t′ : Table) (i : ℕ) → ((j : ℕ) → (j ≡ i → ⊥) → placeAt t′ j ≡ placeAt t j) → i < places → freeIn t ≤ freeIn t′ + 1
 taken t t′ i same h = one-fewer (λ j. isFree (placeAt t j)) (λ j. isFree (placeAt t′ j)) i (λ j ne. ap isFree (sym (same j ne))) places h
 
-kept-fewer : (t : Table) → Sound t → (store : List ℕ) (p : Push) {w : Way} → Went t store (p .arrival) (p .payload) (p .room) w → shape w ≡ keepAt 0 → freeIn t ≤ freeIn (tableBy w t (p .arrival) (length (p .payload))) + 1
-kept-fewer t s store p (went-refuse n values) e = let no : _≡_ {A = ℕ} 0 1 = cc in absurd (omega arith)
+-- totals that are put for a sender are what is said of it, or nothing is
+put-places : (u : Table) → length (u .«sender_places») ≡ 16 → (sender : ℕ) (held : Totals) → totalsOf (withTotals u sender held) sender .places ≤ held .places
+put-places u long sender held = by-row (firstRow u sender) (ltb (firstRow u sender) 16) refl
+  where
+    by-row : (row : ℕ) (b : Bool) → ltb row 16 ≡ b → cond b (record { keys = getD (set (u .«sender_keys») row (held .keys)) row 0; places = getD (set (u .«sender_places») row (held .places)) row 0 }) noTotals .places ≤ held .places
+    by-row row true e = omega (arith, getD-set-same (u .«sender_places») row (held .places) 0 (omega (arith, ltb-true row 16 e)))
+    by-row row false e = omega arith
+
+-- what it leaves: at most one place fewer that is free, and one more of its sender
+abbrev Taken : Table → Table → ℕ → Type 0
+Taken t t′ sender = (freeIn t ≤ freeIn t′ + 1) × (totalsOf t′ sender .places ≤ totalsOf t sender .places + 1)
+
+kept-fewer : (t : Table) → Sound t → (store : List ℕ) (p : Push) {w : Way} → Went t store (p .arrival) (p .payload) (p .room) w → shape w ≡ keepAt 0 → Taken t (tableBy w t (p .arrival) (length (p .payload))) (senderOf (p .arrival .key))
+kept-fewer t s store p (went-refuse n values why) e = let no : _≡_ {A = ℕ} 0 1 = cc in absurd (omega arith)
 kept-fewer t s store p went-duplicate e = let no : _≡_ {A = ℕ} 0 1 = cc in absurd (omega arith)
-kept-fewer t s store p (went-keep i h₁ h₂ h₃ l q h k) e =
-    let new = placeFor (rowOf t (p .arrival .key)) (p .arrival .fragment) (length (p .payload)) in
-    taken t (withPlace t i new) i (put-elsewhere t i new) h
-kept-fewer t s store p (went-open i r h₁ h₂ h₃ l q h k q₂ h₄) e =
-    let new = placeFor r (p .arrival .fragment) (length (p .payload)) in
-    taken t (withPlace (withKey t r (p .arrival .key) (p .arrival .time)) i new) i (put-elsewhere (withKey t r (p .arrival .key) (p .arrival .time)) i new) h
+kept-fewer t s store p (went-keep i h₁ h₂ h₃ l q h k few) e =
+    let a = p .arrival in
+    let new = placeFor (rowOf t (a .key)) (a .fragment) (length (p .payload)) in (
+      taken t (withPlace t i new) i (put-elsewhere t i new) h,
+      put-places (withPlace t i new) (s .sender-places-long) (senderOf (a .key)) (record { keys = ownTotals t a .keys; places = ownTotals t a .places + 1 }),
+    )
+kept-fewer t s store p (went-open i r h₁ h₂ h₃ l q h k q₂ h₄ few few₂) e =
+    let a = p .arrival in
+    let opened = withKey (withTotals t (senderOf (a .key)) noTotals) r (a .key) (a .time) in
+    let new = placeFor r (a .fragment) (length (p .payload)) in (
+      taken t (withPlace opened i new) i (put-elsewhere opened i new) h,
+      put-places (withPlace opened i new) (length-set (t .«sender_places») (firstRow t (senderOf (a .key))) 0 ∙ s .sender-places-long) (senderOf (a .key)) (record { keys = ownTotals t a .keys + 1; places = ownTotals t a .places + 1 }),
+    )
 kept-fewer t s store p (went-end h bytes h₁ h₂ h₃ l q) e = let no : _≡_ {A = ℕ} 0 1 = cc in absurd (omega arith)
 
 module _ (m : Message) (long : ℕ) (store : 47744 ≤ long) (bring : ℕ → Push) (brings : (k : ℕ) → k ≤ m .final → Brings m k (bring k)) where
@@ -132,34 +154,48 @@ module _ (m : Message) (long : ℕ) (store : 47744 ≤ long) (bring : ℕ → Pu
       never-since never q = let no : _≡_ {A = ℕ} 0 1 = cc in omega arith
       never-since (since first) q = let no : _≡_ {A = ℕ} 0 1 = cc in omega arith
 
-  finds-room : (ks : List ℕ) (done : ℕ → Bool) (z : State) → Good long z → Due done ks → Has m done (holding (m .key) z) → length ks ≤ freeIn (z .table)
-      → (1 ≤ length ks → 16 ≤ rowOf (z .table) (m .key) → 16 ≤ spareRow (z .table) → ⊥) → every after hasRoom z (come ks) ≡ true
+  -- room for n more of them in the table, and in the sender's share
+  record Finds (n : ℕ) (t : Table) : Type 0 where
+    free : n ≤ freeIn t
+    share-left : sendersTotals m t .places + n ≤ 8
+    seat : 1 ≤ n → 16 ≤ rowOf t (m .key) → (spareRow t < 16) × (sendersTotals m t .keys < 4)
+
+  finds-room : (ks : List ℕ) (done : ℕ → Bool) (z : State) → Good long z → Due done ks → Has m done (holding (m .key) z) → Finds (length ks) (z .table) → every after hasRoom z (come ks) ≡ true
   unfolding every
-  finds-room [] done z g d has places seat =
+  finds-room [] done z g d has finds =
       let p = bring (m .final) in
       let b = brings (m .final) (omega arith) in
       let roomy : hasRoom z (push p) ≡ true = has-room z p ∙ room-unless long z p g (λ l f. true≢false (sym (ap (λ (h : Held). h .last) (b .fragment) ∙ eq-eqb (m .final) (m .final) refl) ∙ l)) in
       rw roomy
-  finds-room (k ∷ ks) done z g d has places seat =
+  finds-room (k ∷ ks) done z g d has finds =
       let p = bring k in
       let here = due-here done k ks d in
       let b = brings k (omega (arith, here .1)) in
       let new = absent-yet done (holding (m .key) z) k has (here .0) in
-      let free = some-free (z .table) (omega arith) in
-      let roomy : hasRoom z (push p) ≡ true = has-room z p ∙ room-unless long z p g (λ l f. not-full free (seat (omega arith)) (subst (Full (z .table)) (b .key) f)) in
+      let free = some-free (z .table) (omega (arith, finds .free)) in
+      let roomy : hasRoom z (push p) ≡ true = has-room z p ∙ room-unless long z p g (λ l f. not-full free (subst (Full (z .table)) (b .key) f)) in
       let is : ownWay long (holding (m .key) z) p ≡ keepAt 0 = waits m long store k p b (holding (m .key) z) new (λ e. omega (arith, here .1)) in
       let at-key : holding (p .arrival .key) z ≡ holding (m .key) z = ap (λ (c : ℕ). holding c z) (b .key) in
       let way : shape (wayOf z p) ≡ keepAt 0 = way-shape long z p g (sym (has-room z p) ∙ roomy) ∙ ap (λ (v : Holding). ownWay long v p) at-key ∙ is in
       let next : holding (m .key) (after z (push p)) ≡ withNew (holding (m .key) z) p
       = ap (λ (c : ℕ). holding c (after z (push p))) (sym (b .key)) ∙ own-push long z g p roomy ∙ ap (λ (v : Holding). tell long v (push p)) at-key ∙ ap (λ (w : Way). byOwn w (holding (m .key) z) p) is in
-      let fewer = kept-fewer (z .table) (sound (g .made)) (part z p) p (went (z .table) (part z p) (p .arrival) (p .payload) (p .room)) way in
+      let left = kept-fewer (z .table) (sound (g .made)) (part z p) p (went (z .table) (part z p) (p .arrival) (p .payload) (p .room)) way in
       let has′ : Has m (λ j. done j || eqb k j) (holding (m .key) (after z (push p))) = subst (Has m (λ j. done j || eqb k j)) (sym next) (added m long store k p b (holding (m .key) z) new done has) in
       let g′ = good-after long z (push p) g in
-      rw (roomy, finds-room ks (λ j. done j || eqb k j) (after z (push p)) g′ (due-next done k ks d) has′ (omega (arith, fewer)) (λ l out spare. held-row (after z (push p)) g′ p (b .key) (holding (m .key) z) next out))
+      let same-sender : senderOf (p .arrival .key) ≡ senderOf (m .key) = ap senderOf (b .key) in
+      let more = subst (λ (x : ℕ). totalsOf (after z (push p) .table) x .places ≤ totalsOf (z .table) x .places + 1) same-sender (left .1) in
+      let finds′ : Finds (length ks) (after z (push p) .table) = record {
+        free = omega (arith, left .0, finds .free);
+        share-left = omega (arith, more, finds .share-left);
+        seat = λ l out. absurd (held-row (after z (push p)) g′ p (b .key) (holding (m .key) z) next out);
+      } in
+      rw (roomy, finds-room ks (λ j. done j || eqb k j) (after z (push p)) g′ (due-next done k ks d) has′ finds′)
     where
-      not-full : lowestFree (z .table) < 32 → (16 ≤ rowOf (z .table) (m .key) → 16 ≤ spareRow (z .table) → ⊥) → Full (z .table) (m .key) → ⊥
-      not-full free seated (no-place h) = omega arith
-      not-full free seated (no-row h h′) = seated h h′
+      not-full : lowestFree (z .table) < 32 → Full (z .table) (m .key) → ⊥
+      not-full free (many-places h) = omega (arith, finds .share-left)
+      not-full free (many-keys h h′) = omega (arith, finds .seat (omega arith) h .1)
+      not-full free (no-place h) = omega arith
+      not-full free (no-row h h′) = omega (arith, finds .seat (omega arith) h .0)
 
   -- all the calls are the key's own pushes
   all-own : (ks : List ℕ) (done : ℕ → Bool) → Due done ks → those (isOwn (m .key)) (come ks) ≡ come ks
@@ -236,15 +272,32 @@ module _ (m : Message) (bring : ℕ → Push) (order : List ℕ) (sent : Sent m 
   pub completes : Room m (z .table) → Completes m bring order z
   completes has-place =
       let few : length order ≤ m .final = at-most (m .final) order (sent .once) (λ k h. ltb-true k (m .final) (sym (sent .all k) ∙ h)) in
-      let roomy = finds-room m long enough bring (sent .brings) order none z g due-all has-none (omega (arith, has-place .free)) (λ l out spare. omega (arith, has-place .row (omega arith))) in
+      let finds : Finds m long enough bring (sent .brings) (length order) (z .table) = record {
+        free = omega (arith, has-place .free);
+        share-left = omega (arith, has-place .share-of-places);
+        seat = λ l out. (has-place .row (omega arith), has-place .share-of-keys (omega arith));
+      } in
+      let roomy = finds-room m long enough bring (sent .brings) order none z g due-all has-none finds in
       let these = ap (those (isOwn (m .key))) (every-remains after hasRoom (sending m bring order) z roomy) ∙ all-own m long enough bring (sent .brings) order none due-all in
       let x = among forRoom (λ n h. h) (sending m bring order) these (all-spare m long enough bring (sent .brings) order z) in
       record { answers = sym (every-gathered after hasRoom (λ s e. isOwn (m .key) e) replyTo (sending m bring order) z roomy) ∙ x .0; holds = x .1 }
 
--- a fresh table has room for every message
+-- a fresh table has room for every message: no sender holds anything
+pub fresh-totals : (sender : ℕ) → totalsOf freshTable sender ≡ noTotals
+unfolding lowest
+fresh-totals sender = refl
+
 fresh-room : (m : Message) → Room m freshTable
 unfolding howMany lowest
-fresh-room m = record { free = m .few; row = λ l. omega arith }
+fresh-room m =
+    let none = fresh-totals (senderOf (m .key)) in
+    let fits : m .final ≤ 32 = omega (arith, m .few) in
+    record {
+      free = fits;
+      row = λ l. omega arith;
+      share-of-places = omega (arith, m .few, ap (λ (held : Totals). held .places) none);
+      share-of-keys = λ l. omega (arith, ap (λ (held : Totals). held .keys) none);
+    }
 
 pub fresh-completes : (m : Message) (bring : ℕ → Push) (order : List ℕ) → Sent m bring order → (store : List ℕ) → 47744 ≤ length store → Completes m bring order (start store)
 fresh-completes m bring order sent store long = completes m bring order sent (start store) byFresh long (fresh-holds store (m .key)) (fresh-room m)

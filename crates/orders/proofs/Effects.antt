@@ -46,10 +46,10 @@ module _ (z : State) (p : Push) (s : Sound (z .table)) where
 
   -- a payload that is written leaves the lent part as long as it was
   pub front-same : {w : Way} → Goes w → length (storeBy w (part z p) (p .payload)) ≡ length (part z p)
-  front-same (went-refuse n values) = refl
+  front-same (went-refuse n values why) = refl
   front-same went-duplicate = refl
-  front-same (went-keep i h₁ h₂ h₃ l e h k) = written i h h₁ h₂
-  front-same (went-open i r h₁ h₂ h₃ l e h k e₂ h₄) = written i h h₁ h₂
+  front-same (went-keep i h₁ h₂ h₃ l e h k few) = written i h h₁ h₂
+  front-same (went-open i r h₁ h₂ h₃ l e h k e₂ h₄ few few₂) = written i h h₁ h₂
   front-same (went-end h bytes h₁ h₂ h₃ l e) = refl
 
   pub stored-long : {w : Way} → Goes w → length (afterWay w z p .store) ≡ length (z .store)
@@ -71,10 +71,10 @@ module _ (z : State) (p : Push) (s : Sound (z .table)) where
   there h = rw (lt-ltb row 16 h)
 
   first-by : {w : Way} → Goes w → sinceAfter w (firstTime t (a .key)) (a .time) ≡ byOwn (shape w) v p .first
-  first-by (went-refuse n values) = refl
+  first-by (went-refuse n values why) = refl
   first-by went-duplicate = refl
-  first-by (went-keep i h₁ h₂ h₃ l e h k) = there k
-  first-by (went-open i r h₁ h₂ h₃ l e h k e₂ h₄) = ap (λ (f : Since). sinceOr f (a .time)) (sym (absent-since t s (a .key) k))
+  first-by (went-keep i h₁ h₂ h₃ l e h k few) = there k
+  first-by (went-open i r h₁ h₂ h₃ l e h k e₂ h₄ few few₂) = ap (λ (f : Since). sinceOr f (a .time)) (sym (absent-since t s (a .key) k))
   first-by (went-end h bytes h₁ h₂ h₃ l e) = refl
 
   -- the table's promises are about the part of the store that is lent: what comes after it makes no difference

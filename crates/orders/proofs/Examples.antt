@@ -10,6 +10,8 @@ use lib.ListN.{length}
 use borrow.Author.Tests.{eqb-true, eqb-false, eq-eqb, ne-eqb, le-leb, lt-leb, lt-ltb, le-ltb}
 use Rattle.numbers.specs.Numbers.{gives}
 use Rattle.searching.specs.Search.{lowest}
+use Rattle.keys.specs.Keys.{senderOf}
+use Rattle.table.specs.declared.Totals.{Totals}
 use Rattle.table.specs.Rows.{freshTable}
 use Rattle.pushing.specs.Joining.{Held, nothing, kept, Fragments, heldOf, isKept, unlike, inconsistentWith, andNew, inOrder, due}
 use Rattle.pushing.specs.Push.{Way, end, joinWay, waiting, missing, joined, answerBy}
@@ -18,17 +20,19 @@ use Rattle.orders.specs.Runs.{State, Push, push, sweep, pushed, dropped,
 use Rattle.orders.specs.Shares.{share, total, isIn, distinct}
 use Rattle.orders.specs.Messages.{Message, Brings, Sent}
 use Rattle.orders.proofs.Telling.{ownWay, own-keep, own-last, byOwn, withNew, tell, answer}
-use Rattle.orders.proofs.Pushing.{Good, Full, no-place, no-row, room-unless}
+use Rattle.orders.proofs.Pushing.{Good, Full, many-places, many-keys, no-place, no-row, room-unless}
 use Rattle.orders.proofs.Locality.{has-room, good-after, good-start, untouched, own-push, own-reply, own-sweep}
 use Rattle.orders.proofs.Totals.{total-alone}
 use Rattle.orders.proofs.Counting.{counts-add-up}
 use Rattle.orders.proofs.Alone.{fresh-holds}
 use Rattle.orders.proofs.Joined.{none-passes, misses}
-use Rattle.orders.proofs.Completes.{fresh-completes}
+use Rattle.orders.proofs.Completes.{fresh-totals, fresh-completes}
 
 -- a fresh table is not full
 fresh-not-full : (key : ℕ) → Full freshTable key → ⊥
 unfolding lowest
+fresh-not-full key (many-places h) = omega (arith, ap (λ (held : Totals). held .places) (fresh-totals (senderOf key)))
+fresh-not-full key (many-keys h h′) = omega (arith, ap (λ (held : Totals). held .keys) (fresh-totals (senderOf key)))
 fresh-not-full key (no-place h) = omega arith
 fresh-not-full key (no-row h h′) = omega arith
 

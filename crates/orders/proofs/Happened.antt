@@ -3,22 +3,24 @@
 use mathlib.Core.Path.{_≡_, refl, sym, ap, _∙_, subst}
 use mathlib.Core.List.{List, [], _∷_, _++_, map}
 use mathlib.Core.Bool.{Bool, true, false, cond, not, _&&_, false≢true}
-use Prim.Native.Nat.{ℕ}
+use Prim.Native.Nat.{ℕ, _<_}
 use native.Mathlib.Omega.{arith}
 use lib.Dec.{eqb}
 use lib.ListN.{length, getD, drop, replicate, take-append-drop}
 use borrow.Author.Tests.{eqb-true, eqb-false, eq-eqb}
 use Rattle.sweeping.specs.declared.Swept.{Swept}
 use Rattle.pushing.specs.declared.Pushed.{Pushed}
-use Rattle.pushing.specs.declared.Pushed.the-variants.{DuplicatedFragment}
+use Rattle.pushing.specs.declared.Pushed.the-variants.{DuplicatedFragment, Refused}
 use Rattle.pushing.specs.Push.{pushedOf, Goes, outputBy, answerBy}
 use Rattle.pushing.specs.Show.{shown}
 use Rattle.pushing.specs.Made.{Made}
 use Rattle.pushing.proofs.Ways.{shown-same}
 use Rattle.pushing.proofs.Firm.{one-answer}
 use Rattle.pushing.proofs.Claims as P
+use Rattle.numbers.specs.declared.Refusal.the-variants.{TableFull}
+use Rattle.table.specs.InStep.{InStep, WithinShares, OnlyOf}
 use Rattle.table.proofs.Places.{all-same}
-use Rattle.keys.specs.Keys.{Origin, keyFor}
+use Rattle.keys.specs.Keys.{Origin, keyFor, senderOf}
 use Rattle.keys.proofs.Claims as K
 use Rattle.stations.specs.Rows.{Stations, freshStations}
 use Rattle.stations.specs.Runs.{stationContract}
@@ -238,3 +240,12 @@ pub duplicate-untouched : (z z′ : State) (p : Push) (out out′ : List ℕ) �
 duplicate-untouched z z′ p out out′ m =
     let same = P.claims .duplicate-untouched (z .table) (part z p) out (p .arrival) (p .payload) (z′ .table) (part z′ p) out′ (m .goes) in
     ((λ i. record { table = same .0 i; store = (sym (take-append-drop (p .lent) (z′ .store)) ∙ ap (λ (l : List ℕ). l ++ drop (p .lent) (z′ .store)) (same .1) ∙ ap (λ (l : List ℕ). part z p ++ l) (m .rest) ∙ take-append-drop (p .lent) (z .store)) i }), same .2)
+
+-- the table at the end is one that the calls made, so what is claimed of these holds of it
+pub totals-in-step : (store : List ℕ) (calls : List TableCall) (z : State) → Happened tableContract (start store) calls z → InStep (z .table) × WithinShares (z .table)
+totals-in-step store calls z h = let made = is-run store calls z h .made in (P.claims .made-in-step (z .table) made, P.claims .made-within-shares (z .table) made)
+
+pub room-for-others : (store : List ℕ) (calls : List TableCall) (z : State) → Happened tableContract (start store) calls z → (p : Push) (out out′ : List ℕ) (z′ : State)
+    → (others : List ℕ) → length others < 4 → OnlyOf (z .table) (senderOf (p .arrival .key) ∷ others) → PushMeets z p out (Refused TableFull) out′ z′ → ⊥
+room-for-others store calls z h p out out′ z′ others few only m =
+    P.claims .room-for-few (z .table) (part z p) out (p .arrival) (p .payload) (z′ .table) (part z′ p) out′ (is-run store calls z h .made) others few only (m .goes)

@@ -169,7 +169,7 @@ numbers-long [] z = refl
 numbers-long (push p ∷ calls) z = numbers-long calls (after z (push p))
 numbers-long (sweep time ∷ calls) z = ap suc (numbers-long calls (after z (sweep time)))
 
--- Rule D3, from rule D5: where no push is refused by 10, crossing these out leaves every call.
+-- Rule D3, from rule D5: where no push is refused for table room, crossing these out leaves every call.
 pub order-across-keys : (store store′ : List ℕ) → length store′ ≡ length store → (calls calls′ : List Call) → Reordered calls calls′
     → neverFull (start store) calls ≡ true → neverFull (start store′) calls′ ≡ true → SameStory store store′ calls calls′
 order-across-keys store store′ long calls calls′ same room room′ =

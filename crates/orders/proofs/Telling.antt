@@ -1,5 +1,5 @@
 -- What one call makes of one key's holding, and what it tells: functions of the holding and the call alone, but for
--- refusal 10.
+-- refusals for table room.
 use mathlib.Core.Path.{_≡_, refl}
 use mathlib.Core.List.{List, []}
 use mathlib.Core.Bool.{Bool, true, false, cond, not}

@@ -7,13 +7,15 @@ use Prim.Native.Nat.{ℕ, _≤_, _<_}
 use lib.ListN.{length, getD}
 use Rattle.sweeping.specs.Sweep.{swept}
 use Rattle.table.specs.Rows.{storeSize}
+use Rattle.table.specs.InStep.{InStep, WithinShares, OnlyOf}
 use Rattle.numbers.specs.Numbers.{gives}
+use Rattle.numbers.specs.declared.Refusal.the-variants.{TableFull}
 use Rattle.pushing.specs.Joining.{Held, kept, Fragments, isKept, heldOf, due}
-use Rattle.pushing.specs.declared.Pushed.the-variants.{DuplicatedFragment}
+use Rattle.pushing.specs.declared.Pushed.the-variants.{DuplicatedFragment, Refused}
 use Rattle.pushing.specs.Push.{waiting, answerBy, outputBy}
 use Rattle.pushing.specs.Show.{shown}
 use Rattle.pushing.specs.Made.{Made}
-use Rattle.keys.specs.Keys.{Origin, keyFor}
+use Rattle.keys.specs.Keys.{Origin, keyFor, senderOf}
 use Rattle.machines.specs.Machine.{those, gathered, every}
 use Rattle.machines.specs.Happened.{Happened}
 use Rattle.machines.specs.Both.{lefts, rights, BothHappened}
@@ -31,8 +33,8 @@ pub record Local (z : State) : Type 0 where
   pub refused : (e : Call) → isAccepted z e ≡ false → after z e ≡ z
 
 -- Two tables that hold the same under a key, whatever else they hold, do the same to that key and answer the same. What
--- a push does goes by what its key holds and by the call, unless it is refused by 10 (rules T4 to T9). What a sweep
--- does to a key goes by what the key holds and by the time (rule S1).
+-- a push does goes by what its key holds and by the call, unless it is refused for table room (rules T4 to T9). What a
+-- sweep does to a key goes by what the key holds and by the time (rule S1).
 pub record Alike (z z′ : State) (key : ℕ) : Type 0 where
   pub tells-same : (p : Push) → p .arrival .key ≡ key → hasRoom z (push p) ≡ true → hasRoom z′ (push p) ≡ true → replyTo z (push p) ≡ replyTo z′ (push p)
   pub push-same : (p : Push) → p .arrival .key ≡ key → hasRoom z (push p) ≡ true → hasRoom z′ (push p) ≡ true → holding key (after z (push p)) ≡ holding key (after z′ (push p))
@@ -47,8 +49,8 @@ pub record ToldAlone (out : ℕ → Bool) (key : ℕ) (store store′ : List ℕ
   pub holds : holding key (ends (start store) calls) ≡ holding key (ends (start store′) (mine key (crossed out (start store) calls)))
   pub none-refused : every after (isLeft out) (start store′) (mine key (crossed out (start store) calls)) ≡ true
 
--- Rule D5: 10 has to be one of these numbers, because it goes by what the other keys hold. Any other may be one, up to
--- all. A push that another number refuses and that is left is refused alike alone: 11 and 12 go by the lengths that are
+-- Rule D5: 10 and 20 have to be among these numbers, because they go by what the other keys hold. Any other may be one,
+-- up to all. A push that another number refuses and that is left is refused alike alone: 11 and 12 go by the lengths that are
 -- lent and the payload's (rule T4), 13 by what the key holds and by the output's length (rule T9).
 abbrev pub CoversRoom : (ℕ → Bool) → Type 0
 CoversRoom out = (n : ℕ) → forRoom n ≡ true → out n ≡ true
@@ -115,7 +117,7 @@ pub record IsRun (store : List ℕ) (calls : List TableCall) (z : State) : Type 
 abbrev pub AskedReordered : List TableCall → List TableCall → Type 0
 AskedReordered calls calls′ = (o : Origin) → callsOf (those (isAbout o) calls) ≡ callsOf (those (isAbout o) calls′)
 
--- no push was refused by 10
+-- no push was refused for table room
 abbrev pub NoneFull : List TableCall → Type 0
 NoneFull calls = those (λ c. not (wasLeft forRoom c)) calls ≡ []
 
@@ -157,7 +159,7 @@ pub record ReorderedTogether (calls calls′ : List MixedCall) : Type 0 where
   pub messages : AskedReordered (lefts calls) (lefts calls′)
   pub events : EventsReordered (eventsOf (rights calls)) (eventsOf (rights calls′))
 
--- no push was refused by 10, and no event at all
+-- no push was refused for table room, and no event at all
 pub record RoomTogether (calls : List MixedCall) : Type 0 where
   pub messages : NoneFull (lefts calls)
   pub events : NoneRefused (rights calls)
@@ -198,6 +200,12 @@ pub record Claims : Type 0 where
   pub order-together : (store : List ℕ) (calls : List MixedCall) (z : State × Stations) → BothHappened tableContract stationContract (start store, freshStations) calls z
       → (store′ : List ℕ) (calls′ : List MixedCall) (z′ : State × Stations) → BothHappened tableContract stationContract (start store′, freshStations) calls′ z′
       → length store′ ≡ length store → ReorderedTogether calls calls′ → RoomTogether calls → RoomTogether calls′ → SameTogether calls calls′ z z′
+  -- rules T6 and T15: whatever calls happened, each sender's totals are in step, and no sender holds more than its share
+  pub totals-in-step : (store : List ℕ) (calls : List TableCall) (z : State) → Happened tableContract (start store) calls z → InStep (z .table) × WithinShares (z .table)
+  -- rule D7: whatever calls happened, a push is not refused by 10 if the keys held are of its own sender and of fewer
+  -- than four others
+  pub room-for-others : (store : List ℕ) (calls : List TableCall) (z : State) → Happened tableContract (start store) calls z → (p : Push) (out out′ : List ℕ) (z′ : State)
+      → (others : List ℕ) → length others < 4 → OnlyOf (z .table) (senderOf (p .arrival .key) ∷ others) → PushMeets z p out (Refused TableFull) out′ z′ → ⊥
   -- rule T5: a duplicate changes nothing, and what its caller lent comes back as it was
   pub duplicate-untouched : (z z′ : State) (p : Push) (out out′ : List ℕ) → PushMeets z p out DuplicatedFragment out′ z′ → (z′ ≡ z) × (out′ ≡ out)
   -- rules T3 and T6: a fragment that waits is held as it came, its mark included

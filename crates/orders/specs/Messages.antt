@@ -7,21 +7,24 @@ use lib.Dec.{eqb, ltb}
 use lib.ListN.{length}
 use Rattle.numbers.specs.Numbers.{gives}
 use Rattle.searching.specs.Count.{howMany}
+use Rattle.keys.specs.Keys.{senderOf}
 use Rattle.table.specs.declared.Table.{Table}
-use Rattle.table.specs.Rows.{keys, places, placeSize, storeSize, placeAt, isFree, spareRow}
+use Rattle.table.specs.declared.Totals.{Totals}
+use Rattle.table.specs.Rows.{keys, places, placeSize, storeSize, mostKeys, mostPlaces, placeAt, isFree, spareRow, totalsOf}
 use Rattle.pushing.specs.Joining.{Held, heldOf, inOrder, due}
 use Rattle.pushing.specs.Push.{PushAnswer, waiting, single, joined}
 use Rattle.orders.specs.Runs.{State, Push, Call, push, sweep, Reply, pushed, holding}
 use Rattle.orders.specs.Shares.{isIn, distinct}
 
--- Rule D6: fragments 0 to `final`, of at most 1,492 bytes each. There are at most 33 (rule T9).
+-- Rule D6: fragments 0 to `final`, of at most 1,492 bytes each. There are at most nine (rule T9): one sender has eight
+-- places, and the last one needs none.
 pub record Message : Type 0 where
   pub key : ℕ
   pub version : ℕ
   pub message-type : ℕ
   pub final : ℕ
   pub piece : ℕ → List ℕ
-  pub few : final ≤ places
+  pub few : final ≤ mostPlaces
   pub small : (k : ℕ) → length (piece k) ≤ placeSize
 
 -- Rule D6: fragment k as a table holds it. Only the final one is marked last.
@@ -54,10 +57,17 @@ sending m bring order = map (λ k. push (bring k)) order ++ (push (bring (m .fin
 abbrev pub freeIn : Table → ℕ
 freeIn t = howMany (λ i. isFree (placeAt t i)) places
 
--- Rule D6, so that none is refused: places for all fragments but the last, which needs none, and a row for the key.
+-- what the table says that the message's sender holds (rule T15)
+abbrev pub sendersTotals : Message → Table → Totals
+sendersTotals m t = totalsOf t (senderOf (m .key))
+
+-- Rule D6, so that none is refused: places for all fragments but the last, which needs none, and a row for the key. The
+-- sender's share has room for them too (rule T6).
 pub record Room (m : Message) (t : Table) : Type 0 where
   pub free : m .final ≤ freeIn t
   pub row : 1 ≤ m .final → spareRow t < keys
+  pub share-of-places : sendersTotals m t .places + m .final ≤ mostPlaces
+  pub share-of-keys : 1 ≤ m .final → sendersTotals m t .keys < mostKeys
 
 -- Rule D6: a sweep spares a key that holds nothing, and one whose first time is less than 3,000 milliseconds before.
 abbrev pub spares : ℕ → State → Call → Bool

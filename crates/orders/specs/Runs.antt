@@ -70,12 +70,12 @@ refusedBy test (dropped n) = false
 abbrev pub isLeft : (ℕ → Bool) → State → Call → Bool
 isLeft out s e = not (refusedBy out (replyTo s e))
 
--- by any number, and by 10, for want of room in the table (rule T6)
+-- by any number, and for want of room in the table: by 10, or by 20 because the sender holds its share (rule T6)
 abbrev pub anyNumber : ℕ → Bool
 anyNumber n = true
 
 abbrev pub forRoom : ℕ → Bool
-forRoom n = eqb n 10
+forRoom n = eqb n 10 || eqb n 20
 
 abbrev pub isAccepted : State → Call → Bool
 isAccepted = isLeft anyNumber
@@ -135,6 +135,6 @@ droppedIn (dropped n) = n
 abbrev pub sweepNumbers : State → List Call → List ℕ
 sweepNumbers = gathered after (λ s e. isSweep e) (λ s e. droppedIn (replyTo s e))
 
--- Rule D3: no call of a run is refused by 10.
+-- Rule D3: no call of a run is refused for table room.
 abbrev pub neverFull : State → List Call → Bool
 neverFull = every after hasRoom
