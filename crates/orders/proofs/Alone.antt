@@ -111,12 +111,12 @@ module _ (out : ℕ → Bool) (covers : CoversRoom out) (long : ℕ) (c : ℕ) w
     never-full (many-places h) =
         let more = count-within (owns (z .table) (rowOf (z .table) c)) (keptFor (z .table) (senderOf c)) places sender-has in
         let less = count-within (keptFor (z′ .table) (senderOf c)) (owns (z′ .table) (rowOf (z′ .table) c)) places key-has in
-        let said = ap (λ (held : Totals). held .places) (good (g .made) .0 .counted (senderOf c)) in
-        let said′ = ap (λ (held : Totals). held .places) (good (g′ .made) .0 .counted (senderOf c)) in
+        let said = ap (λ (held : Totals). held .places) (good (g .made) .0 .as-counted (senderOf c)) in
+        let said′ = ap (λ (held : Totals). held .places) (good (g′ .made) .0 .as-counted (senderOf c)) in
         omega (arith, more, less, said, said′, equal)
     never-full (many-keys h k) =
         let none = count-none (ofSender (z′ .table) (senderOf c)) 16 (none-of h) in
-        let said′ = ap (λ (held : Totals). held .keys) (good (g′ .made) .0 .counted (senderOf c)) in
+        let said′ = ap (λ (held : Totals). held .keys) (good (g′ .made) .0 .as-counted (senderOf c)) in
         omega (arith, none, said′)
     never-full (no-place h) =
         let all = count-all (owns (z′ .table) (rowOf (z′ .table) c)) places (λ i l. eq-eqb _ _ (owned-all h i l)) in
