@@ -242,10 +242,13 @@ pub record OfTheTable : Type 0 where
   pub kept-if-not-last : (keeps joins : Way) → wayBy 47744 1492 32 false keeps joins ≡ keeps
   pub joined-if-last : (keeps joins : Way) → wayBy 47744 1492 32 true keeps joins ≡ joins
   -- Rule T6: 10 where no place is free, or no row for a new key. A key that has a row needs none.
-  pub no-place-free : keepWay (record { row = 0; place = 32; free = 32; spare = 0 }) ≡ refuse 10 []
-  pub no-row-free : keepWay (record { row = 16; place = 32; free = 31; spare = 16 }) ≡ refuse 10 []
-  pub row-of-its-own : keepWay (record { row = 15; place = 32; free = 31; spare = 16 }) ≡ keepAt 31
-  pub new-row : keepWay (record { row = 16; place = 32; free = 0; spare = 15 }) ≡ openAt 0 15
+  pub no-place-free : keepWay (record { row = 0; place = 32; free = 32; spare = 0; first = 0 }) (record { keys = 1; places = 7 }) ≡ refuse 10 []
+  pub no-row-free : keepWay (record { row = 16; place = 32; free = 31; spare = 16; first = 16 }) (record { keys = 0; places = 0 }) ≡ refuse 10 []
+  pub row-of-its-own : keepWay (record { row = 15; place = 32; free = 31; spare = 16; first = 15 }) (record { keys = 4; places = 7 }) ≡ keepAt 31
+  pub new-row : keepWay (record { row = 16; place = 32; free = 0; spare = 15; first = 3 }) (record { keys = 3; places = 7 }) ≡ openAt 0 15
+  pub eight-places : keepWay (record { row = 3; place = 32; free = 0; spare = 15; first = 3 }) (record { keys = 1; places = 8 }) ≡ refuse 20 []
+  pub four-keys : keepWay (record { row = 16; place = 32; free = 0; spare = 15; first = 3 }) (record { keys = 4; places = 4 }) ≡ refuse 20 []
+  pub share-before-room : keepWay (record { row = 16; place = 32; free = 32; spare = 16; first = 3 }) (record { keys = 4; places = 4 }) ≡ refuse 20 []
   -- Rule T9: 13 carries the length of a message of two fragments or more. A message of one needs no output.
   pub output-too-small : messageWay 2 (1 ∷ 2 ∷ 3 ∷ []) 2 ≡ refuse 13 (3 ∷ [])
   pub output-just-enough : messageWay 2 (1 ∷ 2 ∷ 3 ∷ []) 3 ≡ end (joinedAs 3) (1 ∷ 2 ∷ 3 ∷ [])
