@@ -48,6 +48,8 @@ pub enum Refusal {
     NoReport,
     // 20: the sender holds its 8 places, or its 4 keys and needs a new one (rule T6)
     SenderFull,
+    // 21: a message that no fragments can carry (rule M5)
+    NoCutting,
 }
 
 // The number of a refusal (rule N1).
@@ -75,6 +77,7 @@ pub fn number_of(refusal: Refusal) -> u8
         Refusal::NotText => 18,
         Refusal::NoReport => 19,
         Refusal::SenderFull => 20,
+        Refusal::NoCutting => 21,
     }
 }
 
@@ -104,6 +107,7 @@ pub fn carried_by(refusal: Refusal) -> usize
         Refusal::NotText => 0,
         Refusal::NoReport => 0,
         Refusal::SenderFull => 0,
+        Refusal::NoCutting => 0,
     }
 }
 
