@@ -1,16 +1,15 @@
 -- No two answers are told alike.
 use mathlib.Core.Path.{_≡_, sym, ap}
 use mathlib.Core.List.{_∷_}
-use Prim.Native.Nat.{ℕ, suc}
-use native.Mathlib.Omega.{arith}
-use lib.ListN.{length}
+use Prim.Native.Nat.{ℕ}
 use Rattle.numbers.specs.Numbers.{refuses, number, values}
 use Rattle.numbers.specs.declared.Refusal.{Refusal}
-use Rattle.numbers.proofs.Firm.{firm, firm-numbered, so-many, never}
+use Rattle.numbers.proofs.Firm.{firm, never}
 use Rattle.numbers.proofs.Answers.{given}
 use Rattle.records.specs.declared.Record.{Record}
 use Rattle.kinds.specs.Kinds.{Contents, one, list}
 use Rattle.walking.specs.declared.Tlv.{Tlv}
+use Rattle.walking.proofs.Firm.{with-offset, offset-apart}
 use Rattle.finding.specs.declared.Found.{Found}
 use Rattle.finding.specs.declared.Found.the-variants as Found
 use Rattle.finding.specs.declared.Placed.{Placed}
@@ -48,19 +47,10 @@ placed-one (Placed.Refused f) (Placed.Refused f′) e = ap Placed.Refused (firm 
 apart : {X : Type 0} (r : Refusal) (at : ℕ) (f : Found) → refuses (number r) (at ∷ values r) ≡ foundOf f → X
 apart r at (Found.Record i t q c n) e = never _ _ _ (sym e)
 apart r at (Found.List i t m c n) e = never _ _ _ (sym e)
-apart r at (Found.Refused f) e =
-    let n : number r ≡ number f = cc in
-    let v : at ∷ values r ≡ values f = cc in
-    let s : length (values r) ≡ length (values f) = so-many r f n in
-    let l : suc (length (values r)) ≡ length (values f) = ap length v in
-    absurd (omega arith)
+apart r at (Found.Refused f) e = offset-apart r f at e
 
 pub searched-one : (a b : Searched) → searchedOf a ≡ searchedOf b → a ≡ b
-searched-one (Searched.Unwalked g at) (Searched.Unwalked g′ at′) e =
-    let n : number g ≡ number g′ = cc in
-    let v : values g ≡ values g′ = cc in
-    let a : at ≡ at′ = cc in
-    rw (firm-numbered g g′ n v, a)
+searched-one (Searched.Unwalked g at) (Searched.Unwalked g′ at′) e = let o = with-offset g g′ at at′ e in rw (o .0, o .1)
 searched-one (Searched.Unwalked g at) (Searched.Answered f) e = apart g at f e
 searched-one (Searched.Answered f) (Searched.Unwalked g at) e = apart g at f (sym e)
 searched-one (Searched.Answered f) (Searched.Answered f′) e = ap Searched.Answered (found-one f f′ e)

@@ -3,9 +3,10 @@ use mathlib.Core.Path.{_≡_, refl, sym, ap}
 use mathlib.Core.List.{_∷_}
 use Prim.Native.Nat.{ℕ}
 use native.Mathlib.Omega.{arith}
-use Rattle.numbers.specs.Numbers.{Answer, refuses, number, values}
+use lib.ListN.{length}
+use Rattle.numbers.specs.Numbers.{Answer, refuses, told, number, values}
 use Rattle.numbers.specs.declared.Refusal.{Refusal}
-use Rattle.numbers.proofs.Firm.{firm-numbered, never}
+use Rattle.numbers.proofs.Firm.{firm-numbered, so-many, never}
 use Rattle.numbers.proofs.Answers.{given}
 use Rattle.walking.specs.Walk.{WalkCount, steppedOf, walkedOf}
 use Rattle.walking.specs.declared.Stepped.{Stepped}
@@ -13,9 +14,15 @@ use Rattle.walking.specs.declared.Stepped.the-variants as Stepped
 use Rattle.walking.specs.declared.Walked.{Walked}
 use Rattle.walking.specs.declared.Walked.the-variants as Walked
 
--- a refusal with an offset
-with-offset : {A : Type 0} (r r′ : Refusal) (at at′ : ℕ) → _≡_ {A = Answer A} (refuses (number r) (at ∷ values r)) (refuses (number r′) (at′ ∷ values r′)) → (r ≡ r′) × (at ≡ at′)
+-- a refusal with an offset, and one without: the first has a value more
+pub with-offset : {A : Type 0} (r r′ : Refusal) (at at′ : ℕ) → _≡_ {A = Answer A} (refuses (number r) (at ∷ values r)) (refuses (number r′) (at′ ∷ values r′)) → (r ≡ r′) × (at ≡ at′)
 with-offset r r′ at at′ e = (firm-numbered r r′ (cc) (cc), cc)
+
+pub offset-apart : {A B : Type 0} (r r′ : Refusal) (at : ℕ) → _≡_ {A = Answer A} (refuses (number r) (at ∷ values r)) (told r′) → B
+offset-apart r r′ at e =
+    let n : number r ≡ number r′ = cc in
+    let v : at ∷ values r ≡ values r′ = cc in
+    absurd (omega (arith, so-many r r′ n, ap length v))
 
 pub walked-one : (a b : Walked) → walkedOf a ≡ walkedOf b → a ≡ b
 walked-one (Walked.Count n k) (Walked.Count m l) e =
