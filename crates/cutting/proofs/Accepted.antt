@@ -11,12 +11,13 @@ use borrow.Author.Tests.{eqb-true, leb-true}
 use Rattle.numbers.specs.Numbers.{Answer, gives, refuses, isGiven}
 use Rattle.walking.specs.Walk.{walkOf}
 use Rattle.walking.specs.Pieces.{pieces}
-use Rattle.cutting.specs.Cuts.{longestPayload, mostFragments, tlvsOf, payloadIn, isTlvs, isEmptyOne, isFragment, eachFrom, isSame, noFragment, isCutting}
+use Rattle.numbers.specs.Bytes.{isSame}
+use Rattle.numbers.proofs.Bytes.{cannot, both-true, are-same}
+use Rattle.cutting.specs.Cuts.{longestPayload, mostFragments, tlvsOf, payloadIn, isTlvs, isEmptyOne, isFragment, eachFrom, noFragment, isCutting}
 use Rattle.cutting.specs.declared.Proposed.{Proposed}
 use Rattle.cutting.proofs.Asked.{AsAsked, as-asked, each-asked}
 use Rattle.cutting.proofs.Fewest.{sum, Within}
 use Rattle.cutting.proofs.Runs.{flat, Tlvs, of-pieces, pieces-are, unique, nothing-left}
-use Rattle.cutting.proofs.Same.{cannot, both-true, are-same}
 use Rattle.cutting.proofs.Whole.{given-tlvs}
 
 -- payloads that are whole TLVs, or empty, and not too long

@@ -7,9 +7,9 @@ use native.Mathlib.Omega.{arith}
 use lib.Dec.{eqb, leb}
 use lib.ListN.{length, getD}
 use borrow.Author.Tests.{eqb-true, leb-true}
+use Rattle.numbers.proofs.Bytes.{cannot, both-true}
 use Rattle.cutting.specs.Cuts.{longestPayload, payloadIn, isTlvs, isEmptyOne, isAlike, isFragment, eachFrom, noFragment}
 use Rattle.cutting.specs.declared.Proposed.{Proposed}
-use Rattle.cutting.proofs.Same.{cannot, both-true}
 
 pub record AsAsked (m payloads : List ℕ) (count : ℕ) (first : Proposed) (i : ℕ) (f : Proposed) : Type 0 where
   pub number-is : f .number ≡ i

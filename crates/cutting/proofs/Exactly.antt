@@ -11,6 +11,7 @@ use Rattle.numbers.specs.Numbers.{Answer, gives, refuses, andThen}
 use Rattle.numbers.proofs.Answers.{given, gave, mapped-gave, mapped-given}
 use Rattle.numbers.proofs.Firm.{never}
 use Rattle.walking.specs.Pieces.{pieces}
+use Rattle.numbers.proofs.Bytes.{both-true, is-same}
 use Rattle.cutting.specs.Cuts.{longestPayload, mostFragments, tlvsOf, payloadIn, isTlvs, isFragment, noFragment, isCutting, checkOf}
 use Rattle.cutting.specs.Greedy.{endsFrom, allFit, endsOver, endsOf, cutInto}
 use Rattle.cutting.specs.Claims.{fragmentsFrom, AlwaysPasses, NoneExactly, Fewest, NoneCut}
@@ -20,7 +21,6 @@ use Rattle.cutting.proofs.Filled.{some, both}
 use Rattle.cutting.proofs.Fewest.{needed, as-many, fewest, all-fit}
 use Rattle.cutting.proofs.Passing.{Passes, passes, first-of}
 use Rattle.cutting.proofs.Runs.{of-pieces, pieces-are, chain-of, at-least-3, Chain}
-use Rattle.cutting.proofs.Same.{both-true, is-same}
 use Rattle.cutting.proofs.Whole.{given-tlvs}
 
 -- the ends that are given, and what holds of them

@@ -11,6 +11,7 @@ use lib.ListN.{length, take, getD, set, length-append, length-set}
 use lib.Seq.{take-suc, take-set-le, getD-set-same, length-take-le}
 use borrow.Author.Tests.{le-leb, lt-leb, leb-true, leb-false, ltb-true, ltb-false}
 use Rattle.numbers.specs.Numbers.{gives, refuses}
+use Rattle.numbers.proofs.Bytes.{cannot}
 use Rattle.cutting.specs.Cuts.{longestPayload, mostFragments}
 use Rattle.cutting.specs.Greedy.{endsFrom, allFit, endsOver}
 use Rattle.cutting.specs.PrivateFilling.{unfit, withTlv}
@@ -61,9 +62,6 @@ module _ (all : List ℕ) where
 
     long′ : (k : ℕ) → length (set ends k (at + x)) ≡ mostFragments
     long′ k = length-set ends k (at + x) ∙ f .long
-
-    cannot : {A : Type 0} → false ≡ true → A
-    cannot e = let z : _≡_ {A = ℕ} 0 1 = cc in absurd (omega arith)
 
     -- no fragment holds it
     none : (o .fits ≡ true → endsOver all ≡ refuses 21 []) → After (unfit o)

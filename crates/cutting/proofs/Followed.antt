@@ -8,13 +8,15 @@ use lib.Dec.{eqb, leb}
 use lib.ListN.{length, take, drop, length-drop, length-take}
 use lib.Seq.{drop-drop, length-take-le}
 use borrow.Author.Tests.{ne-eqb}
-use Rattle.cutting.specs.Cuts.{longestPayload, payloadIn, isTlvs, isEmptyOne, isAlike, isFragment, eachFrom, isSame, isCutting}
+use Rattle.numbers.specs.Bytes.{isSame}
+use Rattle.numbers.proofs.Bytes.{are-same}
+use Rattle.cutting.specs.Cuts.{longestPayload, payloadIn, isTlvs, isEmptyOne, isAlike, isFragment, eachFrom, isCutting}
 use Rattle.cutting.specs.PrivateFollowing.{goesOn, firstBy, isHeaded, isCarried, before, afterGood, afterBad, takenBy, followsFrom}
 use Rattle.cutting.specs.declared.Proposed.{Proposed}
 use Rattle.cutting.specs.declared.following.Own.{Own}
 use Rattle.cutting.specs.declared.following.Reached.{Reached}
 use Rattle.cutting.proofs.Asked.{as-asked}
-use Rattle.cutting.proofs.Same.{are-same, part-by-part, at-end, there}
+use Rattle.cutting.proofs.Same.{part-by-part, at-end, there}
 
 and-false : (b : Bool) → (b && false) ≡ false
 and-false true = refl

@@ -9,13 +9,15 @@ use lib.ListN.{length, take, drop, getD, length-drop}
 use lib.Seq.{ext-getD, getD-take, getD-drop, length-take-le}
 use borrow.Author.Tests.{eq-eqb, ne-eqb, eqb-true, eqb-false, le-leb, lt-leb, leb-true}
 use Rattle.numbers.specs.Numbers.{gives}
-use Rattle.cutting.specs.Cuts.{longestPayload, mostFragments, payloadIn, isTlvs, isEmptyOne, isAlike, isSame}
+use Rattle.numbers.specs.Bytes.{isSame}
+use Rattle.numbers.proofs.Bytes.{is-same, are-same, both-true}
+use Rattle.cutting.specs.Cuts.{longestPayload, mostFragments, payloadIn, isTlvs, isEmptyOne, isAlike}
 use Rattle.cutting.specs.PrivateFollowing.{saidOf, goesOn, firstBy, isHeaded, isCarried, afterBad, takenBy}
 use Rattle.cutting.specs.declared.Proposed.{Proposed}
 use Rattle.cutting.specs.declared.following.Own.{Own}
 use Rattle.cutting.specs.declared.following.Own.the-variants as Own
 use Rattle.cutting.specs.declared.following.Reached.{Reached}
-use Rattle.cutting.proofs.Same.{is-same, are-same, not-true, both-true}
+use Rattle.cutting.proofs.Same.{not-true}
 
 module _ (f g : Proposed) where
   pub other-version : (f .version ≡ g .version → ⊥) → false ≡ isAlike f g

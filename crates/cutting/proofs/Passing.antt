@@ -15,7 +15,7 @@ use Rattle.cutting.specs.Greedy.{endsFrom, allFit}
 use Rattle.cutting.specs.Claims.{fragmentsFrom}
 use Rattle.cutting.specs.declared.Proposed.{Proposed}
 use Rattle.cutting.proofs.Runs.{flat-snoc, Chain, whole, at-least-3}
-use Rattle.cutting.proofs.Same.{both-true}
+use Rattle.numbers.proofs.Bytes.{both-true}
 use Rattle.cutting.proofs.Whole as tlvs
 
 -- a chain of TLVs is whole TLVs

@@ -1,4 +1,4 @@
--- Laws of `isSame`: it holds of equal bytes alone, and goes part by part.
+-- Laws of `isSame`: it goes part by part.
 use mathlib.Core.Path.{_≡_, refl, ap}
 use mathlib.Core.Bool.{Bool, true, false, _&&_}
 use mathlib.Core.List.{List, [], _∷_, _++_}
@@ -6,35 +6,13 @@ use Prim.Native.Nat.{ℕ, _+_, _-_, _≤_}
 use native.Mathlib.Omega.{arith}
 use lib.Dec.{eqb, leb}
 use lib.ListN.{length, take, drop, length-take, length-drop}
-use borrow.Author.Tests.{eq-eqb, ne-eqb, eqb-true, le-leb}
-use Rattle.cutting.specs.Cuts.{isSame}
-
-pub cannot : {A : Type 0} → false ≡ true → A
-cannot e = let z : _≡_ {A = ℕ} 0 1 = cc in absurd (omega arith)
-
-pub both-true : (a b : Bool) → (a && b) ≡ true → (a ≡ true) × (b ≡ true)
-both-true true b e = (refl, e)
-both-true false b e = cannot e
+use borrow.Author.Tests.{eq-eqb, ne-eqb, le-leb}
+use Rattle.numbers.specs.Bytes.{isSame}
+use Rattle.numbers.proofs.Bytes.{are-same}
 
 pub not-true : (b : Bool) → (b ≡ true → ⊥) → false ≡ b
 not-true true h = absurd (h refl)
 not-true false h = refl
-
-pub is-same : (s t : List ℕ) → s ≡ t → isSame s t ≡ true
-is-same [] [] e = refl
-is-same [] (b ∷ t) e = let z : _≡_ {A = ℕ} 0 1 = cc in absurd (omega arith)
-is-same (a ∷ s) [] e = let z : _≡_ {A = ℕ} 0 1 = cc in absurd (omega arith)
-is-same (a ∷ s) (b ∷ t) e = rw (eq-eqb a b (cc)) (is-same s t (cc))
-
-pub are-same : (s t : List ℕ) → isSame s t ≡ true → s ≡ t
-are-same [] [] e = refl
-are-same [] (b ∷ t) e = cannot e
-are-same (a ∷ s) [] e = cannot e
-are-same (a ∷ s) (b ∷ t) e =
-    let o = both-true (eqb a b) (isSame s t) e in
-    let h : a ≡ b = eqb-true a b (o .0) in
-    let k : s ≡ t = are-same s t (o .1) in
-    rw (h, k)
 
 -- first the one part, then the other
 pub part-by-part : (p r t : List ℕ) → isSame (p ++ r) t ≡ (isSame p (take (length p) t) && isSame r (drop (length p) t))

@@ -5,6 +5,7 @@ use Prim.Native.Nat.{ℕ, _+_}
 use lib.Dec.{eqb, leb, ltb}
 use lib.ListN.{length, take, drop, getD}
 use Rattle.numbers.specs.Numbers.{Answer, gives, refuses, told, number, values, andThen, mapped, isGiven}
+use Rattle.numbers.specs.Bytes.{isSame}
 use Rattle.walking.specs.Walk.{walkOf}
 use Rattle.walking.specs.Pieces.{pieces}
 use Rattle.cutting.specs.declared.Proposed.{Proposed}
@@ -55,13 +56,6 @@ isFragment message payloads count first i f =
 abbrev pub eachFrom : {A : Type 0} → (ℕ → A → Bool) → ℕ → List A → Bool
 eachFrom test i [] = true
 eachFrom test i (a ∷ rest) = test i a && eachFrom test (i + 1) rest
-
--- the same bytes
-abbrev pub isSame : List ℕ → List ℕ → Bool
-isSame [] [] = true
-isSame [] (b ∷ t) = false
-isSame (a ∷ s) [] = false
-isSame (a ∷ s) (b ∷ t) = eqb a b && isSame s t
 
 -- what a place past the end of a list is taken to hold
 abbrev pub noFragment : Proposed

@@ -5,7 +5,8 @@ use Prim.Native.Nat.{ℕ, _+_}
 use lib.Dec.{eqb, leb}
 use lib.ListN.{length, take, drop}
 use Rattle.numbers.specs.Numbers.{Answer, gives, refuses, number, values}
-use Rattle.cutting.specs.Cuts.{longestPayload, mostFragments, payloadIn, isTlvs, isEmptyOne, isAlike, isSame, noFragment}
+use Rattle.numbers.specs.Bytes.{isSame}
+use Rattle.cutting.specs.Cuts.{longestPayload, mostFragments, payloadIn, isTlvs, isEmptyOne, isAlike, noFragment}
 use Rattle.cutting.specs.declared.Proposed.{Proposed}
 use Rattle.cutting.specs.declared.following.Own.{Own}
 use Rattle.cutting.specs.declared.following.Own.the-variants as Own

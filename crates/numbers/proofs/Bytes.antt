@@ -1,13 +1,16 @@
--- Laws of numbers in bytes: a number and its bytes say each other.
+-- Laws of numbers in bytes: a number and its bytes say each other. Laws of bytes that are the same.
 use mathlib.Core.Path.{_≡_, refl, sym, ap, _∙_}
+use mathlib.Core.Bool.{Bool, true, false, _&&_}
 use mathlib.Core.List.{List, [], _∷_, _++_, append-nil, append-assoc}
 use Prim.Native.Nat.{ℕ, zero, suc, _+_, _*_, _/_, _%_, _^_, _<_, _≤_}
 use native.Mathlib.Omega.{arith}
 use native.Mathlib.Nat.{pow-suc, zero-add, add-zero}
 use native.Mathlib.Numerals.{add-one}
+use lib.Dec.{eqb}
 use lib.ListN.{length, take, drop, getD, length-drop}
 use lib.Seq.{drop-cons, getD-drop, length-take-le, drop-append-le, take-append-le}
-use Rattle.numbers.specs.Bytes.{bigEndianAfter, bigEndian, numberAt, inBytes, AllBytes}
+use borrow.Author.Tests.{eq-eqb, eqb-true}
+use Rattle.numbers.specs.Bytes.{bigEndianAfter, bigEndian, numberAt, inBytes, AllBytes, isSame}
 
 -- bytes after bytes
 pub after-append : (n : ℕ) (a b : List ℕ) → bigEndianAfter n (a ++ b) ≡ bigEndianAfter (bigEndianAfter n a) b
@@ -67,3 +70,24 @@ module _ (w p : ℕ) (s : List ℕ) (inside : p + w ≤ length s) where
   -- it stays with more bytes after them
   pub number-longer : (more : List ℕ) → numberAt w p s ≡ numberAt w p (s ++ more)
   number-longer more = rw (drop-append-le p s more (omega arith), take-append-le w (drop p s) more (simp length-drop (omega arith)))
+
+-- what no test gives, and both of two tests
+pub cannot : {A : Type 0} → false ≡ true → A
+cannot e = let z : _≡_ {A = ℕ} 0 1 = cc in absurd (omega arith)
+
+pub both-true : (a b : Bool) → (a && b) ≡ true → (a ≡ true) × (b ≡ true)
+both-true true b e = (refl, e)
+both-true false b e = cannot e
+
+pub is-same : (s t : List ℕ) → s ≡ t → isSame s t ≡ true
+is-same s t e = rw e (itself t)
+  where
+    itself : (t : List ℕ) → isSame t t ≡ true
+    itself [] = refl
+    itself (a ∷ t) = rw (eq-eqb a a refl) (itself t)
+
+pub are-same : (s t : List ℕ) → isSame s t ≡ true → s ≡ t
+are-same [] [] e = refl
+are-same [] (b ∷ t) e = cannot e
+are-same (a ∷ s) [] e = cannot e
+are-same (a ∷ s) (b ∷ t) e = let o = both-true (eqb a b) (isSame s t) e in rw (eqb-true a b (o .0), are-same s t (o .1))

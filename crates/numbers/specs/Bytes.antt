@@ -1,6 +1,8 @@
 -- Numbers in bytes. Rule B1: the highest byte stands first.
+use mathlib.Core.Bool.{Bool, true, false, _&&_}
 use mathlib.Core.List.{List, [], _∷_, _++_}
 use Prim.Native.Nat.{ℕ, zero, suc, _+_, _*_, _/_, _%_, _<_}
+use lib.Dec.{eqb}
 use lib.ListN.{take, drop, getD}
 
 -- the number that some bytes say after the number n: each byte is the next digit of base 256
@@ -24,3 +26,10 @@ inBytes (suc w) n = inBytes w (n / 256) ++ (n % 256 ∷ [])
 -- each element is a byte
 abbrev pub AllBytes : List ℕ → Type 0
 AllBytes s = (i : ℕ) → getD s i 0 < 256
+
+-- the same bytes
+abbrev pub isSame : List ℕ → List ℕ → Bool
+isSame [] [] = true
+isSame [] (b ∷ t) = false
+isSame (a ∷ s) [] = false
+isSame (a ∷ s) (b ∷ t) = eqb a b && isSame s t

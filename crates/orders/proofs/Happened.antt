@@ -2,7 +2,7 @@
 -- it.
 use mathlib.Core.Path.{_≡_, refl, sym, ap, _∙_, subst}
 use mathlib.Core.List.{List, [], _∷_, _++_, map}
-use mathlib.Core.Bool.{Bool, true, false, cond, not, _&&_, false≢true}
+use mathlib.Core.Bool.{Bool, true, false, cond, not, _&&_}
 use Prim.Native.Nat.{ℕ, _<_}
 use native.Mathlib.Omega.{arith}
 use lib.Dec.{eqb}
@@ -18,6 +18,8 @@ use Rattle.pushing.proofs.Ways.{shown-same}
 use Rattle.pushing.proofs.Firm.{one-answer}
 use Rattle.pushing.proofs.Claims as P
 use Rattle.numbers.specs.declared.Refusal.the-variants.{TableFull}
+use Rattle.numbers.specs.Bytes.{isSame}
+use Rattle.numbers.proofs.Bytes.{is-same, are-same}
 use Rattle.table.specs.InStep.{InStep, WithinShares, OnlyOf}
 use Rattle.table.proofs.Places.{all-same}
 use Rattle.keys.specs.Keys.{Origin, keyFor, senderOf}
@@ -32,7 +34,7 @@ use Rattle.machines.proofs.Lists.{left-true, right-true, those-both, every-none
 use Rattle.machines.proofs.Happened as H
 use Rattle.machines.proofs.Both.{of-left, of-right}
 use Rattle.orders.specs.Runs.{State, Push, Call, push, pushed, dropped, finishedBy, part, wayOf, after, replyTo, isLeft, forRoom, hasRoom, isOwn, isSweep, mine, start, holding, ends, crossed, repliesTo, sweepNumbers, droppedIn}
-use Rattle.orders.specs.Happened.{TableAsked, push-asked, sweep-asked, TableGot, push-got, sweep-got, TableCall, MixedCall, PushMeets, tableMeets, tableContract, callOf, asksCall, callsOf, CallerGot, from-push, from-sweep, gotFrom, gotBy, replyOf, wasLeft, sameBytes, asksFrom, isFrom, isSweepCall, isAbout, numbersGot}
+use Rattle.orders.specs.Happened.{TableAsked, push-asked, sweep-asked, TableGot, push-got, sweep-got, TableCall, MixedCall, PushMeets, tableMeets, tableContract, callOf, asksCall, callsOf, CallerGot, from-push, from-sweep, gotFrom, gotBy, replyOf, wasLeft, asksFrom, isFrom, isSweepCall, isAbout, numbersGot}
 use Rattle.orders.specs.Claims.{CoversRoom, Reordered, IsRun, AskedReordered, NoneFull, SameGot, OwnRun, GotAlone, GotAddsUp, ReorderedTogether, RoomTogether, SameTogether}
 use Rattle.orders.specs.Shares.{total, isIn, distinct}
 use Rattle.orders.proofs.Locality.{sweeps-mine}
@@ -82,29 +84,17 @@ left : (out : ℕ → Bool) → Tests tableContract asksCall (isLeft out) (wasLe
 left out c m = rw (tied c m .1)
 
 -- by sender and message id, or by key
-same-true : (bs cs : List ℕ) → sameBytes bs cs ≡ true → bs ≡ cs
-unfolding sameBytes
-same-true [] [] h = refl
-same-true [] (c ∷ cs) h = absurd (false≢true h)
-same-true (b ∷ bs) [] h = absurd (false≢true h)
-same-true (b ∷ bs) (c ∷ cs) h = rw (eqb-true b c (left-true (eqb b c) _ h), same-true bs cs (right-true (eqb b c) _ h))
-
-same-refl : (bs : List ℕ) → sameBytes bs bs ≡ true
-unfolding sameBytes
-same-refl [] = refl
-same-refl (b ∷ bs) = rw (eq-eqb b b refl, same-refl bs)
-
-one-key : (a o : Origin) → (sameBytes (a .sender) (o .sender) && eqb (a .message-id) (o .message-id)) ≡ eqb (keyFor a) (keyFor o)
+one-key : (a o : Origin) → (isSame (a .sender) (o .sender) && eqb (a .message-id) (o .message-id)) ≡ eqb (keyFor a) (keyFor o)
 one-key a o = by-key (eqb (keyFor a) (keyFor o)) refl
   where
-    by-key : (b : Bool) → eqb (keyFor a) (keyFor o) ≡ b → (sameBytes (a .sender) (o .sender) && eqb (a .message-id) (o .message-id)) ≡ b
-    by-key true e = let same = K.claims .key-is-one's a o (eqb-true _ _ e) in rw (same .0, same .1, same-refl (o .sender), eq-eqb (o .message-id) (o .message-id) refl)
-    by-key false e = by-both (sameBytes (a .sender) (o .sender) && eqb (a .message-id) (o .message-id)) refl
+    by-key : (b : Bool) → eqb (keyFor a) (keyFor o) ≡ b → (isSame (a .sender) (o .sender) && eqb (a .message-id) (o .message-id)) ≡ b
+    by-key true e = let same = K.claims .key-is-one's a o (eqb-true _ _ e) in rw (same .0, same .1, is-same (o .sender) (o .sender) refl, eq-eqb (o .message-id) (o .message-id) refl)
+    by-key false e = by-both (isSame (a .sender) (o .sender) && eqb (a .message-id) (o .message-id)) refl
       where
-        by-both : (b : Bool) → (sameBytes (a .sender) (o .sender) && eqb (a .message-id) (o .message-id)) ≡ b → b ≡ false
+        by-both : (b : Bool) → (isSame (a .sender) (o .sender) && eqb (a .message-id) (o .message-id)) ≡ b → b ≡ false
         by-both true h =
-            let sender : a .sender ≡ o .sender = same-true _ _ (left-true (sameBytes (a .sender) (o .sender)) _ h) in
-            let id : a .message-id ≡ o .message-id = eqb-true _ _ (right-true (sameBytes (a .sender) (o .sender)) _ h) in
+            let sender : a .sender ≡ o .sender = are-same _ _ (left-true (isSame (a .sender) (o .sender)) _ h) in
+            let id : a .message-id ≡ o .message-id = eqb-true _ _ (right-true (isSame (a .sender) (o .sender)) _ h) in
             absurd (eqb-false (keyFor a) (keyFor o) e (rw (sender, id)))
         by-both false h = refl
 

@@ -5,6 +5,7 @@ use mathlib.Core.Bool.{Bool, true, false, not, _&&_, _||_}
 use Prim.Native.Nat.{ℕ}
 use lib.Dec.{eqb}
 use lib.ListN.{length, drop}
+use Rattle.numbers.specs.Bytes.{isSame}
 use Rattle.machines.specs.Machine.{those}
 use Rattle.machines.specs.Happened.{Outcome, Asks, asks-for, stepsOf}
 use Rattle.machines.specs.Both.{Either}
@@ -81,14 +82,8 @@ abbrev pub wasLeft : (ℕ → Bool) → TableCall → Bool
 wasLeft out c = not (refusedBy out (replyOf (gotBy c)))
 
 -- the pushes of one sender's message
-unfoldable pub sameBytes : List ℕ → List ℕ → Bool
-sameBytes [] [] = true
-sameBytes [] (c ∷ cs) = false
-sameBytes (b ∷ bs) [] = false
-sameBytes (b ∷ bs) (c ∷ cs) = eqb b c && sameBytes bs cs
-
 abbrev pub asksFrom : Origin → TableAsked → Bool
-asksFrom o (push-asked o′ p key out long) = sameBytes (o′ .sender) (o .sender) && eqb (o′ .message-id) (o .message-id)
+asksFrom o (push-asked o′ p key out long) = isSame (o′ .sender) (o .sender) && eqb (o′ .message-id) (o .message-id)
 asksFrom o (sweep-asked time) = false
 
 abbrev pub isFrom : Origin → TableCall → Bool
