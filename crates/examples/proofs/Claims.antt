@@ -25,10 +25,12 @@ use Rattle.stations.specs.Addresses.{addressOf}
 use Rattle.stations.specs.Rows.{whereOf, allHeld, afterJoin, afterLeave}
 use Rattle.links.specs.Pairs.{pairsIn}
 use Rattle.links.specs.Reports.{reportOver, reportIfFew, reportOf, merged}
+use Rattle.cutting.specs.Cuts.{tlvsOf, isTlvs, isFragment, isCutting, checkOf}
+use Rattle.cutting.specs.Greedy.{endsFrom, endsOver, endsOf, cutInto}
 use Rattle.c_answers.specs.Numbers.{shownIn}
 use Rattle.c_links.specs.Numbers.{reportFrom}
 use Rattle.orders.proofs.Examples.{stays-at-2999, goes-at-3000, zero-then-last-one, last-one-alone}
-use Rattle.examples.specs.Claims.{Claims, OfFraming, OfWalks, OfKinds, OfTexts, OfFinding, OfTheTable, OfStations, OfLinks, OfC}
+use Rattle.examples.specs.Claims.{Claims, OfFraming, OfWalks, OfKinds, OfTexts, OfFinding, OfTheTable, OfStations, OfLinks, OfCutting, OfC}
 
 of-framing : OfFraming
 unfolding readTlv readHeader writeSize
@@ -256,6 +258,34 @@ of-links = record {
   sent-has-none = refl;
 }
 
+of-cutting : OfCutting
+unfolding readTlv stepAt walkFrom walkOf tlvsOf isTlvs isFragment isCutting checkOf endsFrom endsOver endsOf cutInto
+of-cutting = record {
+  marker-alone = refl;
+  two-fragments = refl;
+  cut-inside-a-value = refl;
+  two-ids = refl;
+  marked-too-early = refl;
+  numbers-swapped = refl;
+  outside-the-slice = refl;
+  empty-among-others = refl;
+  empty-message = refl;
+  no-fragment = refl;
+  two-empty-ones = refl;
+  padded-message = refl;
+  cut-message = refl;
+  filled-up = refl;
+  one-byte-over = refl;
+  longest-tlv = refl;
+  tlv-too-long = refl;
+  nine-full = refl;
+  nine-full-and-a-marker = refl;
+  end-of-none = refl;
+  no-place = refl;
+  ends-listed = refl;
+  list-as-lent = refl;
+}
+
 of-c : OfC
 unfolding shownIn reportFrom
 of-c = record {
@@ -313,5 +343,6 @@ claims = record {
   table = of-the-table;
   stations = of-stations;
   links = of-links;
+  cutting = of-cutting;
   c = of-c;
 }

@@ -39,9 +39,11 @@ use Rattle.links.specs.declared.LinkKind.the-variants.{Tx, Rx}
 use Rattle.links.specs.declared.Lowest.the-variants.{Absent, Signal}
 use Rattle.links.specs.Pairs.{signed}
 use Rattle.links.specs.Reports.{reportOf, signalsFit, merged, noPairs}
+use Rattle.cutting.specs.Cuts.{checkOf}
+use Rattle.cutting.specs.Greedy.{endsOver, cutInto, withEnds}
 use Rattle.c_links.specs.Numbers.{reportNumbers, reportFrom}
 use Rattle.c_stations.specs.Numbers.{noAddress, eventNumbers, appliedNumbers, whereNumbers, rowNumbers}
-use Rattle.examples.specs.Given.{association, associated, padded, able, codesBelow, one-record, a-list, and-more, entry-of, mac, kept-mac, home, guest, services, plain-neighbours, neighbours, sent-over, received-over, links-sent, links-received, by-dhcp, static, ipv4, by-itself, ipv6, bridges, operational, configured, beyond, e-acute, identification, inventory, text-of, on-the-edge, past-the-edge, with-a-byte, with-none, two-tlvs, join-of, leave-of, with-7, with-128, rows-below, LetIn, ZeroThenLastOne}
+use Rattle.examples.specs.Given.{association, associated, padded, able, codesBelow, one-record, a-list, and-more, entry-of, mac, kept-mac, home, guest, services, plain-neighbours, neighbours, sent-over, received-over, links-sent, links-received, by-dhcp, static, ipv4, by-itself, ipv6, bridges, operational, configured, beyond, e-acute, identification, inventory, text-of, on-the-edge, past-the-edge, with-a-byte, with-none, two-tlvs, join-of, leave-of, with-7, with-128, rows-below, LetIn, ZeroThenLastOne, marker, piece}
 
 pub record OfFraming : Type 0 where
   -- Rule B3: no byte, and two bytes, are fewer than three: 1 with the shortfall.
@@ -307,6 +309,38 @@ pub record OfLinks : Type 0 where
   pub sent-has-none : signalsFit Tx 1 (Signal (pos 0)) (pos 0) ≡ false
 
 -- Rule C1: each answer as C gets it, in the fields of the structs of include/ashlar.h.
+pub record OfCutting : Type 0 where
+  -- Rule M3: a marker alone is one fragment, and two TLVs may be two. A cut inside a value, an id that differs, a mark
+  -- too early, a number that is not the next and a payload outside the lent slice are not accepted.
+  pub marker-alone : checkOf marker (piece 7 0 true 0 3 ∷ []) marker ≡ gives true
+  pub two-fragments : checkOf two-tlvs (piece 7 0 false 0 4 ∷ piece 7 1 true 4 3 ∷ []) two-tlvs ≡ gives true
+  pub cut-inside-a-value : checkOf two-tlvs (piece 7 0 false 0 3 ∷ piece 7 1 true 3 4 ∷ []) two-tlvs ≡ gives false
+  pub two-ids : checkOf two-tlvs (piece 7 0 false 0 4 ∷ piece 8 1 true 4 3 ∷ []) two-tlvs ≡ gives false
+  pub marked-too-early : checkOf two-tlvs (piece 7 0 true 0 4 ∷ piece 7 1 true 4 3 ∷ []) two-tlvs ≡ gives false
+  pub numbers-swapped : checkOf two-tlvs (piece 7 1 false 0 4 ∷ piece 7 0 true 4 3 ∷ []) two-tlvs ≡ gives false
+  pub outside-the-slice : checkOf marker (piece 7 0 true 1 3 ∷ []) marker ≡ gives false
+  pub empty-among-others : checkOf marker (piece 7 0 false 0 0 ∷ piece 7 1 true 0 3 ∷ []) marker ≡ gives false
+  -- Rule M3: the empty message is one empty fragment, not none and not two.
+  pub empty-message : checkOf [] (piece 7 0 true 0 0 ∷ []) [] ≡ gives true
+  pub no-fragment : checkOf [] [] [] ≡ gives false
+  pub two-empty-ones : checkOf [] (piece 7 0 false 0 0 ∷ piece 7 1 true 0 0 ∷ []) [] ≡ gives false
+  -- Rule M1: the message's own refusals, whatever the fragments are.
+  pub padded-message : checkOf (marker ++ (0x00 ∷ [])) [] [] ≡ refuses 4 []
+  pub cut-message : checkOf (0x01 ∷ 0x00 ∷ 0x02 ∷ 0xAA ∷ []) [] [] ≡ refuses 2 (0 ∷ 1 ∷ [])
+  -- Rule M5: the ends, over TLVs of these lengths. A fragment is filled to 1,492 bytes, and not to 1,493.
+  pub filled-up : endsOver (1489 ∷ 3 ∷ 3 ∷ []) ≡ gives (1492 ∷ 1495 ∷ [])
+  pub one-byte-over : endsOver (1490 ∷ 3 ∷ []) ≡ gives (1490 ∷ 1493 ∷ [])
+  pub longest-tlv : endsOver (1492 ∷ []) ≡ gives (1492 ∷ [])
+  pub tlv-too-long : endsOver (1493 ∷ []) ≡ refuses 21 []
+  pub nine-full : endsOver (replicate 9 1492)
+      ≡ gives (1492 ∷ 2984 ∷ 4476 ∷ 5968 ∷ 7460 ∷ 8952 ∷ 10444 ∷ 11936 ∷ 13428 ∷ [])
+  pub nine-full-and-a-marker : endsOver (replicate 9 1492 ++ (3 ∷ [])) ≡ refuses 21 []
+  -- Rule M5: the empty message has one end. A list without a place: 7, and it stays as lent.
+  pub end-of-none : cutInto [] 1 ≡ gives (0 ∷ [])
+  pub no-place : cutInto [] 0 ≡ refuses 7 []
+  pub ends-listed : withEnds (cutInto two-tlvs 2) (9 ∷ 9 ∷ []) ≡ 7 ∷ 9 ∷ []
+  pub list-as-lent : withEnds (cutInto (marker ++ (0x00 ∷ [])) 2) (9 ∷ 9 ∷ []) ≡ 9 ∷ 9 ∷ []
+
 pub record OfC : Type 0 where
   pub c-header : headerNumbers (gives (record { «message_version» = 1; reserved = 2; «message_type» = 3; «message_id» = 4; fragment = 5; flags = 0x86; «last_fragment» = true }))
       ≡ record { shortfall = 0; version = 1; reserved = 2; «message_type» = 3; «message_id» = 4; number = 5; flags = 0x86; last = true; refusal = 0 }
@@ -370,4 +404,5 @@ pub record Claims : Type 0 where
   pub table : OfTheTable
   pub stations : OfStations
   pub links : OfLinks
+  pub cutting : OfCutting
   pub c : OfC

@@ -14,6 +14,7 @@ use Rattle.layouts.specs.Access.{partOf}
 use Rattle.texts.specs.Access.{locateText}
 use Rattle.kinds.specs.Kinds.{isKind, one, list, Typed, locateKind}
 use Rattle.walking.specs.declared.Tlv.{Tlv}
+use Rattle.cutting.specs.declared.Proposed.{Proposed}
 use Rattle.table.specs.Rows.{placeSize, storeSize}
 use Rattle.orders.specs.Runs.{Push}
 use Rattle.stations.specs.Whereabouts.{Event}
@@ -211,6 +212,14 @@ with-none = record { «tlv_type» = 2; length = 0; offset = 4 }
 
 abbrev pub two-tlvs : List ℕ
 two-tlvs = (0x01 ∷ 0x00 ∷ 0x01 ∷ 0x7F ∷ []) ++ (0x02 ∷ 0x00 ∷ 0x00 ∷ [])
+
+-- an end marker; and a proposed fragment with this id, number, mark and payload
+abbrev pub marker : List ℕ
+marker = replicate 3 0x00
+
+abbrev pub piece : (id number : ℕ) (is-last : Bool) (from many : ℕ) → Proposed
+piece id number is-last from many =
+    record { version = 0; «message_type» = 0; id = id; number = number; last = is-last; start = from; length = many }
 
 -- station s joins access point p, and leaves it
 abbrev pub join-of : ℕ → ℕ → Event
