@@ -43,7 +43,7 @@ use Rattle.cutting.specs.Cuts.{checkOf}
 use Rattle.cutting.specs.Greedy.{endsOver, cutInto, withEnds}
 use Rattle.c_links.specs.Numbers.{reportNumbers, reportFrom}
 use Rattle.c_stations.specs.Numbers.{noAddress, eventNumbers, appliedNumbers, whereNumbers, rowNumbers}
-use Rattle.examples.specs.Given.{association, associated, padded, able, codesBelow, one-record, a-list, and-more, entry-of, mac, kept-mac, home, guest, services, plain-neighbours, neighbours, sent-over, received-over, links-sent, links-received, by-dhcp, static, ipv4, by-itself, ipv6, bridges, operational, configured, beyond, e-acute, identification, inventory, text-of, on-the-edge, past-the-edge, with-a-byte, with-none, two-tlvs, join-of, leave-of, with-7, with-128, rows-below, LetIn, ZeroThenLastOne, marker, piece}
+use Rattle.examples.specs.Given.{association, associated, padded, able, codesBelow, one-record, a-list, and-more, entry-of, mac, kept-mac, home, guest, services, plain-neighbours, neighbours, sent-over, received-over, links-sent, links-received, by-dhcp, static, ipv4, by-itself, ipv6, bridges, operational, configured, beyond, e-acute, identification, inventory, text-of, on-the-edge, past-the-edge, with-a-byte, with-none, two-tlvs, join-of, leave-of, with-7, with-128, rows-below, LetIn, ZeroThenLastOne, marker, proposal}
 
 pub record OfFraming : Type 0 where
   -- Rule B3: no byte, and two bytes, are fewer than three: 1 with the shortfall.
@@ -312,18 +312,18 @@ pub record OfLinks : Type 0 where
 pub record OfCutting : Type 0 where
   -- Rule M3: a marker alone is one fragment, and two TLVs may be two. A cut inside a value, an id that differs, a mark
   -- too early, a number that is not the next and a payload outside the lent slice are not accepted.
-  pub marker-alone : checkOf marker (piece 7 0 true 0 3 ∷ []) marker ≡ gives true
-  pub two-fragments : checkOf two-tlvs (piece 7 0 false 0 4 ∷ piece 7 1 true 4 3 ∷ []) two-tlvs ≡ gives true
-  pub cut-inside-a-value : checkOf two-tlvs (piece 7 0 false 0 3 ∷ piece 7 1 true 3 4 ∷ []) two-tlvs ≡ gives false
-  pub two-ids : checkOf two-tlvs (piece 7 0 false 0 4 ∷ piece 8 1 true 4 3 ∷ []) two-tlvs ≡ gives false
-  pub marked-too-early : checkOf two-tlvs (piece 7 0 true 0 4 ∷ piece 7 1 true 4 3 ∷ []) two-tlvs ≡ gives false
-  pub numbers-swapped : checkOf two-tlvs (piece 7 1 false 0 4 ∷ piece 7 0 true 4 3 ∷ []) two-tlvs ≡ gives false
-  pub outside-the-slice : checkOf marker (piece 7 0 true 1 3 ∷ []) marker ≡ gives false
-  pub empty-among-others : checkOf marker (piece 7 0 false 0 0 ∷ piece 7 1 true 0 3 ∷ []) marker ≡ gives false
+  pub marker-alone : checkOf marker (proposal 7 0 true 0 3 ∷ []) marker ≡ gives true
+  pub two-fragments : checkOf two-tlvs (proposal 7 0 false 0 4 ∷ proposal 7 1 true 4 3 ∷ []) two-tlvs ≡ gives true
+  pub cut-inside-a-value : checkOf two-tlvs (proposal 7 0 false 0 3 ∷ proposal 7 1 true 3 4 ∷ []) two-tlvs ≡ gives false
+  pub two-ids : checkOf two-tlvs (proposal 7 0 false 0 4 ∷ proposal 8 1 true 4 3 ∷ []) two-tlvs ≡ gives false
+  pub marked-too-early : checkOf two-tlvs (proposal 7 0 true 0 4 ∷ proposal 7 1 true 4 3 ∷ []) two-tlvs ≡ gives false
+  pub numbers-swapped : checkOf two-tlvs (proposal 7 1 false 0 4 ∷ proposal 7 0 true 4 3 ∷ []) two-tlvs ≡ gives false
+  pub outside-the-slice : checkOf marker (proposal 7 0 true 1 3 ∷ []) marker ≡ gives false
+  pub empty-among-others : checkOf marker (proposal 7 0 false 0 0 ∷ proposal 7 1 true 0 3 ∷ []) marker ≡ gives false
   -- Rule M3: the empty message is one empty fragment, not none and not two.
-  pub empty-message : checkOf [] (piece 7 0 true 0 0 ∷ []) [] ≡ gives true
+  pub empty-message : checkOf [] (proposal 7 0 true 0 0 ∷ []) [] ≡ gives true
   pub no-fragment : checkOf [] [] [] ≡ gives false
-  pub two-empty-ones : checkOf [] (piece 7 0 false 0 0 ∷ piece 7 1 true 0 0 ∷ []) [] ≡ gives false
+  pub two-empty-ones : checkOf [] (proposal 7 0 false 0 0 ∷ proposal 7 1 true 0 0 ∷ []) [] ≡ gives false
   -- Rule M1: the message's own refusals, whatever the fragments are.
   pub padded-message : checkOf (marker ++ (0x00 ∷ [])) [] [] ≡ refuses 4 []
   pub cut-message : checkOf (0x01 ∷ 0x00 ∷ 0x02 ∷ 0xAA ∷ []) [] [] ≡ refuses 2 (0 ∷ 1 ∷ [])

@@ -217,8 +217,8 @@ two-tlvs = (0x01 ∷ 0x00 ∷ 0x01 ∷ 0x7F ∷ []) ++ (0x02 ∷ 0x00 ∷ 0x00 �
 abbrev pub marker : List ℕ
 marker = replicate 3 0x00
 
-abbrev pub piece : (id number : ℕ) (is-last : Bool) (from many : ℕ) → Proposed
-piece id number is-last from many =
+abbrev pub proposal : (id number : ℕ) (is-last : Bool) (from many : ℕ) → Proposed
+proposal id number is-last from many =
     record { version = 0; «message_type» = 0; id = id; number = number; last = is-last; start = from; length = many }
 
 -- station s joins access point p, and leaves it
