@@ -22,6 +22,8 @@ firmness = record {
   part-numbers = λ located. by-equation _;
   push-numbers = λ pushed. by-equation _;
   shown-in = λ pushed payload-size out-size. by-equation _;
+  check-numbers = λ checked. by-equation _;
+  cut-numbers = λ cutting. by-equation _;
 }
 
 measured-as-read : MeasuredAsRead

@@ -20,10 +20,14 @@ use Rattle.layouts.specs.Access.{Span, locatedOf, partOf}
 use Rattle.pushing.specs.declared.Pushed.{Pushed}
 use Rattle.pushing.specs.Push.{PushAnswer, pushedOf}
 use Rattle.pushing.specs.Show.{shown}
+use Rattle.cutting.specs.declared.Checked.{Checked}
+use Rattle.cutting.specs.declared.Cutting.{Cutting}
+use Rattle.cutting.specs.Cuts.{checkedOf}
+use Rattle.cutting.specs.Greedy.{cuttingOf}
 use Rattle.c_answers.specs.declared.AshlarPart.{AshlarPart}
 use Rattle.c_answers.specs.declared.AshlarPushed.{AshlarPushed}
 use Rattle.c_answers.specs.declared.AshlarShown.{AshlarShown}
-use Rattle.c_answers.specs.Numbers.{headerNumbers, walkNumbers, kindNumbers, foundNumbers, partNumbers, pushNumbers, shownIn}
+use Rattle.c_answers.specs.Numbers.{headerNumbers, walkNumbers, kindNumbers, foundNumbers, partNumbers, pushNumbers, shownIn, checkNumbers, cutNumbers}
 
 -- Rule A4: for each public call, by its name, any two answers that its contract allows are one.
 pub record Firmness : Type 0 where
@@ -35,6 +39,8 @@ pub record Firmness : Type 0 where
   pub push-numbers : (pushed : Pushed) → Firm (λ r. r ≡ pushNumbers (pushedOf pushed))
   pub shown-in : (pushed : AshlarPushed) (payload-size out-size : ℕ)
       → Firm (λ r. r ≡ shownIn pushed payload-size out-size)
+  pub check-numbers : (checked : Checked) → Firm (λ r. r ≡ checkNumbers (checkedOf checked))
+  pub cut-numbers : (cutting : Cutting) → Firm (λ r. r ≡ cutNumbers (cuttingOf cutting))
 
 -- Rule C1: a value that was measured crosses as the value that was read does.
 abbrev pub MeasuredAsRead : Type 0

@@ -1,7 +1,7 @@
 -- Rule C1: the answers of the calls about TLVs, kinds and fragments, in the numbers that cross to C. `refusal` is the
 -- refusal's number of part N, and 0 where nothing is refused. A field that a refusal doesn't carry is 0.
 use mathlib.Core.Path.{_≡_}
-use mathlib.Core.Bool.{true, false, cond}
+use mathlib.Core.Bool.{Bool, true, false, cond}
 use mathlib.Core.List.{List}
 use Prim.Native.Nat.{ℕ, _-_}
 use lib.Dec.{eqb, leb}
@@ -22,6 +22,8 @@ use Rattle.c_answers.specs.declared.AshlarFound.{AshlarFound}
 use Rattle.c_answers.specs.declared.AshlarPart.{AshlarPart}
 use Rattle.c_answers.specs.declared.AshlarPushed.{AshlarPushed}
 use Rattle.c_answers.specs.declared.AshlarShown.{AshlarShown}
+use Rattle.c_answers.specs.declared.AshlarChecked.{AshlarChecked}
+use Rattle.c_answers.specs.declared.AshlarCutting.{AshlarCutting}
 
 -- Rule B6: the fields of a CMDU header. A refusal carries one value, the shortfall.
 abbrev pub headerNumbers : Answer CmduHeader → AshlarHeader
@@ -111,3 +113,20 @@ shownIn pushed payload-size out-size =
     cond (eqb (pushed .answer) 7) (record { length = withinOf (pushed .length) out-size; «in_output» = true })
     (cond (eqb (pushed .answer) 6) (record { length = withinOf (pushed .length) payload-size; «in_output» = false })
     (record { length = 0; «in_output» = false }))
+
+-- Rules M1 and M4: whether fragments are a cutting of the message. What is refused is the message itself, in a walk's
+-- numbers: 1 and 2 with offset and shortfall, 4 without.
+abbrev pub uncheckedBy : AshlarWalk → AshlarChecked
+uncheckedBy w = record { at = w .at; shortfall = w .shortfall; accepted = false; refusal = w .refusal }
+
+abbrev pub checkNumbers : Answer Bool → AshlarChecked
+checkNumbers (gives accepted) = record { at = 0; shortfall = 0; accepted = accepted; refusal = 0 }
+checkNumbers (refuses n vs) = uncheckedBy (walkNumbers (refuses n vs))
+
+-- Rule M5: how many fragments there are. 21 and 7 carry nothing, as 4.
+abbrev pub uncutBy : AshlarWalk → AshlarCutting
+uncutBy w = record { count = 0; at = w .at; shortfall = w .shortfall; refusal = w .refusal }
+
+abbrev pub cutNumbers : Answer ℕ → AshlarCutting
+cutNumbers (gives n) = record { count = n; at = 0; shortfall = 0; refusal = 0 }
+cutNumbers (refuses n vs) = uncutBy (walkNumbers (refuses n vs))

@@ -1,19 +1,26 @@
 // What the calls about TLVs, kinds and fragments answer, as it crosses to C (rule C1): plain structs, in the numbers of
 // part N. `refusal` is 0 where nothing is refused.
+use cutting::Checked;
+use cutting::Cutting;
 use finding::Placed;
 use framing::HeaderRead;
 use kinds::KindSize;
 use layouts::Located;
+use numbers::Refusal;
 use pushing::Pushed;
 use walking::Walked;
 ghost use mathlib.Core.Path.{_≡_};
+ghost use mathlib.Core.List.{_∷_};
+ghost use Rattle.numbers.specs.Numbers.{refuses, told, number, values};
 ghost use Rattle.framing.specs.Cmdu.{headerOf};
 ghost use Rattle.walking.specs.Walk.{walkedOf};
 ghost use Rattle.kinds.specs.Kinds.{kindSizeOf};
 ghost use Rattle.finding.specs.Finding.{placedOf};
 ghost use Rattle.layouts.specs.Access.{locatedOf};
 ghost use Rattle.pushing.specs.Push.{pushedOf};
-ghost use Rattle.c_answers.specs.Numbers.{headerNumbers, walkNumbers, kindNumbers, foundNumbers, partNumbers, namedAs, pushNumbers, withinOf, shownIn};
+ghost use Rattle.cutting.specs.Cuts.{checkedOf};
+ghost use Rattle.cutting.specs.Greedy.{cuttingOf};
+ghost use Rattle.c_answers.specs.Numbers.{headerNumbers, walkNumbers, kindNumbers, foundNumbers, partNumbers, namedAs, pushNumbers, withinOf, shownIn, uncheckedBy, checkNumbers, uncutBy, cutNumbers};
 
 // The header of a CMDU (rule B6). Its fields stand in their order, after the shortfall: how many bytes are missing
 // where it is refused. `last` is bit 7 of `flags`.
@@ -85,6 +92,26 @@ pub struct AshlarShown {
     pub in_output: bool,
 }
 
+// Whether fragments are a cutting of a message (rule M4). Where the message is refused they aren't, and the offset and
+// the shortfall are the walk's.
+#[repr(C)]
+pub struct AshlarChecked {
+    pub at: usize,
+    pub shortfall: usize,
+    pub accepted: bool,
+    pub refusal: u8,
+}
+
+// Into how many fragments a message is cut (rule M5). Where the walk refuses the message, the offset and the shortfall
+// are the walk's.
+#[repr(C)]
+pub struct AshlarCutting {
+    pub count: usize,
+    pub at: usize,
+    pub shortfall: usize,
+    pub refusal: u8,
+}
+
 // A CMDU header.
 pub fn header_numbers(read: HeaderRead) -> AshlarHeader
     ensures { λ r. ⌜ r ≡ headerNumbers (headerOf read) ⌝ }
@@ -115,6 +142,19 @@ pub fn header_numbers(read: HeaderRead) -> AshlarHeader
     }
 }
 
+// A refusal of a walk, with the offset of a TLV (rule N3).
+fn refused_at(refusal: Refusal, at: usize) -> AshlarWalk
+    ensures { λ r. ⌜ r ≡ walkNumbers (refuses (number refusal) («at» ∷ values refusal)) ⌝ }
+{
+    AshlarWalk {
+        count: 0,
+        padding: 0,
+        at,
+        shortfall: numbers::carried_by(refusal),
+        refusal: numbers::number_of(refusal),
+    }
+}
+
 // What a walk found, counted or listed.
 pub fn walk_numbers(walked: Walked) -> AshlarWalk
     ensures { λ r. ⌜ r ≡ walkNumbers (walkedOf walked) ⌝ }
@@ -127,13 +167,7 @@ pub fn walk_numbers(walked: Walked) -> AshlarWalk
             shortfall: 0,
             refusal: 0,
         },
-        Walked::Refused { refusal, at } => AshlarWalk {
-            count: 0,
-            padding: 0,
-            at,
-            shortfall: numbers::carried_by(refusal),
-            refusal: numbers::number_of(refusal),
-        },
+        Walked::Refused { refusal, at } => refused_at(refusal, at),
     }
 }
 
@@ -258,5 +292,81 @@ pub fn shown_in(pushed: AshlarPushed, payload_size: usize, out_size: usize) -> A
     AshlarShown {
         length: 0,
         in_output: false,
+    }
+}
+
+// A refusal that has no offset, in the same numbers. What it carried would cross as the offset: no call gives one that
+// carries anything.
+fn refused(refusal: Refusal) -> AshlarWalk
+    ensures { λ r. ⌜ r ≡ walkNumbers (told refusal) ⌝ }
+{
+    AshlarWalk {
+        count: 0,
+        padding: 0,
+        at: numbers::carried_by(refusal),
+        shortfall: 0,
+        refusal: numbers::number_of(refusal),
+    }
+}
+
+// What a walk over the message refuses, the checker does.
+fn unchecked(walk: AshlarWalk) -> AshlarChecked
+    ensures { λ r. ⌜ r ≡ uncheckedBy walk ⌝ }
+{
+    AshlarChecked {
+        at: walk.at,
+        shortfall: walk.shortfall,
+        accepted: false,
+        refusal: walk.refusal,
+    }
+}
+
+// Whether fragments are a cutting of a message.
+pub fn check_numbers(checked: Checked) -> AshlarChecked
+    ensures { λ r. ⌜ r ≡ checkNumbers (checkedOf checked) ⌝ }
+{
+    match checked {
+        Checked::Accepted => AshlarChecked {
+            at: 0,
+            shortfall: 0,
+            accepted: true,
+            refusal: 0,
+        },
+        Checked::NotAccepted => AshlarChecked {
+            at: 0,
+            shortfall: 0,
+            accepted: false,
+            refusal: 0,
+        },
+        Checked::Unwalked { refusal, at } => unchecked(refused_at(refusal, at)),
+        Checked::Refused(refusal) => unchecked(refused(refusal)),
+    }
+}
+
+// What a walk over the message refuses, the cutter does.
+fn uncut(walk: AshlarWalk) -> AshlarCutting
+    ensures { λ r. ⌜ r ≡ uncutBy walk ⌝ }
+{
+    AshlarCutting {
+        count: 0,
+        at: walk.at,
+        shortfall: walk.shortfall,
+        refusal: walk.refusal,
+    }
+}
+
+// Into how many fragments a message is cut.
+pub fn cut_numbers(cutting: Cutting) -> AshlarCutting
+    ensures { λ r. ⌜ r ≡ cutNumbers (cuttingOf cutting) ⌝ }
+{
+    match cutting {
+        Cutting::Into(count) => AshlarCutting {
+            count,
+            at: 0,
+            shortfall: 0,
+            refusal: 0,
+        },
+        Cutting::Unwalked { refusal, at } => uncut(refused_at(refusal, at)),
+        Cutting::Refused(refusal) => uncut(refused(refusal)),
     }
 }

@@ -7,8 +7,8 @@ returns : tie.Need-returns
 returns c = rw (c .before .walked .given .1)
 
 returns-2 : tie.Need-returns-2
-returns-2 c = rw (c .number-of .ensures, c .before .carried-by .ensures, c .before .before .before .walked2 .given .1)
+returns-2 c = rw (c .refused-at .ensures, c .before .before .walked2 .given .1)
 
 pub walk-numbers-spec : {M : Type 1} → statement M
 walk-numbers-spec =
-    tie.close (tie.spec (λ c. search needs) (λ c. search needs) (λ c κs. search needs) (λ c κs. search needs) returns returns-2)
+    tie.close (tie.spec (λ c. search needs) (λ c. search needs) (λ c κs. search needs) returns returns-2)
