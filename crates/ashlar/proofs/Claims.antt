@@ -20,6 +20,8 @@ firmness = record {
       ((x .crosses ∙ ap pushNumbers (x .goes .answers ∙ sym (y .goes .answers)) ∙ sym (y .crosses)) i, (x .goes .keeps ∙ sym (y .goes .keeps)) i, (x .goes .stores ∙ sym (y .goes .stores)) i, (x .goes .puts ∙ sym (y .goes .puts)) i);
   ashlar-show = λ pushed payload out. by-equation _;
   ashlar-sweep = reassembler.firmness .sweep;
+  ashlar-check = λ message fragments payloads. by-equation _;
+  ashlar-cut = λ message ends. both _ _ (by-equation _) (by-equation _);
   ashlar-stations-fresh = by-equation _;
   ashlar-station-event = λ t station point joined. both _ _ (by-equation _) (by-equation _);
   ashlar-station-event-from = λ t value. both _ _ (by-equation _) (by-equation _);

@@ -18,9 +18,13 @@ use Rattle.table.specs.Rows.{freshTable}
 use Rattle.sweeping.specs.Sweep.{swept, sweptAs}
 use Rattle.pushing.specs.declared.Arrival.{Arrival}
 use Rattle.pushing.specs.Push.{way}
+use Rattle.cutting.specs.declared.Proposed.{Proposed}
+use Rattle.cutting.specs.Cuts.{checkOf}
+use Rattle.cutting.specs.Greedy.{cutInto, withEnds}
 use Rattle.c_answers.specs.declared.AshlarWalk.{AshlarWalk}
 use Rattle.c_answers.specs.declared.AshlarPushed.{AshlarPushed}
-use Rattle.c_answers.specs.Numbers.{headerNumbers, walkNumbers, kindNumbers, foundNumbers, partNumbers, Numbered, shownIn}
+use Rattle.c_answers.specs.declared.AshlarCutting.{AshlarCutting}
+use Rattle.c_answers.specs.Numbers.{headerNumbers, walkNumbers, kindNumbers, foundNumbers, partNumbers, Numbered, shownIn, checkNumbers, cutNumbers}
 use Rattle.records.specs.declared.MacAddr.{MacAddr}
 use Rattle.stations.specs.Addresses.{addressNumber}
 use Rattle.stations.specs.Whereabouts.{eventOf}
@@ -56,6 +60,12 @@ pub record Firmness : Type 0 where
   pub ashlar-show : (pushed : AshlarPushed) (payload out : List ℕ)
       → Firm (λ r. r ≡ shownIn pushed (length payload) (length out))
   pub ashlar-sweep : (t : Table) (time : ℕ) → Firm {A = ℕ × Table} (λ o. sweptAs (o .1) (o .0) ≡ swept t time)
+  pub ashlar-check : (message : List ℕ) (fragments : List Proposed) (payloads : List ℕ)
+      → Firm (λ r. r ≡ checkNumbers (checkOf message fragments payloads))
+  pub ashlar-cut : (message ends : List ℕ)
+      → Firm {A = AshlarCutting × List ℕ} (λ o.
+      (o .0 ≡ cutNumbers (mapped length (cutInto message (length ends))))
+      × (o .1 ≡ withEnds (cutInto message (length ends)) ends))
   pub ashlar-stations-fresh : Firm {A = Stations} (λ t′. t′ ≡ freshStations)
   pub ashlar-station-event : (t : Stations) (station point : MacAddr) (joined : Bool)
       → Firm {A = AshlarHeard × Stations} (λ o.

@@ -1,5 +1,7 @@
 // The hot calls for C (rule C1): each is a thin shell over the layer's own call. Its answer crosses in numbers, as
 // `c_answers`, `c_stations` or `c_links` says.
+use c_answers::AshlarChecked;
+use c_answers::AshlarCutting;
 use c_answers::AshlarFound;
 use c_answers::AshlarHeader;
 use c_answers::AshlarKind;
@@ -12,6 +14,7 @@ use c_stations::AshlarApplied;
 use c_stations::AshlarAt;
 use c_stations::AshlarHeard;
 use c_stations::AshlarRow;
+use cutting::Proposed;
 use layouts::Path;
 use links::LinkKind;
 use pushing::Arrival;
@@ -39,7 +42,9 @@ ghost use Rattle.stations.specs.Rows.{freshStations, whereOf, answerTo, tableAf
 ghost use Rattle.stations.specs.Events.{answerFrom, tableFrom};
 ghost use Rattle.links.specs.declared.LinkKind.the-variants.{Tx, Rx};
 ghost use Rattle.links.specs.Reports.{reportOf};
-ghost use Rattle.c_answers.specs.Numbers.{headerNumbers, walkNumbers, kindNumbers, foundNumbers, partNumbers, Numbered, shownIn};
+ghost use Rattle.cutting.specs.Cuts.{checkOf};
+ghost use Rattle.cutting.specs.Greedy.{cutInto, withEnds};
+ghost use Rattle.c_answers.specs.Numbers.{headerNumbers, walkNumbers, kindNumbers, foundNumbers, partNumbers, Numbered, shownIn, checkNumbers, cutNumbers};
 ghost use Rattle.c_stations.specs.Numbers.{associationWith, eventNumbers, appliedNumbers, whereNumbers, rowNumbers};
 ghost use Rattle.c_links.specs.Numbers.{reportNumbers, mergedFrom};
 
@@ -159,6 +164,31 @@ pub extern "C" fn ashlar_sweep(t: &mut Table, time: u64) -> usize
     ensures { λ r. ⌜ sweptAs (now (t .exit)) r ≡ swept (now (t .entry)) time ⌝ }
 {
     reassembler::sweep(t, time)
+}
+
+// Whether fragments, of any number, are a cutting of a message (rules M3 and M4). Each payload is a part of the lent
+// payloads.
+#[no_mangle]
+pub extern "C" fn ashlar_check(
+    message: &[u8],
+    fragments: &[Proposed],
+    payloads: &[u8],
+) -> AshlarChecked
+    ensures { λ r. ⌜ r ≡ checkNumbers
+        (checkOf (now (message .entry)) (now (fragments .entry)) (now (payloads .entry))) ⌝ }
+{
+    c_answers::check_numbers(cutting::check(message, fragments, payloads))
+}
+
+// Cuts a message, and writes to the list where each fragment ends (rule M5). A refusal leaves the list as it was (rule
+// A3).
+#[no_mangle]
+pub extern "C" fn ashlar_cut(message: &[u8], ends: &mut [usize]) -> AshlarCutting
+    ensures { λ r. ⌜ (r ≡ cutNumbers (mapped length (cutInto (now (message .entry)) (length (now (ends .entry))))))
+        × (now (ends .exit) ≡ withEnds (cutInto (now (message .entry)) (length (now (ends .entry))))
+        (now (ends .entry))) ⌝ }
+{
+    c_answers::cut_numbers(cutting::cut(message, ends))
 }
 
 // The table holds no station any more, whatever it held (rule P1). It is made in place, since 2,048 bytes by value
