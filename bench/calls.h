@@ -16,6 +16,8 @@ __typeof__(ashlar_fresh) plain_fresh;
 __typeof__(ashlar_push) plain_push;
 __typeof__(ashlar_show) plain_show;
 __typeof__(ashlar_sweep) plain_sweep;
+__typeof__(ashlar_check) plain_check;
+__typeof__(ashlar_cut) plain_cut;
 __typeof__(ashlar_stations_fresh) plain_stations_fresh;
 __typeof__(ashlar_station_event) plain_station_event;
 __typeof__(ashlar_station_event_from) plain_station_event_from;

@@ -444,6 +444,61 @@ AshlarRow plain_station_row(const AshlarStations *t, size_t n) {
     return (AshlarRow){address_of(t->stations[n] - 1), address_of(t->points[n]), true};
 }
 
+/* ---- Cutting ---- */
+
+/* the walk over bytes that have to be whole TLVs and nothing else */
+static AshlarWalk walk_whole(const uint8_t *p, size_t n) {
+    AshlarWalk w = plain_walk(p, n);
+    return w.padding ? (AshlarWalk){.refusal = 4} : w;
+}
+
+/* whether the message goes on with the payload of f at the offset `at` */
+static bool goes_on(const uint8_t *p, size_t n, size_t at, AshlarProposed f, const uint8_t *payloads, size_t size) {
+    if (f.length > ASHLAR_PAYLOAD || f.length > size || f.start > size - f.length || f.length > n - at) return false;
+    const uint8_t *payload = payloads + f.start;
+    return (f.length || !n) && !walk_whole(payload, f.length).refusal && !memcmp(payload, p + at, f.length);
+}
+
+AshlarChecked plain_check(const uint8_t *p, size_t n, const AshlarProposed *f, size_t count, const uint8_t *payloads, size_t size) {
+    AshlarWalk w = walk_whole(p, n);
+    if (w.refusal) return (AshlarChecked){w.at, w.shortfall, false, w.refusal};
+    const AshlarChecked not_accepted = {0, 0, false, 0};
+    if (!count || count > ASHLAR_FRAGMENTS || (!n && count > 1)) return not_accepted;
+    size_t at = 0;
+    for (size_t i = 0; i < count; i++) {
+        if (f[i].number != i || f[i].last != (i + 1 == count)) return not_accepted;
+        if (f[i].version != f[0].version || f[i].message_type != f[0].message_type || f[i].message_id != f[0].message_id) return not_accepted;
+        if (!goes_on(p, n, at, f[i], payloads, size)) return not_accepted;
+        at += f[i].length;
+    }
+    return (AshlarChecked){0, 0, at == n, 0};
+}
+
+/* The ends are kept aside, since a refusal leaves the list as lent. */
+AshlarCutting plain_cut(const uint8_t *p, size_t n, size_t *ends, size_t room) {
+    size_t found[ASHLAR_FRAGMENTS], at = 0, start = 0, last = 0;
+    bool fits = true;
+    while (at < n) {
+        if (n - at < 3) return (AshlarCutting){.at = at, .shortfall = 3 - (n - at), .refusal = 1};
+        size_t length = (size_t)p[at + 1] << 8 | p[at + 2];
+        if (n - at - 3 < length) return (AshlarCutting){.at = at, .shortfall = length - (n - at - 3), .refusal = 2};
+        size_t next = at + 3 + length;
+        if (next - start > ASHLAR_PAYLOAD) {
+            if (3 + length > ASHLAR_PAYLOAD || last == ASHLAR_FRAGMENTS - 1) fits = false;
+            else found[last++] = at;
+            start = at;
+        }
+        bool marker = !p[at] && !length;
+        at = next;
+        if (marker) break;
+    }
+    uint8_t refusal = at < n ? 4 : !fits ? 21 : room <= last ? 7 : 0;
+    if (refusal) return (AshlarCutting){.refusal = refusal};
+    found[last] = n;
+    memcpy(ends, found, (last + 1) * sizeof *ends);
+    return (AshlarCutting){.count = last + 1};
+}
+
 /* ---- Link reports ---- */
 
 static AshlarReport no_report(uint8_t number) { return (AshlarReport){.refusal = number}; }

@@ -1,4 +1,5 @@
-/* Ashlargale for C: takes messages of IEEE 1905.1 and Wi-Fi Multi-AP apart, and joins them from fragments.
+/* Ashlargale for C: takes messages of IEEE 1905.1 and Wi-Fi Multi-AP apart, joins them from fragments, and
+   cuts them.
 
    docs/RULES.md has the rules, by number, that every call follows; comments cite them as "rule T9".
 
@@ -12,7 +13,8 @@
 
    A message that is longer than a frame comes in fragments, numbered from 0, the last one marked. ashlar_push
    keeps them in a table and joins them, ashlar_show says where the message lies, and ashlar_sweep drops what
-   has waited for three seconds.
+   has waited for three seconds. ashlar_cut says where to cut a message into fragments, and ashlar_check
+   whether others cut one as it has to be cut.
 
    Access points report which stations (phones, laptops) join and leave them, each time by a TLV of kind 0x92.
    A station table keeps where each station is. It has nothing to do with the fragment table.
@@ -34,9 +36,11 @@
    Every call takes any bytes, lengths and numbers, and answers or refuses with a number of AshlarRefusal. A
    call that refuses leaves everything it was lent as it was (rules A1 to A3). The following can't be checked
    by the calls and is expected of the caller (rule C2):
-   - A slice is passed as two parameters: a pointer, and the number of elements there (bytes, or TLVs of a
-     list). The elements exist while the call runs. An empty slice may have any pointer that is not null.
-   - What is lent to be written (list, table, store, out) overlaps nothing else that is lent to the same call.
+   - A slice is passed as two parameters: a pointer, and the number of elements there (bytes, TLVs of a list,
+     fragments, or ends). The elements exist while the call runs. An empty slice may have any pointer that is
+     not null.
+   - What is lent to be written (list, table, store, out, ends) overlaps nothing else that is lent to the same
+     call.
    - Pointers are aligned as their types require, and a bool is 0 or 1.
    - A table is one that ashlar_fresh made and that only ashlar_push and ashlar_sweep changed. One store
      belongs to it, always the same, which only ashlar_push writes. What the store holds at first doesn't
@@ -64,6 +68,7 @@ extern "C" {
 #define ASHLAR_STORE 47744              /* bytes of a store, at least: ASHLAR_PLACES times ASHLAR_PAYLOAD */
 #define ASHLAR_SENDER_KEYS 4            /* messages of one sender among these, at most (rule T6) */
 #define ASHLAR_SENDER_PLACES 8          /* fragments of one sender among these, at most */
+#define ASHLAR_FRAGMENTS 9              /* fragments of a message, at most (rules M3 and T9) */
 #define ASHLAR_MESSAGE 13428            /* bytes of a joined message, at most: nine fragments (rule T9) */
 #define ASHLAR_TABLE 528                /* bytes of an AshlarTable */
 #define ASHLAR_STATIONS 128             /* stations that a station table holds, at most (rule P1) */
@@ -75,8 +80,8 @@ extern "C" {
 
 /* ---- Refusals ---- */
 
-/* What a field `refusal` says (rule N1). No call of this header gives 7 to 9: they belong to calls that
-   write, which C doesn't have. */
+/* What a field `refusal` says (rule N1). No call of this header gives 8 or 9: they belong to calls that write
+   TLVs, which C doesn't have. */
 typedef enum {
     /* Nothing is refused: the other fields hold the answer. */
     ASHLAR_OK = 0,
@@ -91,14 +96,16 @@ typedef enum {
     /* A value ends inside its kind's layout, as where a count promises more entries than there are: skip the
        TLV. */
     ASHLAR_CUT_SHORT = 3,
-    /* A value has bytes after its layout, in a kind that allows none (0, 6, 7, 9, 10, 30): skip the
-       TLV. */
+    /* A value has bytes after its layout, in a kind that allows none (0, 6, 7, 9, 10, 30): skip the TLV. Or a
+       message that is to be checked or cut has bytes after its end marker: leave these out. The `padding` of
+       ashlar_walk says how many they are. */
     ASHLAR_LEFT_OVER = 4,
     /* A role that is not 0, an association byte that is neither 0x80 nor 0, or profile 0: skip the TLV. */
     ASHLAR_BAD_VALUE = 5,
     /* A value has no text or radio with this number. */
     ASHLAR_NO_ENTRY = 6,
-    /* What is to be written has more bytes than the room. Not given to C. */
+    /* The message needs more fragments than `ends` has elements: call again with ASHLAR_FRAGMENTS elements,
+       which is always enough. */
     ASHLAR_NO_ROOM = 7,
     /* A value to be written has more than 65,535 bytes. Not given to C. */
     ASHLAR_VALUE_TOO_LONG = 8,
@@ -132,7 +139,11 @@ typedef enum {
        ASHLAR_SENDER_KEYS messages and the fragment starts another. Drop the fragment: its message will not
        become whole. The sender gets room again when one of its messages ends or is swept. Other senders are
        not affected. */
-    ASHLAR_SENDER_FULL = 20
+    ASHLAR_SENDER_FULL = 20,
+    /* No fragments can carry the message: a TLV has more than ASHLAR_PAYLOAD bytes with its first three, or
+       more than ASHLAR_FRAGMENTS fragments would be needed, however the message is cut. Send its TLVs in
+       several messages; a TLV that is too long can't be sent at all. */
+    ASHLAR_NO_CUTTING = 21
 } AshlarRefusal;
 
 /* ---- Kinds ---- */
@@ -298,6 +309,36 @@ typedef struct {
     bool in_output; /* true: of the output; false: of the payload that was pushed */
 } AshlarShown;
 
+/* A fragment that somebody cut, as it is proposed to ashlar_check (rule M2): fields of an AshlarHeader, with
+   the same names, and where its payload lies: the `length` bytes that start at payloads + start. Nothing is
+   copied. Parts of `payloads` may lie in any order, and may overlap. */
+typedef struct {
+    uint8_t version;       /* the message version */
+    uint16_t message_type;
+    uint16_t message_id;
+    uint8_t number;        /* the fragment's number, from 0 */
+    bool last;             /* whether it is marked last */
+    size_t start;          /* the place of its payload's first byte in `payloads`, from 0 */
+    size_t length;         /* bytes of its payload */
+} AshlarProposed;
+
+/* What a check answers. Where refused, it is the message itself that is. */
+typedef struct {
+    size_t at;        /* for 1 and 2, the offset of the TLV that doesn't read; else 0 */
+    size_t shortfall; /* for 1 and 2, how many bytes of the message are missing; else 0 */
+    bool accepted;    /* whether the fragments are a cutting of the message; false where refused */
+    uint8_t refusal;  /* an AshlarRefusal */
+} AshlarChecked;
+
+/* What cutting a message answers. */
+typedef struct {
+    size_t count;     /* how many fragments there are, and ends in the list: 1 to ASHLAR_FRAGMENTS; 0 where
+                         refused */
+    size_t at;        /* for 1 and 2, the offset of the TLV that doesn't read; else 0 */
+    size_t shortfall; /* for 1 and 2, how many bytes of the message are missing; else 0 */
+    uint8_t refusal;  /* an AshlarRefusal */
+} AshlarCutting;
+
 /* An address of six bytes, as they stand in a frame: copy them in and out. */
 typedef struct {
     uint8_t bytes[6];
@@ -418,6 +459,26 @@ AshlarShown ashlar_show(AshlarPushed pushed, const uint8_t *payload, size_t payl
    fragments, and returns how many. None of them had its last fragment. Where the clock went back, none is
    dropped (rules S1 to S3). */
 size_t ashlar_sweep(AshlarTable *table, uint64_t time);
+
+/* Says whether fragments are a cutting of the message: whether others cut it as it has to be cut (rules M3
+   and M4). They are if there are one to ASHLAR_FRAGMENTS; the one at place i, from 0, has number i; only
+   the final one is marked last; all have equal version, type and id; each payload lies inside `payloads`,
+   has at most ASHLAR_PAYLOAD bytes and is a run of one or more whole TLVs; and the payloads, joined, are
+   the message. Only the empty message is one empty fragment. Any number of fragments may be asked about.
+   The message may be without an end marker. Where it is refused, the fragments make no difference.
+   Refusals: 1, 2, 4. */
+AshlarChecked ashlar_check(const uint8_t *message, size_t message_length, const AshlarProposed *fragments,
+                           size_t fragments_length, const uint8_t *payloads, size_t payloads_length);
+
+/* Cuts a message into the fewest fragments that can carry it: fills each one as far as whole TLVs go, and
+   writes to `ends` where each one ends (rule M5). Ends are offsets in the message, and rise; the last one is
+   the message's length. From the ends a caller makes the fragments: fragment i, from 0, has number i, is
+   marked last if i + 1 is `count`, and its payload is the part of the message from ends[i - 1], or 0 for the
+   first, up to ends[i]. The empty message is one fragment without bytes. Under any version, type and id
+   ashlar_check accepts these fragments, with the message as `payloads` (rule M6). The message may be without
+   an end marker. Elements of `ends` past the last end stay as they are; where refused, all do. Refusals: 1 or
+   2, 4, 21, 7, in this order. */
+AshlarCutting ashlar_cut(const uint8_t *message, size_t message_length, size_t *ends, size_t ends_length);
 
 /* Makes the table hold no station, whatever it held: all its bytes are 0. It is made in place, so it never
    takes stack. */

@@ -379,6 +379,126 @@ static void sweeps(void) {
     check("ashlar_sweep: nothing is left to drop", ashlar_sweep(&table, UINT64_MAX) == 0);
 }
 
+/* ---- Cutting ---- */
+
+static uint8_t message[ASHLAR_MESSAGE + 4];
+static size_t ends[ASHLAR_FRAGMENTS + 1];
+
+/* a TLV of so many bytes at this place of the message, and where it ends */
+static size_t tlv(size_t at, size_t size) {
+    memset(message + at, (int)(at / 256 + 1), size);
+    message[at + 1] = (uint8_t)((size - 3) >> 8), message[at + 2] = (uint8_t)(size - 3);
+    return at + size;
+}
+
+static size_t marker(size_t at) { return memset(message + at, 0, 3), at + 3; }
+
+/* a refusal is answered so, and leaves the list as it was (rule A3) */
+static void uncut(const char *name, size_t size, size_t room, uint8_t refusal, size_t at, size_t shortfall) {
+    size_t before[ASHLAR_FRAGMENTS + 1];
+    memset(ends, 0xEE, sizeof ends), memcpy(before, ends, sizeof ends);
+    AshlarCutting c = ashlar_cut(message, size, ends, room);
+    refusals |= 1u << c.refusal;
+    check(name, c.refusal == refusal && c.count == 0 && c.at == at && c.shortfall == shortfall && !memcmp(before, ends, sizeof ends));
+}
+
+/* cut into so many fragments, of which the last but one, and the last, end here */
+static bool is_cut(size_t size, size_t count, size_t end, size_t last) {
+    memset(ends, 0xEE, sizeof ends);
+    AshlarCutting c = ashlar_cut(message, size, ends, count);
+    bool good = c.refusal == ASHLAR_OK && c.count == count && c.at == 0 && c.shortfall == 0;
+    return good && (count == 1 || ends[count - 2] == end) && ends[count - 1] == last && ends[count] == (size_t)0xEEEEEEEEEEEEEEEE;
+}
+
+static void cuts(void) {
+    size_t n = tlv(tlv(tlv(0, 1000), 1000), 492);
+    check("ashlar_cut: 1,492 bytes in a fragment, and the list after the ends stays", is_cut(n, 2, 1000, 2492) && ends[0] == 1000);
+    n = tlv(2000, 493);
+    check("ashlar_cut: 1,493 bytes in two", is_cut(n, 3, 2000, 2493) && ends[0] == 1000);
+    uncut("ashlar_cut: 7 with a place less", n, 2, ASHLAR_NO_ROOM, 0, 0);
+    uncut("AshlarCutting: 1, at and shortfall", n + 1, 10, ASHLAR_TOO_FEW_BYTES, 2493, 2);
+    uncut("AshlarCutting: 2, at and shortfall", n - 90, 10, ASHLAR_RUNS_PAST_END, 2000, 90);
+    n = marker(n);
+    check("ashlar_cut: the marker is among the TLVs", is_cut(n, 3, 2000, 2496));
+    uncut("ashlar_cut: 4, a byte after the marker, before 7", n + 1, 0, ASHLAR_LEFT_OVER, 0, 0);
+    check("ashlar_cut: a marker alone", (marker(0), is_cut(3, 1, 0, 3)));
+    check("ashlar_cut: the empty message has one end, 0", is_cut(0, 1, 0, 0));
+    uncut("ashlar_cut: the empty message needs a place", 0, 0, ASHLAR_NO_ROOM, 0, 0);
+    n = tlv(tlv(0, 1493), 20);
+    uncut("ashlar_cut: 21, a TLV of 1,493 bytes, before 7", n, 0, ASHLAR_NO_CUTTING, 0, 0);
+    uncut("ashlar_cut: 2 before 21", n - 1, 0, ASHLAR_RUNS_PAST_END, 1493, 1);
+    uncut("ashlar_cut: 4 before 21", marker(n) + 1, 0, ASHLAR_LEFT_OVER, 0, 0);
+    for (n = 0; n < ASHLAR_MESSAGE;) n = tlv(n, ASHLAR_PAYLOAD);
+    check("ASHLAR_FRAGMENTS: so many full ones, ASHLAR_MESSAGE bytes", is_cut(n, ASHLAR_FRAGMENTS, ASHLAR_MESSAGE - ASHLAR_PAYLOAD, ASHLAR_MESSAGE));
+    uncut("ashlar_cut: 21, nine full ones and a marker", marker(n), ASHLAR_FRAGMENTS + 1, ASHLAR_NO_CUTTING, 0, 0);
+}
+
+/* a message in nine fragments, made of the ends as the header says, and one more */
+static AshlarProposed fragments[ASHLAR_FRAGMENTS + 1];
+
+static size_t fragments_of(size_t size) {
+    size_t count = ashlar_cut(message, size, ends, ASHLAR_FRAGMENTS).count;
+    for (size_t i = 0; i < count; i++) {
+        size_t start = i ? ends[i - 1] : 0;
+        fragments[i] = (AshlarProposed){.version = 1, .message_type = 0x8001, .message_id = 0x1234, .number = (uint8_t)i, .last = i + 1 == count, .start = start, .length = ends[i] - start};
+    }
+    return count;
+}
+
+static bool is_accepted(size_t size, size_t count) {
+    AshlarChecked c = ashlar_check(message, size, fragments, count, message, sizeof message);
+    return c.accepted && c.refusal == ASHLAR_OK && c.at == 0 && c.shortfall == 0;
+}
+
+/* with this fragment in the place i the others are not accepted any more */
+static void unaccepted(const char *name, size_t size, size_t count, size_t i, AshlarProposed other) {
+    AshlarProposed right = fragments[i];
+    fragments[i] = other;
+    AshlarChecked c = ashlar_check(message, size, fragments, count, message, sizeof message);
+    fragments[i] = right;
+    check(name, !c.accepted && c.refusal == ASHLAR_OK && c.at == 0 && c.shortfall == 0 && is_accepted(size, count));
+}
+
+static void unchecked(const char *name, size_t size, size_t count, uint8_t refusal, size_t at, size_t shortfall) {
+    AshlarChecked c = ashlar_check(message, size, fragments, count, message, sizeof message);
+    refusals |= 1u << c.refusal;
+    check(name, c.refusal == refusal && !c.accepted && c.at == at && c.shortfall == shortfall);
+}
+
+static void proposals(void) {
+    size_t n = 0;
+    for (size_t i = 0; i < 2 * ASHLAR_FRAGMENTS; i++) n = tlv(n, ASHLAR_PAYLOAD / 2);
+    size_t count = fragments_of(n);
+    check("AshlarProposed: its size", sizeof(AshlarProposed) == 24);
+    check("ashlar_check: what ashlar_cut made is accepted", count == ASHLAR_FRAGMENTS && is_accepted(n, count));
+    AshlarProposed f = fragments[3], last = fragments[8];
+    unaccepted("AshlarProposed: version", n, count, 3, (f.version = 2, f));
+    f = fragments[3], unaccepted("AshlarProposed: message_type", n, count, 3, (f.message_type = 0x8002, f));
+    f = fragments[3], unaccepted("AshlarProposed: message_id", n, count, 3, (f.message_id = 0x1235, f));
+    f = fragments[3], unaccepted("AshlarProposed: number", n, count, 3, (f.number = 4, f));
+    f = fragments[3], unaccepted("AshlarProposed: last", n, count, 3, (f.last = true, f));
+    f = fragments[3], unaccepted("AshlarProposed: start", n, count, 3, (f.start = 0, f));
+    f = fragments[3], unaccepted("AshlarProposed: length", n, count, 3, (f.length /= 2, f));
+    f = last, unaccepted("AshlarProposed: a payload that lies outside", n, count, 8, (f.start = sizeof message - f.length + 1, f));
+    f = last, unaccepted("AshlarProposed: the final one has to be marked", n, count, 8, (f.last = false, f));
+    fragments[9] = last;
+    unchecked("ashlar_check: ten are not accepted", n, 10, ASHLAR_OK, 0, 0);
+    unchecked("ashlar_check: none is not accepted", n, 0, ASHLAR_OK, 0, 0);
+
+    static uint8_t elsewhere[sizeof message + 1];
+    memcpy(elsewhere + 1, message, n);
+    for (size_t i = 0; i < count; i++) fragments[i].start++;
+    AshlarChecked c = ashlar_check(message, n, fragments, count, elsewhere, n + 1), d = ashlar_check(message, n, fragments, count, elsewhere, n);
+    check("ashlar_check: the message comes before the payloads", c.accepted && c.refusal == ASHLAR_OK && !d.accepted && d.refusal == ASHLAR_OK);
+    unchecked("AshlarChecked: 1, at and shortfall", n + 2, count, ASHLAR_TOO_FEW_BYTES, n, 1);
+    unchecked("AshlarChecked: 2, at and shortfall", n - 5, count, ASHLAR_RUNS_PAST_END, n - ASHLAR_PAYLOAD / 2, 5);
+    unchecked("ashlar_check: 4, a byte after the marker", marker(n) + 1, 10, ASHLAR_LEFT_OVER, 0, 0);
+    count = fragments_of(0);
+    check("ashlar_check: the empty message is one empty fragment", count == 1 && is_accepted(0, 1));
+    fragments[1] = fragments[0], fragments[0].last = false, fragments[1].number = 1;
+    unchecked("ashlar_check: the empty message is not two", 0, 2, ASHLAR_OK, 0, 0);
+}
+
 /* ---- Stations ---- */
 
 static AshlarStations stations;
@@ -577,8 +697,8 @@ static void merges(void) {
 
 int main(void) {
     for (size_t i = 0; i < sizeof payload; i++) payload[i] = (uint8_t)(i + 1);
-    headings(), walks(), paddings(), reads(), texts(), finds(), fields(), duplicates(), pushes(), limits(), sweeps(), moves(), values(), crowd(), link_reports(), merges();
-    check("every refusal that a call can give came: 1 to 6 and 10 to 20", (refusals & ~1u) == 0x1FFC7E);
+    headings(), walks(), paddings(), reads(), texts(), finds(), fields(), duplicates(), pushes(), limits(), sweeps(), cuts(), proposals(), moves(), values(), crowd(), link_reports(), merges();
+    check("every refusal that a call can give came: 1 to 7 and 10 to 21", (refusals & ~1u) == 0x3FFCFE);
     check("every answer of push came: 0 to 7", answers == 0xFF);
     check("every answer of an event came: 0 to 5", events == 0x3F);
     return failed != 0;

@@ -8,10 +8,10 @@
 #include <string.h>
 #include <sys/mman.h>
 
-enum { PAGE = 4096, READ_HEADER = 0, WALK, WALK_INTO, READ_KIND, FIND, TEXT, RADIO, RADIO_TEXT, PUSH, SHOW, SWEEP, STATION_EVENT, STATION_EVENT_FROM, STATION_AT, STATION_COUNT, STATION_ROW, LINK_REPORT_TX, LINK_REPORT_RX, LINK_MERGE, KINDS };
+enum { PAGE = 4096, READ_HEADER = 0, WALK, WALK_INTO, READ_KIND, FIND, TEXT, RADIO, RADIO_TEXT, PUSH, SHOW, SWEEP, CHECK, CUT, STATION_EVENT, STATION_EVENT_FROM, STATION_AT, STATION_COUNT, STATION_ROW, LINK_REPORT_TX, LINK_REPORT_RX, LINK_MERGE, KINDS };
 
 static const char *const names[KINDS] = {
-    "read_header", "walk", "walk_into", "read_kind", "find", "text", "radio", "radio_text", "push", "show", "sweep", "station_event", "station_event_from", "station_at", "station_count", "station_row", "link_report_tx", "link_report_rx", "link_merge"};
+    "read_header", "walk", "walk_into", "read_kind", "find", "text", "radio", "radio_text", "push", "show", "sweep", "check", "cut", "station_event", "station_event_from", "station_at", "station_count", "station_row", "link_report_tx", "link_report_rx", "link_merge"};
 /* which numbers each call may give by rules N1 and N2, a bit for each; 0 is no refusal */
 static const unsigned numbers[KINDS] = {
     1u << 0 | 1u << 1,
@@ -25,6 +25,8 @@ static const unsigned numbers[KINDS] = {
     1u << 0 | 1u << 10 | 1u << 11 | 1u << 12 | 1u << 13 | 1u << 20,
     1u << 0,
     1u << 0,
+    1u << 0 | 1u << 1 | 1u << 2 | 1u << 4,
+    1u << 0 | 1u << 1 | 1u << 2 | 1u << 4 | 1u << 7 | 1u << 21,
     1u << 0 | 1u << 17,
     1u << 0 | 1u << 3 | 1u << 5 | 1u << 17,
     1u << 0,
@@ -62,7 +64,7 @@ static Room room(size_t most) {
 
 static void told(int call, unsigned number, bool same) {
     calls[call]++;
-    if (number > 20 || !(numbers[call] >> number & 1) || !same) wrong[call]++;
+    if (number > 21 || !(numbers[call] >> number & 1) || !same) wrong[call]++;
     else seen[call] |= 1u << number;
 }
 
@@ -272,6 +274,110 @@ static void fresh(void) {
     tables[1] = plain_fresh();
 }
 
+/* ---- Cutting ---- */
+
+enum { MOST_ENDS = 12, MOST_PROPOSED = 24 };
+static Room proposals, parts, ends[2];
+static unsigned verdicts; /* a bit for not accepted, and one for accepted */
+
+/* TLVs of about one size, some of which fill a fragment, and so many that some need ten; then now and then a marker, or
+   bytes after it; or all of it cut; or any bytes */
+static uint8_t *message(size_t *n) {
+    static const size_t sizes[] = {3, 4, 20, 373, 746, 900, 1492};
+    static uint8_t made[24000];
+    size_t size = 0, usual = sizes[below(7)], most = below(5) ? below(3000) : below(4) ? ASHLAR_MESSAGE - below(4) : below(16000);
+    while (size < most) {
+        size_t tlv = below(50) ? usual : below(60) ? 3 + below(usual) : 1490 + below(6);
+        made[size] = (uint8_t)(1 + below(3)), made[size + 1] = (uint8_t)((tlv - 3) >> 8), made[size + 2] = (uint8_t)(tlv - 3);
+        memset(made + size + 3, (int)any(), tlv - 3);
+        size += tlv;
+    }
+    if (!below(4)) size += 3, memset(made + size - 3, 0, 3 + 8);
+    if (!below(8)) size += below(8);
+    if (!below(8)) size = below(size + 1);
+    if (!below(8)) return *n = below(64), bytes(*n);
+    *n = size;
+    return memcpy(payloads.end - size, made, size);
+}
+
+/* a fragment of the message, whose payload is put into the parts before this place of them */
+static AshlarProposed proposed(const uint8_t *payload, size_t length, size_t *place) {
+    *place -= length;
+    memcpy(parts.end - parts.most + *place, payload, length);
+    return (AshlarProposed){1, 2, 3, 0, false, *place, length};
+}
+
+/* a message cut between TLVs, here and there before a fragment is full: how many fragments */
+static size_t cut_somewhere(const uint8_t *p, size_t n, AshlarProposed *f) {
+    size_t start = 0, at = 0, count = 0, place = parts.most, often = 2 + below(40);
+    while (n - at >= 3 && count < MOST_PROPOSED - 2) {
+        size_t size = 3 + ((size_t)p[at + 1] << 8 | p[at + 2]);
+        if (size > n - at) break;
+        if (at > start && (at + size - start > ASHLAR_PAYLOAD || !below(often))) f[count++] = proposed(p + start, at - start, &place), start = at;
+        at += size;
+    }
+    f[count++] = proposed(p + start, n - start, &place);
+    for (size_t i = 0; i < count; i++) f[i].number = (uint8_t)i, f[i].last = i + 1 == count;
+    return count;
+}
+
+/* one thing about the fragments is another, or nothing is */
+static size_t spoilt(AshlarProposed *f, size_t count) {
+    size_t i = below(count), j = below(count);
+    AshlarProposed other = f[j];
+    switch (below(30)) {
+    case 0: f[i].version ^= 1; break;
+    case 1: f[i].message_type ^= 256; break;
+    case 2: f[i].message_id ^= 256; break;
+    case 3: f[i].number ^= 1; break;
+    case 4: f[i].last = !f[i].last; break;
+    case 5: f[i].start += below(2) ? 1 : (size_t)any() << 20; break;
+    case 6: f[i].length -= below(2); break;
+    case 7: f[i].length = below(2) ? 0 : (size_t)any() << below(48); break;
+    case 8: f[i].start = -f[i].length; break;
+    case 9: parts.end[-1 - (long)below(1 + parts.most - f[count - 1].start)] ^= 1; break;
+    case 10: f[j] = f[i], f[i] = other; break;
+    case 11: count--; break;
+    case 12: f[count++] = f[i]; break;
+    case 13: f[count] = f[count - 1], f[count - 1].last = false, f[count].number++, f[count++].length = 0; break;
+    }
+    return count;
+}
+
+static bool checked(const uint8_t *p, size_t n, const AshlarProposed *f, size_t count, const uint8_t *parts_of, size_t size) {
+    AshlarProposed *list = (AshlarProposed *)proposals.end - count;
+    memcpy(list, f, count * sizeof *f);
+    AshlarChecked a = ashlar_check(p, n, list, count, parts_of, size), b = plain_check(p, n, list, count, parts_of, size);
+    told(CHECK, a.refusal, a.at == b.at && a.shortfall == b.shortfall && a.accepted == b.accepted && a.refusal == b.refusal);
+    if (!a.refusal) verdicts |= 1u << a.accepted;
+    return a.accepted;
+}
+
+static void check(void) {
+    AshlarProposed f[MOST_PROPOSED];
+    size_t n;
+    uint8_t *p = message(&n);
+    size_t count = spoilt(f, cut_somewhere(p, n, f));
+    checked(p, n, f, count, parts.end - parts.most, parts.most - !below(20));
+}
+
+/* what the cutter makes is accepted (rule M6) */
+static bool passes(const uint8_t *p, size_t n, const size_t *at, size_t count) {
+    AshlarProposed f[MOST_ENDS];
+    for (size_t i = 0; i < count; i++) f[i] = (AshlarProposed){9, 8, 7, (uint8_t)i, i + 1 == count, i ? at[i - 1] : 0, at[i] - (i ? at[i - 1] : 0)};
+    return checked(p, n, f, count, p, n);
+}
+
+static void cut(void) {
+    size_t n, many = below(MOST_ENDS + 1), *list[2];
+    uint8_t *p = message(&n);
+    for (int i = 0; i < 2; i++) list[i] = (size_t *)ends[i].end - many;
+    for (size_t i = 0; i < many; i++) list[0][i] = list[1][i] = any();
+    AshlarCutting a = ashlar_cut(p, n, list[0], many), b = plain_cut(p, n, list[1], many);
+    bool same = a.count == b.count && a.at == b.at && a.shortfall == b.shortfall && a.refusal == b.refusal && !memcmp(list[0], list[1], many * sizeof **list);
+    told(CUT, a.refusal, same && a.count <= ASHLAR_FRAGMENTS && (a.refusal || passes(p, n, list[0], a.count)));
+}
+
 /* ---- Stations ---- */
 
 static AshlarStations *stations[2];
@@ -407,7 +513,8 @@ int main(int argc, char **argv) {
     unsigned long many = argc > 1 ? strtoul(argv[1], 0, 10) : 20000, seed = argc > 2 ? strtoul(argv[2], 0, 10) : 1;
     state = seed * 0x9E3779B97F4A7C15ull | 1;
     payloads = room(8 * PAGE), lists = room(1100 * sizeof(AshlarTlv)), expected = room(1100 * sizeof(AshlarTlv));
-    for (int i = 0; i < 2; i++) stores[i] = room(ASHLAR_STORE + 1), outs[i] = room(6000), stations[i] = (AshlarStations *)(room(sizeof(AshlarStations)).end - sizeof(AshlarStations));
+    proposals = room(MOST_PROPOSED * sizeof(AshlarProposed)), parts = room(24000);
+    for (int i = 0; i < 2; i++) ends[i] = room(MOST_ENDS * sizeof(size_t)), stores[i] = room(ASHLAR_STORE + 1), outs[i] = room(6000), stations[i] = (AshlarStations *)(room(sizeof(AshlarStations)).end - sizeof(AshlarStations));
     fresh();
     fresh_stations();
     for (unsigned long i = 0; i < many; i++) {
@@ -418,7 +525,9 @@ int main(int argc, char **argv) {
         else if (which < 35) read_kind();
         else if (which < 46) find();
         else if (which < 50) text();
-        else if (which < 80) push();
+        else if (which < 78) push();
+        else if (which < 79) check();
+        else if (which < 80) cut();
         else if (which < 93) of_stations();
         else if (which < 95) link_report();
         else if (which < 98) link_merge();
@@ -429,12 +538,12 @@ int main(int argc, char **argv) {
     for (int k = 0; k < KINDS; k++) {
         failed += wrong[k] != 0;
         printf("%s ashlar_%s, %lu calls, %lu wrong, numbers", wrong[k] ? "FAILED" : "ok", names[k], calls[k], wrong[k]);
-        for (int n = 0; n <= 20; n++)
+        for (int n = 0; n <= 21; n++)
             if (seen[k] >> n & 1) printf(" %d", n);
         printf("\n");
     }
-    bool all = answers == 0xff && events == 0x3f;
+    bool all = answers == 0xff && events == 0x3f && verdicts == 3;
     for (int k = 0; k < KINDS; k++) all &= seen[k] == numbers[k];
-    printf("%s every number that a call can give came, and every answer of push and of an event\n", all ? "ok" : "FAILED");
+    printf("%s every number that a call can give came, every answer of push and of an event, and both of a check\n", all ? "ok" : "FAILED");
     return failed || !all;
 }
