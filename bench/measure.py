@@ -50,6 +50,10 @@ ROWS = [
     ("A join of a new station, 127 held", "join-new", None, None, 1500),
     ("A stale leave, 128 held", "leave-stale", None, None, 1500),
     ("Where a station is that is not held, 128 held", "where-none", None, None, 1500),
+    ("Cut of 13,428 bytes, 9 TLVs", "cut-9", 2, None, None),
+    ("Cut of 13,428 bytes, 36 TLVs", "cut-36", 2, None, None),
+    ("Cut of 13,428 bytes, 3,357 TLVs", "cut-3357", 2, None, None),
+    ("Check of 13,428 bytes, 36 TLVs in 9 fragments", "check-36", None, None, None),
     ("A report over 1,024 pairs of kind 10", "report-1024", 3, None, None),
     ("Two reports of 512 pairs made into one", "merge", 2, None, None),
 ]
@@ -183,7 +187,7 @@ def main():
         counts = listed() if words == "tlvlist" else counted(words, PROGRAMS if original else WITHOUT_ORIGINAL)
         bars, missed = judged(counts, plain, original, beyond, 0 if words in UNCOPIED else copies[1492 if "1492" in words else 16])
         print(f"{words}: {counts}{' MISSES: ' + '; '.join(missed) if missed else ''}", flush=True)
-        table.append(f"| {title} | {shown(counts['plain'])} | {shown(counts['original']) if original else 'no such call'} | {shown(counts['ours'])} | {ratio(counts, 'plain')} | {ratio(counts, 'original')} | {', '.join(bars)} | {'missed' if missed else 'kept'} |")
+        table.append(f"| {title} | {shown(counts['plain'])} | {shown(counts['original']) if original else 'no such call'} | {shown(counts['ours'])} | {ratio(counts, 'plain')} | {ratio(counts, 'original')} | {', '.join(bars)} | {'missed' if missed else 'kept' if bars else 'no bar'} |")
         if missed:
             why = told.get(words, "The reason is not recorded yet.")
             said = f"- **{title}** (`{words}`): {'; '.join(missed)}. {why}"
@@ -209,10 +213,11 @@ A row is counted only if all programs give the same answer.
 - The programs run in one fixed environment, because copying a table on the stack costs more or less as the stack lies.
 - Bars are set against plain C, the original, or a number of instructions. A waiting push may take 900 beyond the copy
   of its payload, which by itself takes {copies[16]:,.0f} for 16 bytes and {copies[1492]:,.0f} for 1,492. A text may take 3 for each
-  byte. A call of the station table may take 1,500; the station is the one that is found last.
-- Some rows have no original: it reads a header only together with what follows it, it cuts and replaces texts, and it
-  has neither a station table nor link reports. Its find returns the value itself; ours and plain C say where it lies,
-  so their turns copy it out.
+  byte. A call of the station table may take 1,500; the station is the one that is found last. A check of fragments
+  has no bar: ours compares them with the message byte by byte, plain C by its library's memcmp.
+- Some rows have no original: it reads a header only together with what follows it, it cuts and replaces texts, it
+  copies every fragment where it cuts a message, and it has neither a station table nor link reports. Its find returns
+  the value itself; ours and plain C say where it lies, so their turns copy it out.
 
 | Work | Plain C | Original | Ours | to plain C | to the original | Bar | |
 |---|---:|---:|---:|---:|---:|---|---|

@@ -200,6 +200,25 @@ static void link_merge(int turns) {
     shown(r);
 }
 
+/* a message is cut, and its fragments are checked */
+static size_t ends[ASHLAR_FRAGMENTS];
+
+static void cut(int turns) {
+    AshlarCutting c = {0};
+    for (int i = 0; i < turns; i++) c = CALL(cut)(payload, size, ends, ASHLAR_FRAGMENTS);
+    printf("%zu %d, %lu\n", c.count, c.refusal, sum((const uint8_t *)ends, sizeof ends));
+}
+
+static void check(int turns) {
+    AshlarProposed fragments[ASHLAR_FRAGMENTS];
+    size_t count = CALL(cut)(payload, size, ends, ASHLAR_FRAGMENTS).count;
+    memcpy(store, payload, size);
+    for (size_t i = 0, start = 0; i < count; start = ends[i++]) fragments[i] = (AshlarProposed){1, 2, 3, (uint8_t)i, i + 1 == count, start, ends[i] - start};
+    AshlarChecked c = {0};
+    for (int i = 0; i < turns; i++) c = CALL(check)(payload, size, fragments, count, store, size);
+    printf("%d %d\n", c.accepted, c.refusal);
+}
+
 int main(int argc, char **argv) {
     if (argc < 3) return 2;
     const char *row = argv[1];
@@ -229,6 +248,10 @@ int main(int argc, char **argv) {
     else if (!strcmp(row, "join-new")) event(turns, ASHLAR_STATIONS - 1, ASHLAR_STATIONS - 1, 201, true);
     else if (!strcmp(row, "leave-stale")) event(turns, ASHLAR_STATIONS, ASHLAR_STATIONS - 1, 201, false);
     else if (!strcmp(row, "where-none")) lookup(turns, ASHLAR_STATIONS);
+    else if (!strcmp(row, "cut-9")) tlvs(9, 1, 1489, 1489), cut(turns);
+    else if (!strcmp(row, "cut-36")) tlvs(36, 1, 370, 370), cut(turns);
+    else if (!strcmp(row, "cut-3357")) tlvs(3357, 1, 1, 1), cut(turns);
+    else if (!strcmp(row, "check-36")) tlvs(36, 1, 370, 370), check(turns);
     else if (!strcmp(row, "report-1024")) pairs(1024), link_report(turns);
     else if (!strcmp(row, "merge")) pairs(1024), link_merge(turns);
     else return 2;
