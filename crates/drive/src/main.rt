@@ -49,7 +49,11 @@ fn field_of_bytes(letter: u8) -> usize {
     if 0 < of_stations {
         return of_stations;
     }
-    link_commands::field_of_bytes(letter)
+    let of_links = link_commands::field_of_bytes(letter);
+    if 0 < of_links {
+        return of_links;
+    }
+    cutting_commands::field_of_bytes(letter)
 }
 
 // Answers one line that is not about the fragment table, and returns where the text then ends. A letter that no command
@@ -74,6 +78,9 @@ fn answer(
     }
     if 0 < link_commands::field_of_bytes(letter) {
         return link_commands::answer(line, bytes, text, used);
+    }
+    if 0 < cutting_commands::field_of_bytes(letter) {
+        return cutting_commands::answer(line, bytes, text, used);
     }
     answer_lines::put(text, used, b"bad")
 }
