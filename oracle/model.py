@@ -15,6 +15,7 @@ import sys
 
 STORE_PLACES, STORE_KEYS, PLACE = 32, 16, 1492
 SENDER_PLACES, SENDER_KEYS = 8, 4
+MOST_FRAGMENTS = 9
 MOST_STATIONS = 128
 MOST_PAIRS = 1024
 # The last request that counts, where none is named.
@@ -580,6 +581,93 @@ def reported(report):
     return " ".join(["ok"] + (fields if report.kind == 10 else fields[:3]))
 
 
+# --- how a message is cut (rules M1 to M5) ---
+
+Fragment = collections.namedtuple("Fragment", "version type id number last payload")
+# Of the command language: fragments that are proposed, and places of a list of ends.
+MOST_PROPOSED, MOST_PLACES = 12, 16
+
+
+def whole_tlvs(message):
+    """The TLVs of a message, each as its bytes (rule M1)."""
+    tlvs = [message[at:at + 3 + length] for _, at, length in walk(message)]
+    if sum(map(len, tlvs)) < len(message):
+        raise Refused(4)
+    return tlvs
+
+
+def is_run(payload):
+    """Whether a payload is one or more whole TLVs."""
+    try:
+        return len(whole_tlvs(payload)) > 0
+    except Refused:
+        return False
+
+
+def is_cutting(message, fragments):
+    """Rule M3, for a message that is not refused by itself."""
+    count, payloads = len(fragments), [fragment.payload for fragment in fragments]
+    if not 1 <= count <= MOST_FRAGMENTS or any(len(payload) > PLACE for payload in payloads):
+        return False
+    if any(fragment[:3] != fragments[0][:3] for fragment in fragments):
+        return False
+    if [fragment.number for fragment in fragments] != list(range(count)):
+        return False
+    if [fragment.last for fragment in fragments] != [0] * (count - 1) + [1]:
+        return False
+    if b"".join(payloads) != message:
+        return False
+    return all(map(is_run, payloads)) or message == b"" and count == 1
+
+
+def filled(tlvs):
+    """The payloads of fragments that are filled as far as whole TLVs go, however many they are (rule M5)."""
+    payloads = [b""]
+    for tlv in tlvs:
+        if len(payloads[-1] + tlv) > PLACE:
+            payloads.append(b"")
+        payloads[-1] += tlv
+    return payloads
+
+
+def ends_of(payloads):
+    return " ".join(["ok %d" % len(payloads)] + [str(end) for end in itertools.accumulate(map(len, payloads))])
+
+
+def cut(message, room):
+    tlvs = whole_tlvs(message)
+    payloads = filled(tlvs)
+    if any(len(tlv) > PLACE for tlv in tlvs) or len(payloads) > MOST_FRAGMENTS:
+        raise Refused(21)
+    if len(payloads) > room:
+        raise Refused(7)
+    return payloads
+
+
+def proposed(pieces, size, data):
+    """The message, and the fragments that are proposed for it, whose payloads follow it."""
+    fragments, at = [], size
+    for piece in [] if pieces == "-" else pieces.split(","):
+        *head, length = map(int, piece.split(":"))
+        fragments.append(Fragment(*head, data[at:at + length]))
+        at += length
+    if at != len(data) or len(fragments) > MOST_PROPOSED:
+        raise Bad
+    return data[:size], fragments
+
+
+def checked(message, fragments):
+    whole_tlvs(message)
+    return "yes" if is_cutting(message, fragments) else "not"
+
+
+def check_command(message, fragments):
+    """The command that proposes these."""
+    pieces = ["%d:%d:%d:%d:%d:%d" % (*fragment[:5], len(fragment.payload)) for fragment in fragments]
+    data = b"".join([message] + [fragment.payload for fragment in fragments])
+    return "q %d %s %s" % (len(message), ",".join(pieces) or "-", text(data))
+
+
 # --- commands ---
 
 def listed(tlvs, size):
@@ -624,6 +712,10 @@ def answer(table, stations, line):
         return "ok %d %d %d %d %d %d %d" % header(data)
     if command in ("k", "g"):
         return listed(walk(data), len(data))
+    if command == "q":
+        return checked(*proposed(words[2], int(words[1]), data))
+    if command == "Q":
+        return ends_of(cut(data, min(int(words[1]), MOST_PLACES)))
     if command == "U":
         return "ok " + shown(radio_text_at(data, int(words[1])))
     kind = int(words[1])
