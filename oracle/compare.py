@@ -90,6 +90,34 @@ def sender_full(words, original, ours, before):
     return words[0] == "p" and lines[0] == "z" and original == "waiting" and ours == "no 20" == [model.told(table, line) for line in lines][-1]
 
 
+# --- how a message is cut (rules M1 and M5) ---
+
+def by_rules(words):
+    return model.told(None, " ".join(words))
+
+
+def is_cut_by_original(words, original):
+    """Whether the original cut as rule M5 fills fragments, the padding left out, however many they are."""
+    data = model.to_bytes(words[2])
+    payloads = model.filled([data[at:at + 3 + length] for _, at, length in model.walk(data)])
+    return len(data) > model.PLACE and original == model.ends_of(payloads)
+
+
+def fitting_not_read(words, original, ours, before):
+    if words[0] != "Q" or ours != by_rules(words) or ours.split(" ")[:2] not in (["no", "1"], ["no", "2"], ["no", "4"]):
+        return False
+    size = len(model.to_bytes(words[2]))
+    return size <= model.PLACE and original == "ok 1 %d" % size
+
+
+def padding_dropped(words, original, ours, before):
+    return words[0] == "Q" and ours == "no 4" == by_rules(words) and is_cut_by_original(words, original)
+
+
+def more_than_nine(words, original, ours, before):
+    return words[0] == "Q" and ours == "no 21" == by_rules(words) and is_cut_by_original(words, original)
+
+
 def payload_above_1492(words, original, ours, before):
     return words[0] == "p" and ours == "no 12" and len(model.to_bytes(words[8])) > 1492
 
@@ -175,6 +203,9 @@ EXPLAINED = {
     "table-full": table_full,
     "sender-full": sender_full,
     "payload-above-1492": payload_above_1492,
+    "fitting-not-read": fitting_not_read,
+    "padding-dropped": padding_dropped,
+    "more-than-nine": more_than_nine,
 }
 
 

@@ -16,6 +16,8 @@ use words::{Bad, Fields, LONGEST_LINE, bytes, checksum, number, shown, six, word
 const NO: &str = "no";
 /// Pairs that a report is over, at most (rule Q4).
 const MOST_PAIRS: usize = 1024;
+/// The longest payload of a fragment (rule M3), and the eight bytes of its header.
+const LONGEST_FRAGMENT: usize = 1492 + 8;
 
 /// TLVs from the start up to the end marker, or until no byte is left: each with its offset; or the offset of the one
 /// that doesn't read.
@@ -123,6 +125,37 @@ fn get_tlvs(payload: &[u8]) -> String {
         offset += size;
     }
     listed(&placed, payload.len())
+}
+
+/// Where the fragments end that the original cuts a message into. Anything but fragments that are numbered from 0, alike,
+/// and marked at the end alone is a panic.
+fn cut(payload: &[u8], room: usize) -> String {
+    let whole = CMDU {
+        message_version: 1,
+        reserved: 0,
+        message_type: 2,
+        message_id: 3,
+        fragment: 0,
+        flags: 0,
+        payload: payload.to_vec(),
+    };
+    let Ok(fragments) = whole.fragment_tlv_boundary(LONGEST_FRAGMENT) else {
+        return NO.into();
+    };
+    if fragments.len() > room {
+        return NO.into();
+    }
+    let (mut end, mut ends) = (0, String::new());
+    for (number, part) in fragments.iter().enumerate() {
+        let last = number + 1 == fragments.len();
+        assert_eq!((part.fragment as usize, part.is_last_fragment()), (number, last));
+        assert_eq!((part.message_version, part.message_type, part.message_id), (1, 2, 3));
+        let start = end;
+        end += part.payload.len();
+        assert_eq!(part.payload, payload[start..end]);
+        ends += &format!(" {end}");
+    }
+    format!("ok {}{ends}", fragments.len())
 }
 
 struct Read<'a>(&'a [u8]);
@@ -325,6 +358,10 @@ fn answer(table: &mut Table, line: &str) -> Result<String, Bad> {
         "h" => header(&bytes(word(&mut fields)?)?),
         "k" => walked(&bytes(word(&mut fields)?)?),
         "g" => get_tlvs(&bytes(word(&mut fields)?)?),
+        "Q" => {
+            let room = number(&mut fields)?;
+            cut(&bytes(word(&mut fields)?)?, room)
+        }
         "r" => {
             let kind = number(&mut fields)?;
             known(of_kind(kind, Read(&bytes(word(&mut fields)?)?)))
