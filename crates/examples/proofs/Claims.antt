@@ -1,6 +1,7 @@
 -- Every row of the table holds: both sides compute to the same. Four rows on the table of fragments are theorems about
 -- runs.
 use mathlib.Core.Path.{refl}
+use mathlib.Core.List.{flatten}
 use Rattle.searching.specs.Search.{lowest}
 use Rattle.machines.specs.Machine.{those}
 use Rattle.framing.specs.Tlv.{readTlv, writeSize}
@@ -259,7 +260,7 @@ of-links = record {
 }
 
 of-cutting : OfCutting
-unfolding readTlv stepAt walkFrom walkOf tlvsOf isTlvs isFragment isCutting checkOf endsFrom endsOver endsOf cutInto
+unfolding readTlv stepAt walkFrom walkOf tlvsOf isTlvs isFragment isCutting checkOf endsFrom endsOver endsOf cutInto flatten
 of-cutting = record {
   marker-alone = refl;
   two-fragments = refl;
@@ -300,6 +301,11 @@ of-c = record {
   c-found = refl;
   c-none-found = refl;
   c-part = refl;
+  c-accepted = refl;
+  c-not-accepted = refl;
+  c-unchecked = refl;
+  c-cut = refl;
+  c-uncut = refl;
   c-no-part = refl;
   c-waiting = refl;
   c-duplicated = refl;

@@ -34,7 +34,7 @@ use Rattle.stations.specs.declared.Where.{Where}
 use Rattle.stations.specs.declared.Listed.{Listed}
 use Rattle.stations.specs.Rows.{freshStations, answerTo, tableAfter, heldRow, countOf}
 use Rattle.stations.specs.Events.{answerFrom, tableFrom}
-use Rattle.c_answers.specs.Numbers.{headerNumbers, walkNumbers, kindNumbers, foundNumbers, partNumbers, pushNumbers, shownIn}
+use Rattle.c_answers.specs.Numbers.{headerNumbers, walkNumbers, kindNumbers, foundNumbers, partNumbers, pushNumbers, shownIn, checkNumbers, cutNumbers}
 use Rattle.links.specs.declared.LinkKind.the-variants.{Tx, Rx}
 use Rattle.links.specs.declared.Lowest.the-variants.{Absent, Signal}
 use Rattle.links.specs.Pairs.{signed}
@@ -355,6 +355,11 @@ pub record OfC : Type 0 where
   pub c-found : foundNumbers (gives 3) ≡ record { place = 3; refusal = 0 }
   pub c-none-found : foundNumbers (refuses 15 []) ≡ record { place = 0; refusal = 15 }
   pub c-part : partNumbers (gives (record { start = 5; end = 9 })) ≡ record { start = 5; length = 4; refusal = 0 }
+  pub c-accepted : checkNumbers (gives true) ≡ record { at = 0; shortfall = 0; accepted = true; refusal = 0 }
+  pub c-not-accepted : checkNumbers (gives false) ≡ record { at = 0; shortfall = 0; accepted = false; refusal = 0 }
+  pub c-unchecked : checkNumbers (refuses 2 (7 ∷ 4 ∷ [])) ≡ record { at = 7; shortfall = 4; accepted = false; refusal = 2 }
+  pub c-cut : cutNumbers (gives 3) ≡ record { count = 3; at = 0; shortfall = 0; refusal = 0 }
+  pub c-uncut : cutNumbers (refuses 21 []) ≡ record { count = 0; at = 0; shortfall = 0; refusal = 21 }
   pub c-no-part : partNumbers (refuses 6 []) ≡ record { start = 0; length = 0; refusal = 6 }
   pub c-waiting : pushNumbers (gives waiting) ≡ record { length = 0; answer = 1; refusal = 0 }
   pub c-duplicated : pushNumbers (gives duplicated) ≡ record { length = 0; answer = 2; refusal = 0 }
