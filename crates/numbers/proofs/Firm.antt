@@ -12,7 +12,7 @@ use Rattle.numbers.specs.declared.Refusal.the-variants.{TooFewBytes, Run
 
 -- the cases by their numbers, with the value v, and the case with the number n
 abbrev cases : ℕ → List Refusal
-cases v = UnknownKind ∷ TooFewBytes v ∷ RunsPastEnd v ∷ CutShort ∷ LeftOver ∷ BadValue ∷ NoEntry ∷ NoRoom ∷ ValueTooLong ∷ NeverRead ∷ TableFull ∷ StoreTooSmall ∷ PayloadTooLong ∷ OutputTooSmall v ∷ ListTooShort ∷ NotFound ∷ UnknownKind ∷ NoStationRoom ∷ NotText ∷ NoReport ∷ SenderFull ∷ NoCutting ∷ []
+cases v = UnknownKind ∷ TooFewBytes v ∷ RunsPastEnd v ∷ CutShort ∷ LeftOver ∷ BadValue ∷ NoEntry ∷ NoRoom ∷ ValueTooLong ∷ NeverRead ∷ TableFull ∷ StoreTooSmall ∷ PayloadTooLong ∷ OutputTooSmall v ∷ ListTooShort ∷ NotFound v ∷ UnknownKind ∷ NoStationRoom ∷ NotText ∷ NoReport ∷ SenderFull ∷ NoCutting ∷ []
 
 abbrev caseOf : ℕ → ℕ → Refusal
 caseOf n v = getD (cases v) n UnknownKind
@@ -32,7 +32,7 @@ back StoreTooSmall = refl
 back PayloadTooLong = refl
 back (OutputTooSmall n) = refl
 back ListTooShort = refl
-back NotFound = refl
+back (NotFound n) = refl
 back UnknownKind = refl
 back NoStationRoom = refl
 back NotText = refl

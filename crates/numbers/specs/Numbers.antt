@@ -27,7 +27,7 @@ isGiven (gives a) = true
 isGiven (refuses n vs) = false
 
 -- Rule N1: the number for each refusal, and what it carries. 1 and 2 carry the shortfall, 13 the length of the message,
--- and the others nothing. A walk adds an offset in front (rule N3).
+-- 15 how many records were looked at, and the others nothing. A walk adds an offset in front (rule N3).
 abbrev pub numbered : Refusal → ℕ × List ℕ
 numbered (TooFewBytes missing) = (1, missing ∷ [])
 numbered (RunsPastEnd missing) = (2, missing ∷ [])
@@ -43,7 +43,7 @@ numbered StoreTooSmall = (11, [])
 numbered PayloadTooLong = (12, [])
 numbered (OutputTooSmall length) = (13, length ∷ [])
 numbered ListTooShort = (14, [])
-numbered NotFound = (15, [])
+numbered (NotFound looked) = (15, looked ∷ [])
 numbered UnknownKind = (16, [])
 numbered NoStationRoom = (17, [])
 numbered NotText = (18, [])

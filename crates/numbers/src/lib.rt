@@ -36,8 +36,8 @@ pub enum Refusal {
     OutputTooSmall(usize),
     // 14: a TLV list with fewer elements than the walk has TLVs (rule W5)
     ListTooShort,
-    // 15: nothing was found (rule F1)
-    NotFound,
+    // 15: nothing was found, with the number of records that were looked at (rule F1)
+    NotFound(usize),
     // 16: no kind has this code (rule K1)
     UnknownKind,
     // 17: no room for one more station (rule P4)
@@ -71,7 +71,7 @@ pub fn number_of(refusal: Refusal) -> u8
         Refusal::PayloadTooLong => 12,
         Refusal::OutputTooSmall(_) => 13,
         Refusal::ListTooShort => 14,
-        Refusal::NotFound => 15,
+        Refusal::NotFound(_) => 15,
         Refusal::UnknownKind => 16,
         Refusal::NoStationRoom => 17,
         Refusal::NotText => 18,
@@ -81,8 +81,8 @@ pub fn number_of(refusal: Refusal) -> u8
     }
 }
 
-// What a refusal carries besides its number (rule N1): the shortfall for 1 and 2, the length for 13. It is 0 where the
-// refusal carries nothing.
+// What a refusal carries besides its number (rule N1): the shortfall for 1 and 2, the length for 13, how many were
+// looked at for 15. It is 0 where the refusal carries nothing.
 pub fn carried_by(refusal: Refusal) -> usize
     ensures { λ r. ⌜ r ≡ carried refusal ⌝ }
 {
@@ -90,6 +90,7 @@ pub fn carried_by(refusal: Refusal) -> usize
         Refusal::TooFewBytes(missing) => missing,
         Refusal::RunsPastEnd(missing) => missing,
         Refusal::OutputTooSmall(length) => length,
+        Refusal::NotFound(looked) => looked,
         Refusal::CutShort => 0,
         Refusal::LeftOver => 0,
         Refusal::BadValue => 0,
@@ -101,7 +102,6 @@ pub fn carried_by(refusal: Refusal) -> usize
         Refusal::StoreTooSmall => 0,
         Refusal::PayloadTooLong => 0,
         Refusal::ListTooShort => 0,
-        Refusal::NotFound => 0,
         Refusal::UnknownKind => 0,
         Refusal::NoStationRoom => 0,
         Refusal::NotText => 0,
