@@ -1,6 +1,6 @@
 -- The TLVs of a walk follow each other: a step goes over each of them, and the next one stands where that step goes on.
 -- The marker is the last.
-use mathlib.Core.Path.{_≡_, sym, _∙_, ap, subst}
+use mathlib.Core.Path.{_≡_, refl, sym, _∙_, ap, subst}
 use mathlib.Core.List.{List, _∷_}
 use Prim.Native.Nat.{ℕ, zero, suc, _+_, _<_}
 use native.Mathlib.Omega.{arith}
@@ -8,7 +8,7 @@ use lib.ListN.{length, getD, drop, length-drop}
 use lib.Seq.{drop-cons}
 use Rattle.numbers.specs.Numbers.{Answer}
 use Rattle.walking.specs.declared.Tlv.{Tlv}
-use Rattle.walking.specs.Walk.{stepAt, walkOf, noTlv, offsetAt}
+use Rattle.walking.specs.Walk.{stepAt, walkOf, walkOn, noTlv, offsetAt}
 use Rattle.walking.specs.PrivateSteps.{tlvBy, nextBy}
 use Rattle.walking.proofs.Going.{Goes, at-end, onward, final, stopped, Forward, of-steps, is-walk}
 use Rattle.walking.proofs.Stepping.{Passes, passes, lasts}
@@ -24,11 +24,24 @@ module _ (p : List ℕ) where
 
   pub of-walk : Has 0 (walkOf p .items) (walkOf p .end)
   unfolding walkOf
-  of-walk = of-steps (stepAt p) (length p) forward
+  of-walk = of-steps (stepAt p) (length p) forward 0
 
   pub the-walk : (ts : List Tlv) (end : Answer ℕ) → Has 0 ts end → walkOf p ≡ record { items = ts; end = end }
   unfolding walkOf
-  the-walk = is-walk (stepAt p) (length p) forward
+  the-walk = is-walk (stepAt p) (length p) forward 0
+
+  -- the same from an offset on
+  pub of-walk-on : (at : ℕ) → Has at (walkOn p at .items) (walkOn p at .end)
+  unfolding walkOn
+  of-walk-on at = of-steps (stepAt p) (length p) forward at
+
+  pub the-walk-on : (at : ℕ) (ts : List Tlv) (end : Answer ℕ) → Has at ts end → walkOn p at ≡ record { items = ts; end = end }
+  unfolding walkOn
+  the-walk-on = is-walk (stepAt p) (length p) forward
+
+  pub from-the-start : walkOn p 0 ≡ walkOf p
+  unfolding walkOf walkOn
+  from-the-start = refl
 
   -- where a TLV stands: by its own record
   abbrev endOf : Tlv → ℕ

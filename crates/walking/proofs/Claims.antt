@@ -7,6 +7,7 @@ use Rattle.walking.proofs.Chained.{of-walk}
 use Rattle.walking.proofs.Firm.{stepped-one, walked-one}
 use Rattle.walking.proofs.Marked.{marker-ends, no-marker}
 use Rattle.walking.proofs.Pieces.{in-pieces}
+use Rattle.walking.proofs.Room.{room-needed}
 use Rattle.walking.proofs.Shortfall.{exact}
 use Rattle.walking.proofs.Written.{as-written, all-told}
 
@@ -25,4 +26,5 @@ claims = record {
   no-marker = no-marker;
   walk-shortfall = exact;
   in-pieces = in-pieces;
+  room-needed = room-needed;
 }

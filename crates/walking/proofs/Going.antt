@@ -51,8 +51,8 @@ module _ {A : Type 0} (step : ℕ → Answer (Ahead A)) (size : ℕ) where
         by-step (gives (last a to)) e then = final e
         by-step (refuses n vs) e then = stopped e
 
-    pub of-steps : Goes step size 0 (walkFrom step size size 0 .items) (walkFrom step size size 0 .end)
-    of-steps = goes size 0 (omega arith)
+    pub of-steps : (at : ℕ) → Goes step size at (walkFrom step size size at .items) (walkFrom step size size at .end)
+    of-steps at = goes size at (omega arith)
 
-    pub is-walk : (xs : List A) (end : Answer ℕ) → Goes step size 0 xs end → walkFrom step size size 0 ≡ record { items = xs; end = end }
-    is-walk xs end g = let o = one of-steps g in ap (λ (l : List A). record { items = l; end = walkFrom step size size 0 .end }) (o .0) ∙ ap (λ (e : Answer ℕ). record { items = xs; end = e }) (o .1)
+    pub is-walk : (at : ℕ) (xs : List A) (end : Answer ℕ) → Goes step size at xs end → walkFrom step size size at ≡ record { items = xs; end = end }
+    is-walk at xs end g = let o = one (of-steps at) g in ap (λ (l : List A). record { items = l; end = walkFrom step size size at .end }) (o .0) ∙ ap (λ (e : Answer ℕ). record { items = xs; end = e }) (o .1)

@@ -9,6 +9,7 @@ pub mod Going
 pub mod Listed
 pub mod Marked
 pub mod Pieces
+pub mod Room
 pub mod Shortfall
 pub mod Stepping
 pub mod Walking

@@ -2,8 +2,8 @@
 use mathlib.Core.Path.{_≡_}
 use mathlib.Core.Bool.{true, false}
 use mathlib.Core.List.{List, [], _∷_, _++_, map, flatten}
-use Prim.Native.Nat.{ℕ, _+_, _-_, _<_, _≤_}
-use lib.ListN.{length, take, drop, getD}
+use Prim.Native.Nat.{ℕ, zero, suc, _+_, _-_, _/_, _%_, _<_, _≤_}
+use lib.ListN.{length, take, drop, getD, replicate}
 use Rattle.numbers.specs.Numbers.{Answer, gives, refuses}
 use Rattle.numbers.specs.Firmness.{Firm}
 use Rattle.framing.specs.Tlv.{TlvRead, readTlv, tlvBytes}
@@ -90,6 +90,25 @@ pub record InPieces : Type 0 where
       → isMarker (getD (walkOf a .items) k noTlv) ≡ true
       → (pieces (a ++ b) ≡ pieces a) × (walkOf (a ++ b) .end ≡ gives (length b))
 
+-- so many TLVs of type 1 without a value, and after them one with a value of r bytes
+abbrev pub shortTlvs : ℕ → ℕ → List ℕ
+shortTlvs zero r = 0x01 ∷ 0x00 ∷ r ∷ replicate r 0x00
+shortTlvs (suc k) r = 0x01 ∷ 0x00 ∷ 0x00 ∷ shortTlvs k r
+
+-- Rule W7: how many elements a TLV list needs, a third of the payload's bytes, rounded down.
+pub record RoomNeeded : Type 0 where
+  -- no payload has more TLVs, also where its walk is refused: these are the TLVs in front of the fault
+  pub at-most : (p : List ℕ) → length (walkOf p .items) ≤ length p / 3
+  -- with that many elements, or more, the walk answers as it does without a list: it never gives 14
+  pub enough : (p : List ℕ) (room : ℕ) → length p / 3 ≤ room → listed room (walkOf p) ≡ counted (walkOf p)
+  pub never-14 : (p : List ℕ) → numberIn (counted (walkOf p)) ≡ 14 → ⊥
+  -- a payload of n bytes that has as many, for each n from 3 on
+  pub reached : (n : ℕ) → 3 ≤ n → (length (shortTlvs (n / 3 - 1) (n % 3)) ≡ n)
+      × (counted (walkOf (shortTlvs (n / 3 - 1) (n % 3))) ≡ gives (record { count = n / 3; padding = 0 }))
+  -- one or two bytes: the walk is refused with no TLV in front of the fault
+  pub below-3 : (p : List ℕ) → 0 < length p → length p < 3
+      → walkOf p ≡ record { items = []; end = refuses 1 (0 ∷ (3 - length p) ∷ []) }
+
 -- everything that is claimed of this crate
 pub record Claims : Type 0 where
   pub firmness : Firmness
@@ -98,3 +117,4 @@ pub record Claims : Type 0 where
   pub no-marker : NoMarker
   pub walk-shortfall : WalkShortfall
   pub in-pieces : InPieces
+  pub room-needed : RoomNeeded

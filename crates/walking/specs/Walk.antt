@@ -50,6 +50,10 @@ stepAt p at = cond (ltb at (length p)) (stepBy at (readTlv (drop at p))) (gives 
 unfoldable pub walkOf : List ℕ → Walk Tlv
 walkOf p = walkFrom (stepAt p) (length p) (length p) 0
 
+-- the same from an offset on, instead of the start
+unfoldable pub walkOn : List ℕ → ℕ → Walk Tlv
+walkOn p at = walkFrom (stepAt p) (length p) (length p) at
+
 -- Rule W3: the walk's answer, or its refusal.
 abbrev pub counted : Walk Tlv → Answer WalkCount
 counted w = mapped (λ padding. record { count = length (w .items); padding = padding }) (w .end)
