@@ -5,6 +5,7 @@ pub mod Firm
 pub mod First
 pub mod Looking
 pub mod OfWalk
+pub mod Onward
 pub mod Padded
 pub mod Passing
 pub mod Searching

@@ -2,12 +2,13 @@
 use mathlib.Core.Path.{_≡_, refl, sym, ap, _∙_, subst}
 use mathlib.Core.Bool.{Bool, true, false, cond}
 use mathlib.Core.List.{List, [], _∷_, _++_}
+use mathlib.Core.Option.{Option}
 use Prim.Native.Nat.{ℕ, suc, _+_, _<_, _≤_}
 use native.Mathlib.Omega.{arith}
 use lib.ListN.{length, take, drop, getD, length-append, length-drop, take-append-drop}
 use lib.Seq.{take-append-le, drop-append-le, getD-drop}
 use borrow.Author.Tests.{le-leb}
-use Rattle.numbers.specs.Numbers.{Answer, gives, refuses}
+use Rattle.numbers.specs.Numbers.{Answer, gives, refuses, mapped}
 use Rattle.records.specs.declared.Record.{Record}
 use Rattle.kinds.specs.Kinds.{isKind, Typed}
 use Rattle.walking.specs.declared.Tlv.{Tlv}
@@ -16,7 +17,7 @@ use Rattle.walking.specs.Walk.{isMarker, walkOf, noTlv, offsetAt}
 use Rattle.walking.specs.Claims.{Ends}
 use Rattle.walking.proofs.Chained.{of-walk, stands}
 use Rattle.walking.proofs.Marked.{marker-ends}
-use Rattle.finding.specs.Finding.{readsAs, valueOf, thereOr, firstOf, findFrom, findInPayload}
+use Rattle.finding.specs.Finding.{Hit, Sought, readsAs, valueOf, thereOr, firstOf, foundOr, withNext, findFrom, findInPayload}
 use Rattle.finding.proofs.Passing.{first-nil, first-cons}
 
 -- every one of these records lies inside so many bytes
@@ -37,23 +38,30 @@ module _ (code : ℕ) (message other : List ℕ) where
       let l′ = le-leb (t .offset + 3 + t .length) (length message) h in
       rw (v, l, l′)
 
-  first-same : (place : ℕ) (ts : List Tlv) → Inside (length message) ts → firstOf code (message ++ other) place ts ≡ firstOf code message place ts
-  first-same place [] h = first-nil code (message ++ other) place ∙ sym (first-nil code message place)
-  first-same place (t ∷ ts) h =
-      first-cons code (message ++ other) place t ts
-      ∙ ap (λ (x : Answer (Typed Record)). thereOr x place t (firstOf code (message ++ other) (place + 1) ts)) (reads-same t (h 0 (omega arith)))
-      ∙ ap (thereOr (readsAs code message t) place t) (first-same (place + 1) ts (λ i l. h (suc i) (omega arith)))
-      ∙ sym (first-cons code message place t ts)
+  first-same : (before : ℕ) (ts : List Tlv) → Inside (length message) ts → firstOf code (message ++ other) before ts ≡ firstOf code message before ts
+  first-same before [] h = first-nil code (message ++ other) before ∙ sym (first-nil code message before)
+  first-same before (t ∷ ts) h =
+      first-cons code (message ++ other) before t ts
+      ∙ ap (λ (x : Option (Typed Record)). thereOr x (before + 1) t (firstOf code (message ++ other) (before + 1) ts)) (reads-same t (h 0 (omega arith)))
+      ∙ ap (thereOr (readsAs code message t) (before + 1) t) (first-same (before + 1) ts (λ i l. h (suc i) (omega arith)))
+      ∙ sym (first-cons code message before t ts)
 
-  -- the search through a message whose walk has these TLVs
+  -- what is found in a message whose walk has these TLVs
+  abbrev found : ℕ → List Tlv → Answer Hit
+  found from ts = cond (isKind code) (foundOr (firstOf code message from (drop from ts)) (refuses 15 (length ts ∷ []))) (refuses 16 [])
+
   searched : (from : ℕ) (w : Walk Tlv) → walkOf (message ++ other) ≡ w → (padding : ℕ) → w .end ≡ gives padding → Inside (length message) (w .items)
-      → findInPayload code (message ++ other) from ≡ cond (isKind code) (firstOf code message from (drop from (w .items))) (refuses 16 [])
+      → mapped (λ (s : Sought). s .hit) (findInPayload code (message ++ other) from) ≡ found from (w .items)
   unfolding findInPayload findFrom
-  searched from w e padding g h = rw (e, g, first-same from (drop from (w .items)) (inside-drop (length message) from (w .items) h)) (twice (isKind code))
+  searched from w e padding g h = rw (e, g, first-same from (drop from (w .items)) (inside-drop (length message) from (w .items) h)) (by-kind (isKind code) (foundOr (firstOf code message from (drop from (w .items))) (refuses 15 (length (w .items) ∷ []))))
     where
-      twice : (b : Bool) → cond b (cond b (firstOf code message from (drop from (w .items))) (refuses 16 [])) (refuses 16 []) ≡ cond b (firstOf code message from (drop from (w .items))) (refuses 16 [])
-      twice true = refl
-      twice false = refl
+      hits : (x : Answer Hit) → mapped (λ (s : Sought). s .hit) (mapped (withNext (message ++ other)) x) ≡ x
+      hits (gives h) = refl
+      hits (refuses n vs) = refl
+
+      by-kind : (b : Bool) (x : Answer Hit) → mapped (λ (s : Sought). s .hit) (cond b (mapped (withNext (message ++ other)) (cond b x (refuses 16 []))) (refuses 16 [])) ≡ cond b x (refuses 16 [])
+      by-kind true x = hits x
+      by-kind false x = refl
 
 module _ (p : List ℕ) (k : ℕ) (l : k < length (walkOf p .items)) (m : isMarker (getD (walkOf p .items) k noTlv) ≡ true) where
   abbrev ts : List Tlv
@@ -74,10 +82,10 @@ module _ (p : List ℕ) (k : ℕ) (l : k < length (walkOf p .items)) (m : isMark
       let size : length (message ++ []) ≡ length message = omega (arith, length-append message []) in
       subst (λ (us : List Tlv). getD us i noTlv .offset + 3 + getD us i noTlv .length ≤ length message) same (omega arith)
 
-  alone : (other : List ℕ) (code from : ℕ) → findInPayload code (message ++ other) from ≡ cond (isKind code) (firstOf code message from (drop from ts)) (refuses 16 [])
+  alone : (other : List ℕ) (code from : ℕ) → mapped (λ (s : Sought). s .hit) (findInPayload code (message ++ other) from) ≡ found code message other from ts
   alone other code from = searched code message other from _ (ends .not-looked-at other) (length other) refl inside
 
-  pub not-in-padding : (other : List ℕ) (code from : ℕ) → findInPayload code (message ++ other) from ≡ findInPayload code p from
+  pub not-in-padding : (other : List ℕ) (code from : ℕ) → mapped (λ (s : Sought). s .hit) (findInPayload code (message ++ other) from) ≡ mapped (λ (s : Sought). s .hit) (findInPayload code p from)
   not-in-padding other code from =
       alone other code from ∙ sym (alone (drop (offsetAt ts k + 3) p) code from)
-      ∙ ap (λ (q : List ℕ). findInPayload code q from) (take-append-drop (offsetAt ts k + 3) p)
+      ∙ ap (λ (q : List ℕ). mapped (λ (s : Sought). s .hit) (findInPayload code q from)) (take-append-drop (offsetAt ts k + 3) p)

@@ -1,4 +1,4 @@
-// Finding (rules F1 to F4): the first readable record of a kind, in a lent list of TLV records or in a payload.
+// Finding (rules F1 to F5): the first readable record of a kind, in a lent list of TLV records or in a payload.
 use kinds::KindRead;
 use kinds::KindSize;
 use numbers::Refusal;
@@ -10,24 +10,25 @@ ghost use mathlib.Core.Path.{_≡_};
 ghost use mathlib.Core.Bool.{cond, false};
 ghost use lib.Dec.{ltb};
 ghost use Prim.Native.Nat.{ℕ, _+_, _≤_};
-ghost use lib.ListN.{length, drop};
-ghost use Rattle.numbers.specs.Numbers.{gives, told, mapped, isGiven};
-ghost use Rattle.walking.specs.Walk.{walkOf};
-ghost use Rattle.finding.specs.Finding.{foundOf, placedOf, searchedOf, isCandidate, valueOf, readsAs, thereOr, firstOf, findFrom, findInPayload};
-ghost use Rattle.finding.specs.Private.{noneOf, placeOr, hitAt};
+ghost use lib.ListN.{length};
+ghost use Rattle.numbers.specs.Numbers.{gives, told, mapped};
+ghost use Rattle.walking.specs.Walk.{walkOn};
+ghost use Rattle.finding.specs.Finding.{foundOf, placedOf, searchedOf, isCandidate, valueOf, readsAs, isThere, findFrom, findInPayload, findOnward};
+ghost use Rattle.finding.specs.Private.{noneOf, lookedIn, lookedAs, goingOn, spotAs, soughtIn};
 
-// The record that was found, its place in the list, from 0, and what its value reads as: a record, or a number of
+// How many records were looked at, the one that was found included: that is its place in the list counted from 1, and
+// where a search for the next one starts. Then the record, and what its value reads as: a record, or a number of
 // entries (rule F1).
 pub enum Found {
     Record {
-        place: usize,
+        looked: usize,
         tlv: Tlv,
         record: Record,
         consumed: usize,
         rest: usize,
     },
     List {
-        place: usize,
+        looked: usize,
         tlv: Tlv,
         entries: usize,
         consumed: usize,
@@ -36,23 +37,52 @@ pub enum Found {
     Refused(Refusal),
 }
 
-// The place alone of what is found.
+// The number of records looked at, alone: the place of what was found, counted from 1.
 pub enum Placed {
     At(usize),
     Refused(Refusal),
 }
 
-// The same as `Found`, for a payload's TLVs (rule F4). Where a walk refuses the payload, its refusal is returned with
-// the offset of the TLV that failed.
+// The same for a payload's TLVs (rules F4 and F5). `next` is the offset of the TLV after the one that was found, or the
+// payload's end after a marker. Where the walk or a step refuses the payload, its refusal is returned with the offset
+// of the TLV that failed.
 pub enum Searched {
-    Unwalked { refusal: Refusal, at: usize },
-    Answered(Found),
+    Record {
+        looked: usize,
+        next: usize,
+        tlv: Tlv,
+        record: Record,
+        consumed: usize,
+        rest: usize,
+    },
+    List {
+        looked: usize,
+        next: usize,
+        tlv: Tlv,
+        entries: usize,
+        consumed: usize,
+        rest: usize,
+    },
+    Unwalked {
+        refusal: Refusal,
+        at: usize,
+    },
+    Refused(Refusal),
 }
 
-// Where a search through a payload ends: at a readable TLV of the kind, or nowhere.
+// Where a search through a payload ends: at a readable TLV of the kind, after so many TLVs without one, or where a TLV
+// can't be read.
 pub(crate) enum Spot {
-    At { place: usize, tlv: Tlv },
-    Nowhere,
+    At {
+        looked: usize,
+        tlv: Tlv,
+        next: usize,
+    },
+    Nowhere(usize),
+    Fault {
+        refusal: Refusal,
+        at: usize,
+    },
 }
 
 // Has the record the code, and does it lie inside a payload of this size (rule F2)? Its type is looked at first and its
@@ -86,7 +116,7 @@ fn value_in(t: Tlv, payload: &[u8]) -> &[u8]
 // Is the record a readable one of the kind? Its value is only measured here: what it reads as is asked for the record
 // that is found, and for no other.
 fn reads(t: Tlv, payload: &[u8], code: u8) -> bool
-    ensures { λ r. ⌜ r ≡ isGiven (readsAs code (now (payload .entry)) t) ⌝ }
+    ensures { λ r. ⌜ r ≡ isThere (readsAs code (now (payload .entry)) t) ⌝ }
 {
     if is_candidate(t, payload.len(), code) {
         return match kinds::measure(code, value_in(t, payload)) {
@@ -105,30 +135,31 @@ fn reads(t: Tlv, payload: &[u8], code: u8) -> bool
     false
 }
 
-// What is refused where nothing was found: 15, or 16 for a code that no kind has.
-fn nothing(code: u8) -> Refusal
-    ensures { λ r. ⌜ told {A = ℕ} r ≡ noneOf code ⌝ }
+// What is refused where nothing was found among so many records: 15, or 16 for a code that no kind has.
+fn nothing(code: u8, size: usize) -> Refusal
+    ensures { λ r. ⌜ told {A = ℕ} r ≡ noneOf code size ⌝ }
 {
     if kinds::is_kind(code) {
-        return Refusal::NotFound;
+        return Refusal::NotFound(size);
     }
     Refusal::UnknownKind
 }
 
-// What a search says that ended at this place, in a list of this size: the place, if the list has it.
+// What a search says that ended at this place, from 0, in a list of this size: so many were looked at, if the list has
+// the place.
 fn outcome(place: usize, size: usize, code: u8) -> Placed
-    ensures { λ r. ⌜ placedOf r ≡ cond (ltb place size) (gives place) (noneOf code) ⌝ }
+    ensures { λ r. ⌜ placedOf r ≡ cond (ltb place size) (gives (place + 1)) (noneOf code size) ⌝ }
 {
     if place < size {
-        return Placed::At(place);
+        return Placed::At(place + 1);
     }
-    Placed::Refused(nothing(code))
+    Placed::Refused(nothing(code, size))
 }
 
-// The place of the first record of the kind that reads, at place `from` of the list or after it (rule F3). From 0 it is
-// the first of all, and from the place of an answer plus 1 the next one. Nothing in the list has to fit the payload.
+// The first record of the kind that reads, after the first `from` records of the list (rule F3). From 0 it is the first
+// of all, and from the number that an answer gave the next one. Nothing in the list has to fit the payload.
 pub fn find_place(list: &[Tlv], payload: &[u8], code: u8, from: usize) -> Placed
-    ensures { λ r. ⌜ placedOf r ≡ mapped (λ h. h .place) (findFrom code (now (list .entry)) (now (payload .entry)) from) ⌝ }
+    ensures { λ r. ⌜ placedOf r ≡ mapped (λ h. h .looked) (findFrom code (now (list .entry)) (now (payload .entry)) from) ⌝ }
 {
     let mut place = from;
     while place < list.len() {
@@ -141,15 +172,15 @@ pub fn find_place(list: &[Tlv], payload: &[u8], code: u8, from: usize) -> Placed
 }
 
 // The same as `Found`: nothing was found.
-fn none_found(code: u8) -> Found
-    ensures { λ r. ⌜ foundOf r ≡ noneOf code ⌝ }
+fn none_found(code: u8, size: usize) -> Found
+    ensures { λ r. ⌜ foundOf r ≡ noneOf code size ⌝ }
 {
-    Found::Refused(nothing(code))
+    Found::Refused(nothing(code, size))
 }
 
-// What the record at this place reads as, if it is a readable one of the kind.
-fn look(t: Tlv, payload: &[u8], code: u8, place: usize) -> Found
-    ensures { λ r. ⌜ foundOf r ≡ thereOr (readsAs code (now (payload .entry)) t) place t (noneOf code) ⌝ }
+// What this record reads as, if it is a readable one of the kind; it is the last of those that were looked at.
+fn look(t: Tlv, payload: &[u8], code: u8, looked: usize) -> Found
+    ensures { λ r. ⌜ foundOf r ≡ lookedAs (readsAs code (now (payload .entry)) t) looked t ⌝ }
 {
     if is_candidate(t, payload.len(), code) {
         return match kinds::read_kind(code, value_in(t, payload)) {
@@ -158,7 +189,7 @@ fn look(t: Tlv, payload: &[u8], code: u8, place: usize) -> Found
                 consumed,
                 rest,
             } => Found::Record {
-                place,
+                looked,
                 tlv: t,
                 record,
                 consumed,
@@ -169,42 +200,42 @@ fn look(t: Tlv, payload: &[u8], code: u8, place: usize) -> Found
                 consumed,
                 rest,
             } => Found::List {
-                place,
+                looked,
                 tlv: t,
                 entries,
                 consumed,
                 rest,
             },
-            KindRead::Refused(_) => none_found(code),
+            KindRead::Refused(_) => Found::Refused(Refusal::NotFound(looked)),
         };
     }
-    none_found(code)
+    Found::Refused(Refusal::NotFound(looked))
 }
 
-fn place_or(placed: Placed, other: usize) -> usize
-    ensures { λ r. ⌜ r ≡ placeOr other (placedOf placed) ⌝ }
+// The number that an answer says, or 0 where nothing was found.
+fn looked_in(placed: Placed) -> usize
+    ensures { λ r. ⌜ r ≡ lookedIn (placedOf placed) ⌝ }
 {
     match placed {
-        Placed::At(place) => place,
-        Placed::Refused(_) => other,
+        Placed::At(looked) => looked,
+        Placed::Refused(_) => 0,
     }
 }
 
-// The same with the record at that place, and what its value reads as.
+// The same with the record that was found, and what its value reads as.
 pub fn find(list: &[Tlv], payload: &[u8], code: u8, from: usize) -> Found
     ensures { λ r. ⌜ foundOf r ≡ findFrom code (now (list .entry)) (now (payload .entry)) from ⌝ }
 {
-    let placed = find_place(list, payload, code, from);
-    let place = place_or(placed, list.len());
-    if place < list.len() {
-        return look(list[place], payload, code, place);
+    let looked = looked_in(find_place(list, payload, code, from));
+    if 0 < looked {
+        return look(list[looked - 1], payload, code, looked);
     }
-    none_found(code)
+    none_found(code, list.len())
 }
 
-// Is the TLV a readable one of the kind, at `from` or after it?
+// Is the TLV a readable one of the kind, at the place `from` or after it?
 fn is_sought(t: Tlv, payload: &[u8], code: u8, place: usize, from: usize) -> bool
-    ensures { λ r. ⌜ r ≡ cond (ltb place from) false (isGiven (readsAs code (now (payload .entry)) t)) ⌝ }
+    ensures { λ r. ⌜ r ≡ cond (ltb place from) false (isThere (readsAs code (now (payload .entry)) t)) ⌝ }
 {
     if place < from {
         return false;
@@ -212,55 +243,125 @@ fn is_sought(t: Tlv, payload: &[u8], code: u8, place: usize, from: usize) -> boo
     reads(t, payload, code)
 }
 
-// The first readable TLV of the kind among those that a walk of the payload goes over, from number `from` on. The
-// marker is looked at like any other, and nothing after it (rule F4).
-fn search(payload: &[u8], code: u8, from: usize) -> Spot
-    ensures { λ r. ⌜ hitAt code (now (payload .entry)) r ≡ firstOf code (now (payload .entry)) from (drop from (walkOf (now (payload .entry)) .items)) ⌝ }
+// The first readable TLV of the kind among those that a walk goes over from an offset on, in front of which stand as
+// many TLVs as `before` says; those before the place `from` are passed over. The marker is looked at like any other,
+// and nothing after it (rule F4).
+fn search(payload: &[u8], code: u8, offset: usize, before: usize, from: usize) -> Spot
+    requires { ⌜ before ≤ offset ⌝ }
+    ensures { λ r. ⌜ spotAs code (now (payload .entry)) r ≡ soughtIn code (now (payload .entry)) from before (walkOn (now (payload .entry)) offset) ⌝ }
 {
-    let mut at = 0;
-    let mut place = 0;
+    let mut at = offset;
+    let mut looked = before;
     loop {
         match walking::step(payload, at) {
             Stepped::End => {
-                return Spot::Nowhere;
+                return Spot::Nowhere(looked);
             }
             Stepped::Tlv { tlv, next } => {
-                if is_sought(tlv, payload, code, place, from) {
-                    return Spot::At { place, tlv };
+                let sought = is_sought(tlv, payload, code, looked, from);
+                looked += 1;
+                if sought {
+                    return Spot::At { looked, tlv, next };
                 }
                 at = next;
-                place += 1;
             }
             Stepped::Last { tlv, end: _ } => {
-                if is_sought(tlv, payload, code, place, from) {
-                    return Spot::At { place, tlv };
+                let sought = is_sought(tlv, payload, code, looked, from);
+                looked += 1;
+                if sought {
+                    let next = payload.len();
+                    return Spot::At { looked, tlv, next };
                 }
-                return Spot::Nowhere;
+                return Spot::Nowhere(looked);
             }
-            Stepped::Refused { refusal: _, at: _ } => {
-                return Spot::Nowhere;
+            Stepped::Refused { refusal, at } => {
+                return Spot::Fault { refusal, at };
             }
         }
     }
 }
 
-// The same without a list (rule F4): the first readable TLV of the kind in a payload. It has a number among the
-// payload's TLVs, from 0; the search starts at `from`.
+// What was found, with the offset of the TLV after it.
+fn with_next(found: Found, next: usize) -> Searched
+    ensures { λ r. ⌜ searchedOf r ≡ mapped (goingOn next) (foundOf found) ⌝ }
+{
+    match found {
+        Found::Record {
+            looked,
+            tlv,
+            record,
+            consumed,
+            rest,
+        } => Searched::Record {
+            looked,
+            next,
+            tlv,
+            record,
+            consumed,
+            rest,
+        },
+        Found::List {
+            looked,
+            tlv,
+            entries,
+            consumed,
+            rest,
+        } => Searched::List {
+            looked,
+            next,
+            tlv,
+            entries,
+            consumed,
+            rest,
+        },
+        Found::Refused(refusal) => Searched::Refused(refusal),
+    }
+}
+
+// What such a search answers.
+fn search_on(payload: &[u8], code: u8, offset: usize, before: usize, from: usize) -> Searched
+    requires { ⌜ before ≤ offset ⌝ }
+    ensures { λ r. ⌜ searchedOf r ≡ soughtIn code (now (payload .entry)) from before (walkOn (now (payload .entry)) offset) ⌝ }
+{
+    match search(payload, code, offset, before, from) {
+        Spot::At { looked, tlv, next } => with_next(look(tlv, payload, code, looked), next),
+        Spot::Nowhere(looked) => Searched::Refused(Refusal::NotFound(looked)),
+        Spot::Fault { refusal, at } => Searched::Unwalked { refusal, at },
+    }
+}
+
+// The same without a list (rule F4): the first readable TLV of the kind in a payload, after its first `from` TLVs. The
+// whole payload is walked first.
 pub fn find_in_payload(payload: &[u8], code: u8, from: usize) -> Searched
     ensures { λ r. ⌜ searchedOf r ≡ findInPayload code (now (payload .entry)) from ⌝ }
 {
     if kinds::is_kind(code) {
-        match walking::walk(payload) {
+        return match walking::walk(payload) {
             Walked::Count {
                 count: _,
                 padding: _,
-            } => match search(payload, code, from) {
-                Spot::At { place, tlv } => Searched::Answered(look(tlv, payload, code, place)),
-                Spot::Nowhere => Searched::Answered(none_found(code)),
-            },
+            } => search_on(payload, code, 0, 0, from),
             Walked::Refused { refusal, at } => Searched::Unwalked { refusal, at },
-        }
-    } else {
-        Searched::Answered(none_found(code))
+        };
     }
+    Searched::Refused(Refusal::UnknownKind)
+}
+
+fn least(a: usize, b: usize) -> usize
+    ensures { λ r. ⌜ r ≡ cond (ltb a b) a b ⌝ }
+{
+    if a < b { a } else { b }
+}
+
+// Goes on from an answer, by its `next` and its `looked` (rule F5): the next readable TLV of the kind. It steps on from
+// that offset, so that finding all TLVs of a kind costs one walk and one look at each. A caller may name any numbers.
+// No more TLVs than bytes stand in front of an offset, so a greater number counts as the offset, and none is too great
+// to count on from.
+pub fn find_onward(payload: &[u8], code: u8, offset: usize, looked: usize) -> Searched
+    ensures { λ r. ⌜ searchedOf r ≡ findOnward code (now (payload .entry)) offset looked ⌝ }
+{
+    if kinds::is_kind(code) {
+        return search_on(payload, code, offset, least(looked, offset), 0);
+    }
+    Searched::Refused(Refusal::UnknownKind)
 }

@@ -1,9 +1,10 @@
 -- `finding::find` meets its contract: a walk of its MIR, by hand: a call of `find_place`, to which copies of the two
--- shared slices go; one of `place_or`; and where the place lies in the list, one of `look` at the record there, else
--- one of `none_found`.
+-- shared slices go; one of `looked_in`; and where that is not 0, one of `look` at the record before it, else one of
+-- `none_found`.
 -- Assumes nothing.
 use mathlib.Core.Path.{_≡_, refl, sym, _∙_, ap, subst}
-use Prim.Native.Nat.{ℕ, _<_, _^_}
+use Prim.Native.Nat.{ℕ, _-_, _<_, _^_}
+use native.Mathlib.Omega.{arith}
 use mathlib.Core.List.{List, [], _∷_}
 use lib.Dec.{T as Holds, ltb→lt, nltb→le}
 use lib.ListN.{length, getD}
@@ -50,23 +51,23 @@ use Rattle.walking.proofs.Tlv as T
 use Rattle.walking.proofs.Tlv.Laws as T′
 use Rattle.walking.proofs.Elem.{R, mach, vals, tells, copies, makes, scaled}
 use Rattle.walking.proofs.Body.{tyOf}
-use Rattle.finding.specs.Finding.{foundOf, placedOf, readsAs, thereOr, findFrom}
-use Rattle.finding.specs.Private.{noneOf, placeOr}
+use Rattle.finding.specs.Finding.{foundOf, placedOf, readsAs, findFrom}
+use Rattle.finding.specs.Private.{noneOf, lookedIn, lookedAs}
 use Rattle.finding.specs.declared.Found.{Found}
 use Rattle.finding.specs.declared.Placed.{Placed}
 use Rattle.finding.proofs.Found as S
 use Rattle.finding.proofs.Found.Laws as S′
 use Rattle.finding.proofs.Placed as P
 use Rattle.finding.proofs.Placed.Laws as P′
-use Rattle.finding.proofs.There.{there, not-there}
+use Rattle.finding.proofs.There.{inside, there, not-there}
 use Rattle.finding.proofs.find_place as place
 use Rattle.finding.proofs.find_place.Symbol as place-def
 use Rattle.finding.proofs.find_place.Symbol.{name as #place}
 use Rattle.finding.proofs.find_place.Met as place-thm
-use Rattle.finding.proofs.place_or as number
-use Rattle.finding.proofs.place_or.Symbol as number-def
-use Rattle.finding.proofs.place_or.Symbol.{name as #number}
-use Rattle.finding.proofs.place_or.Met as number-thm
+use Rattle.finding.proofs.looked_in as number
+use Rattle.finding.proofs.looked_in.Symbol as number-def
+use Rattle.finding.proofs.looked_in.Symbol.{name as #number}
+use Rattle.finding.proofs.looked_in.Met as number-thm
 use Rattle.finding.proofs.look as one
 use Rattle.finding.proofs.look.Symbol as one-def
 use Rattle.finding.proofs.look.Symbol.{name as #one}
@@ -154,40 +155,41 @@ module _ {M : Type 1} (𝓤 : URA M) (H : Heap 𝓤) (A : Atoms 𝓤) (W : Given
       move ! (3 ∷ 0 ∷ []) $ fjoin ! $ move ! (2 ∷ 0 ∷ []) $ fjoin ! $ move ! (1 ∷ 0 ∷ []) $ join ! $ frame ! $ done !
 
   abbrev Places : Placed → Type 0
-  Places z = placedOf z ≡ mapped (λ h. h .place) (findFrom kind ys (now pay) i₀)
+  Places z = placedOf z ≡ mapped (λ h. h .looked) (findFrom kind ys (now pay) i₀)
 
   said-place : (z : Placed) → ent 𝓤 (ensured 𝓤 H A place.ended (place.clauses 𝓤 H A mem run) κs x tt z) (fact 𝓤 (Places z))
   said-place z = exE 𝓤 _ (λ ws. snd∗ 𝓤 (sem 𝓤 H A (lasts place.ended κs x ws)) (fact 𝓤 (Places z)))
 
-  -- the call of `place_or` at an answer z
+  -- the call of `looked_in` at an answer z
   module _ (z : Placed) (u : Val) (is : Is P.the-row z (u ∷ [])) where
     abbrev to-number : NumberC 𝓤 H A mem run .Ghost
-    to-number = ((tt, tt, tt, (z, (n, tt)), (u ∷ [], (vint w64 n ∷ [], tt))), tt)
+    to-number = ((tt, tt, tt, (z, tt), (u ∷ [], tt)), tt)
 
-    asked-number : n < 2 ^ 64 → ent 𝓤 (⋆ 𝓤 H A []) (NumberC 𝓤 H A mem run .pre to-number)
-    asked-number gn =
-        qed W [] ∵ nothing ! $ owned ! usize (Is usize) (uint-makes 𝓤 H A W w64) n _ (refl, gn) $ fjoin ! $ owned ! P.the-row (Is P.the-row) (EL.makes P.the-type P′.the-plain 𝓤 H A) z _ is $ fjoin ! $ nothing ! $ join ! $ frame ! $ done !
+    asked-number : ent 𝓤 (⋆ 𝓤 H A []) (NumberC 𝓤 H A mem run .pre to-number)
+    asked-number =
+        qed W [] ∵ nothing ! $ owned ! P.the-row (Is P.the-row) (EL.makes P.the-type P′.the-plain 𝓤 H A) z _ is $ fjoin ! $ nothing ! $ join ! $ frame ! $ done !
 
     abbrev Numbers : ℕ → Type 0
-    Numbers i = i ≡ placeOr n (placedOf z)
+    Numbers i = i ≡ lookedIn (placedOf z)
 
-    said-number : (i : ℕ) → ent 𝓤 (ensured 𝓤 H A number.ended (number.clauses 𝓤 H A mem run) tt (z, (n, tt)) tt i) (fact 𝓤 (Numbers i))
-    said-number i = exE 𝓤 _ (λ ws. snd∗ 𝓤 (sem 𝓤 H A (lasts number.ended tt (z, (n, tt)) ws)) (fact 𝓤 (Numbers i)))
+    said-number : (i : ℕ) → ent 𝓤 (ensured 𝓤 H A number.ended (number.clauses 𝓤 H A mem run) tt (z, tt) tt i) (fact 𝓤 (Numbers i))
+    said-number i = exE 𝓤 _ (λ ws. snd∗ 𝓤 (sem 𝓤 H A (lasts number.ended tt (z, tt) ws)) (fact 𝓤 (Numbers i)))
 
   -- the call of `none_found`
   abbrev to-none : NoneC 𝓤 H A mem run .Ghost
-  to-none = ((tt, tt, tt, (kind, tt), (vint w8 kind ∷ [], tt)), tt)
+  to-none = ((tt, tt, tt, (kind, (n, tt)), (vint w8 kind ∷ [], (vint w64 n ∷ [], tt))), tt)
 
-  asked-none : ent 𝓤 (⋆ 𝓤 H A []) (NoneC 𝓤 H A mem run .pre to-none)
-  asked-none = qed W [] ∵ nothing ! $ owned ! u8 (Is u8) (uint-makes 𝓤 H A W w8) kind _ (refl, gk) $ fjoin ! $ nothing ! $ join ! $ frame ! $ done !
+  asked-none : n < 2 ^ 64 → ent 𝓤 (⋆ 𝓤 H A []) (NoneC 𝓤 H A mem run .pre to-none)
+  asked-none gn =
+      qed W [] ∵ nothing ! $ owned ! usize (Is usize) (uint-makes 𝓤 H A W w64) n _ (refl, gn) $ fjoin ! $ owned ! u8 (Is u8) (uint-makes 𝓤 H A W w8) kind _ (refl, gk) $ fjoin ! $ nothing ! $ join ! $ frame ! $ done !
 
   abbrev NoneIs : Found → Type 0
-  NoneIs r = foundOf r ≡ noneOf kind
+  NoneIs r = foundOf r ≡ noneOf kind n
 
-  said-none : (r : Found) → ent 𝓤 (ensured 𝓤 H A none.ended (none.clauses 𝓤 H A mem run) tt (kind, tt) tt r) (fact 𝓤 (NoneIs r))
-  said-none r = exE 𝓤 _ (λ ws. snd∗ 𝓤 (sem 𝓤 H A (lasts none.ended tt (kind, tt) ws)) (fact 𝓤 (NoneIs r)))
+  said-none : (r : Found) → ent 𝓤 (ensured 𝓤 H A none.ended (none.clauses 𝓤 H A mem run) tt (kind, (n, tt)) tt r) (fact 𝓤 (NoneIs r))
+  said-none r = exE 𝓤 _ (λ ws. snd∗ 𝓤 (sem 𝓤 H A (lasts none.ended tt (kind, (n, tt)) ws)) (fact 𝓤 (NoneIs r)))
 
-  -- the call of `look` at a record t, whose place is i
+  -- the call of `look` at a record t, the last of i that were looked at
   module _ (t : Tlv) (i : ℕ) where
     abbrev to-one : OneC 𝓤 H A mem run .Ghost
     to-one = (((κ′, tt), (q′, tt), tt, (t, (pay, (kind, (i, tt)))), (mach t ∷ [], (sp ∷ [], (vint w8 kind ∷ [], (vint w64 i ∷ [], tt))))), tt)
@@ -199,84 +201,87 @@ module _ {M : Type 1} (𝓤 : URA M) (H : Heap 𝓤) (A : Atoms 𝓤) (W : Given
         owned ! R (Is R) (makes 𝓤 H A) t _ gt $ fjoin ! $ move ! (1 ∷ 0 ∷ []) $ join ! $ frame ! $ done !
 
     abbrev OneIs : Found → Type 0
-    OneIs r = foundOf r ≡ thereOr (readsAs kind (now pay) t) i t (noneOf kind)
+    OneIs r = foundOf r ≡ lookedAs (readsAs kind (now pay) t) i t
 
     said-one : (r : Found) → ent 𝓤 (ensured 𝓤 H A one.ended (one.clauses 𝓤 H A mem run) (κ′, tt) (t, (pay, (kind, (i, tt)))) tt r) (fact 𝓤 (OneIs r))
     said-one r = exE 𝓤 _ (λ ws. snd∗ 𝓤 (sem 𝓤 H A (lasts one.ended (κ′, tt) (t, (pay, (kind, (i, tt)))) ws)) (fact 𝓤 (OneIs r)))
 
   module _ (𝓣 : Tables 𝓤 H) (known : Triple 𝓤 (𝓣 .C #place) (PlaceC 𝓤 H A mem run)) (known′ : Triple 𝓤 (𝓣 .C #number) (NumberC 𝓤 H A mem run)) (known″ : Triple 𝓤 (𝓣 .C #one) (OneC 𝓤 H A mem run)) (known‴ : Triple 𝓤 (𝓣 .C #none) (NoneC 𝓤 H A mem run)) where
-    abbrev E : (l₀ l₁ l₂ l₃ l₄ l₅ l₆ l₇ l₈ l₉ l₁₀ l₁₁ : ℕ) → Env 𝓤 H
-    E l₀ l₁ l₂ l₃ l₄ l₅ l₆ l₇ l₈ l₉ l₁₀ l₁₁ = (ty 0, l₀) ∷ (ty 1, l₁) ∷ (ty 2, l₂) ∷ (ty 3, l₃) ∷ (ty 4, l₄) ∷ (ty 5, l₅) ∷ (ty 6, l₆) ∷ (ty 7, l₇) ∷ (ty 8, l₈) ∷ (ty 9, l₉) ∷ (ty 10, l₁₀) ∷ (ty 11, l₁₁) ∷ []
+    abbrev E : (l₀ l₁ l₂ l₃ l₄ l₅ l₆ l₇ l₈ l₉ l₁₀ l₁₁ l₁₂ : ℕ) → Env 𝓤 H
+    E l₀ l₁ l₂ l₃ l₄ l₅ l₆ l₇ l₈ l₉ l₁₀ l₁₁ l₁₂ = (ty 0, l₀) ∷ (ty 1, l₁) ∷ (ty 2, l₂) ∷ (ty 3, l₃) ∷ (ty 4, l₄) ∷ (ty 5, l₅) ∷ (ty 6, l₆) ∷ (ty 7, l₇) ∷ (ty 8, l₈) ∷ (ty 9, l₉) ∷ (ty 10, l₁₀) ∷ (ty 11, l₁₁) ∷ (ty 12, l₁₂) ∷ []
 
     walk : Room R n → Room u8 (length (pay .now)) → ent 𝓤 (onEntry 𝓤 H A f.signature κs (q, (q′, tt)) x at) (WpFn 𝓤 H (𝓣 .C) (𝓣 .Λ) code.function (s ∷ sp ∷ vint w8 kind ∷ vint w64 i₀ ∷ []) Post)
     walk gn gp =
         qed W ((‵ (flft κ q) ⊛ (‵ (flft κ′ q′) ⊛ ‵ ftrue)) ∷ ‵ (owns (ShrSlice (named 0) κ R ∷ ShrSlice (named 1) κ′ u8 ∷ u8 ∷ usize ∷ []) x at) ∷ []) ∵ enter ! (𝓣 .C) (𝓣 .Λ) code.function (s ∷ sp ∷ vint w8 kind ∷ vint w64 i₀ ∷ []) _ $
-        alloc1 ! (λ l₀. alloc1 ! (λ l₁. alloc1 ! (λ l₂. alloc1 ! (λ l₃. alloc1 ! (λ l₄. alloc1 ! (λ l₅. alloc1 ! (λ l₆. alloc1 ! (λ l₇. alloc1 ! (λ l₈. alloc1 ! (λ l₉. alloc1 ! (λ l₁₀. alloc1 ! (λ l₁₁. alloc0 ! $ params1 ! $
-        pass1 ! (init ! 20 refl (tt, (tt, (record { fits = gn .0 }, tt)))) $ pass1 ! (init ! 18 refl (tt, (tt, (record { fits = gp .0 }, tt)))) $ pass1 ! (init ! 16 refl (tt, record { fits = gk })) $ pass1 ! (init ! 14 refl (tt, record { fits = gf })) $ pass0 ! $
-        move ! (25 ∷ []) $ fsplit ! $ move ! (1 ∷ []) $ fsplit ! $ move ! (27 ∷ []) $ split ! $ move ! (1 ∷ []) $ split ! $
-        -- [token′; true; token; payload; the numbers'; list; _11 (6); …]
-        keep ! (3 ∷ 0 ∷ 2 ∷ 5 ∷ 6 ∷ 7 ∷ 8 ∷ 9 ∷ 10 ∷ 11 ∷ 12 ∷ 13 ∷ 14 ∷ 15 ∷ 16 ∷ 17 ∷ 18 ∷ 19 ∷ 20 ∷ 21 ∷ 22 ∷ 23 ∷ 24 ∷ 25 ∷ 26 ∷ 27 ∷ 28 ∷ 29 ∷ []) $
+        alloc1 ! (λ l₀. alloc1 ! (λ l₁. alloc1 ! (λ l₂. alloc1 ! (λ l₃. alloc1 ! (λ l₄. alloc1 ! (λ l₅. alloc1 ! (λ l₆. alloc1 ! (λ l₇. alloc1 ! (λ l₈. alloc1 ! (λ l₉. alloc1 ! (λ l₁₀. alloc1 ! (λ l₁₁. alloc1 ! (λ l₁₂. alloc0 ! $ params1 ! $
+        pass1 ! (init ! 22 refl (tt, (tt, (record { fits = gn .0 }, tt)))) $ pass1 ! (init ! 20 refl (tt, (tt, (record { fits = gp .0 }, tt)))) $ pass1 ! (init ! 18 refl (tt, record { fits = gk })) $ pass1 ! (init ! 16 refl (tt, record { fits = gf })) $ pass0 ! $
+        move ! (27 ∷ []) $ fsplit ! $ move ! (1 ∷ []) $ fsplit ! $ move ! (29 ∷ []) $ split ! $ move ! (1 ∷ []) $ split ! $
+        -- [token′; true; token; payload; the numbers'; list; _12 (6); …]
+        keep ! (3 ∷ 0 ∷ 2 ∷ 5 ∷ 6 ∷ 7 ∷ 8 ∷ 9 ∷ 10 ∷ 11 ∷ 12 ∷ 13 ∷ 14 ∷ 15 ∷ 16 ∷ 17 ∷ 18 ∷ 19 ∷ 20 ∷ 21 ∷ 22 ∷ 23 ∷ 24 ∷ 25 ∷ 26 ∷ 27 ∷ 28 ∷ 29 ∷ 30 ∷ 31 ∷ []) $
         use1 W (‵ Pay ⊛ ‵ Pay) (shr-slice-copy 𝓤 H A W (named 1) κ′ u8 .twice pay (sp ∷ [])) $ split ! $ move ! (4 ∷ []) $
         use1 W (‵ Own ⊛ ‵ Own) (shr-slice-copy 𝓤 H A W (named 0) κ R .twice list (s ∷ [])) $ split ! $
-        -- [list; list; payload; payload; token′; token; _11 (6); …]
+        -- [list; list; payload; payload; token′; token; _12 (6); …]
         move ! (5 ∷ 4 ∷ 0 ∷ 2 ∷ []) $ join ! $ use3 W (raw (PlaceC 𝓤 H A mem run .pre to-place)) asked-place $
-        -- [pre; list; payload; _11 (3); _10 (5); _9 (7); _8 (9); _7 (11); _6 (13); _5 (15); _4 (17); _3 (19); _2 (21);
-        -- _1 (23); _0 (25); …]
-        calls-at ! (fmOf 𝓤 H (W .laws) 𝓣) (PlaceC 𝓤 H A mem run) known to-place (and-then ! (load ! (from ! (stop !)) (look ! 23 refl)) (and-then ! (load ! (from ! (stop !)) (look ! 21 refl)) (and-then ! (load ! (from ! (stop !)) (look ! 19 refl)) (and-then ! (load ! (from ! (stop !)) (look ! 17 refl)) (no-more !))))) (λ u.
+        -- [pre; list; payload; _12 (3); _11 (5); _10 (7); _9 (9); _8 (11); _7 (13); _6 (15); _5 (17); _4 (19); _3 (21);
+        -- _2 (23); _1 (25); _0 (27); …]
+        calls-at ! (fmOf 𝓤 H (W .laws) 𝓣) (PlaceC 𝓤 H A mem run) known to-place (and-then ! (load ! (from ! (stop !)) (look ! 25 refl)) (and-then ! (load ! (from ! (stop !)) (look ! 23 refl)) (and-then ! (load ! (from ! (stop !)) (look ! 21 refl)) (and-then ! (load ! (from ! (stop !)) (look ! 19 refl)) (no-more !))))) (λ u.
         use1 W (later (some (λ (z : Placed). ((‵ (flft κ q) ⊛ (‵ (flft κ′ q′) ⊛ ‵ ftrue)) ⊛ ‵ (P.the-row .own z (u ∷ []))) ⊛ raw (ensured 𝓤 H A place.ended (place.clauses 𝓤 H A mem run) κs x tt z)))) (id⊢ 𝓤 _) $ await ! tt $ pick ! (λ z.
         split ! $ move ! (1 ∷ []) $ use1 W (raw (fact 𝓤 (Places z))) (said-place z) $ heard ! (Places z) (λ e. split ! $ move ! (1 ∷ []) $
         peeks ! P.the-row (Is P.the-row) (shows 𝓤 H A P.the-row) z (u ∷ []) (λ is.
+        -- [the answer; the tokens; list; payload; _12 (4); …; _6 (16); …]
         land ! (from ! (stop !)) (init ! 16 refl (EL.lawful P.the-type P′.the-laws 𝓤 H A W tt .typed z _ is .0)) $ drop ! $
-        -- [the tokens; list; payload; _11 (3); …]
-        assigns ! (of-opd ! (load ! (from ! (fld ! refl (stop !))) (look-in ! 23 (sub ! 1 refl (whole !))))) (from ! (stop !)) (init ! 11 refl (tt, record { fits = gn .0 })) $
-        use0 W (raw (NumberC 𝓤 H A mem run .pre (to-number z u is))) (asked-number z u is (gn .0)) $
-        calls-at ! (fmOf 𝓤 H (W .laws) 𝓣) (NumberC 𝓤 H A mem run) known′ (to-number z u is) (and-then ! (load ! (from ! (stop !)) (look ! 16 refl)) (and-then ! (load ! (from ! (stop !)) (look ! 12 refl)) (no-more !))) (λ v.
-        use1 W (later (some (λ (i : ℕ). (‵ ftrue ⊛ ‵ (usize .own i (v ∷ []))) ⊛ raw (ensured 𝓤 H A number.ended (number.clauses 𝓤 H A mem run) tt (z, (n, tt)) tt i)))) (id⊢ 𝓤 _) $ await ! tt $ pick ! (λ i.
+        -- [the tokens; list; payload; _12 (3); …; _6 (15); _5 (17); …]
+        use0 W (raw (NumberC 𝓤 H A mem run .pre (to-number z u is))) (asked-number z u is) $
+        calls-at ! (fmOf 𝓤 H (W .laws) 𝓣) (NumberC 𝓤 H A mem run) known′ (to-number z u is) (and-then ! (load ! (from ! (stop !)) (look ! 16 refl)) (no-more !)) (λ v.
+        use1 W (later (some (λ (i : ℕ). (‵ ftrue ⊛ ‵ (usize .own i (v ∷ []))) ⊛ raw (ensured 𝓤 H A number.ended (number.clauses 𝓤 H A mem run) tt (z, tt) tt i)))) (id⊢ 𝓤 _) $ await ! tt $ pick ! (λ i.
         split ! $ move ! (1 ∷ []) $ use1 W (raw (fact 𝓤 (Numbers z u is i))) (said-number z u is i) $ heard ! (Numbers z u is i) (λ e′. split ! $ move ! (1 ∷ []) $
         peeks ! usize (Is usize) (shows 𝓤 H A usize) i (v ∷ []) (λ is′.
-        land ! (from ! (stop !)) (init ! 15 refl (subst (λ (w : Val). Holds (hasTy (tyInt w64) w) × WT w) (sym (ap only (is′ .0))) (tt, record { fits = is′ .1 }))) $ drop ! $ drop ! $
-        rewrite ! 13 (λ (w : Val). ‵ (fat fullShare (tyInt w64) l₆ 0 w)) (ap only (is′ .0)) refl $
-        assigns ! (of-opd ! (load ! (from ! (fld ! refl (stop !))) (look-in ! 23 (sub ! 1 refl (whole !))))) (from ! (stop !)) (store ! 11 refl (tt, record { fits = gn .0 })) $
-        assigns ! (bin ! (load ! (from ! (stop !)) (look ! 13 refl)) (load ! (from ! (stop !)) (look ! 11 refl)) tt) (from ! (stop !)) (init ! 9 refl (tt, tt)) $
-        first ! $ branches ! (load ! (from ! (stop !)) (look ! 9 refl))
-        (λ lt. let l : i < n = ltb→lt i n lt in
-        let t : Tlv = getD ys i noTlv in
-        assigns ! (bin ! (load ! (from ! (stop !)) (look ! 13 refl)) (lit ! tt) (record { fits = scaled i n gn l })) (from ! (stop !)) (init ! 7 refl (tt, record { fits = scaled i n gn l })) $
-        assigns ! (bin ! (load ! (from ! (fld ! refl (stop !))) (look-in ! 23 (sub ! 0 refl (whole !)))) (load ! (from ! (stop !)) (look ! 7 refl)) tt) (from ! (stop !)) (init ! 5 refl (tt, tt)) $
-        rewrite ! 5 (λ (m : ℕ). ‵ (fat fullShare tyPtr l₁₀ 0 (vptr b m))) (sym (place-is 16 o i)) refl $
+        -- [the number; true; the tokens; list; payload; _12 (5); …; _5 (19); …]
+        land ! (from ! (stop !)) (init ! 19 refl (subst (λ (w : Val). Holds (hasTy (tyInt w64) w) × WT w) (sym (ap only (is′ .0))) (tt, record { fits = is′ .1 }))) $ drop ! $ drop ! $
+        -- [the tokens; list; payload; _12 (3); …; _7 (13); _6 (15); _5 (17); …]
+        rewrite ! 17 (λ (w : Val). ‵ (fat fullShare (tyInt w64) l₅ 0 w)) (ap only (is′ .0)) refl $
+        assigns ! (bin ! (lit ! tt) (load ! (from ! (stop !)) (look ! 17 refl)) tt) (from ! (stop !)) (init ! 13 refl (tt, tt)) $
+        first ! $ branches ! (load ! (from ! (stop !)) (look ! 13 refl))
+        (λ lt. let some-looked : 0 < i = ltb→lt 0 i lt in
+        let l : i - 1 < n = inside kind (now pay) ys i₀ (placedOf z) i e e′ some-looked in
+        let t : Tlv = getD ys (i - 1) noTlv in
+        assigns ! (bin ! (load ! (from ! (stop !)) (look ! 17 refl)) (lit ! tt) (omega (arith, some-looked))) (from ! (stop !)) (init ! 11 refl (tt, record { fits = omega (arith, is′ .1) })) $
+        assigns ! (bin ! (load ! (from ! (stop !)) (look ! 11 refl)) (lit ! tt) (record { fits = scaled (i - 1) n gn l })) (from ! (stop !)) (init ! 9 refl (tt, record { fits = scaled (i - 1) n gn l })) $
+        assigns ! (bin ! (load ! (from ! (fld ! refl (stop !))) (look-in ! 25 (sub ! 0 refl (whole !)))) (load ! (from ! (stop !)) (look ! 9 refl)) tt) (from ! (stop !)) (init ! 7 refl (tt, tt)) $
+        rewrite ! 7 (λ (m : ℕ). ‵ (fat fullShare tyPtr l₁₀ 0 (vptr b m))) (sym (place-is 16 o (i - 1))) refl $
         split ! $ move ! (1 ∷ []) $ split ! $ move ! (3 ∷ []) $ fsplit ! $ drop ! $ fsplit ! $
-        -- [res; the borrow; token′; true; token; payload; _11 (6); _10 (8); …]
+        -- [res; the borrow; token′; true; token; payload; _12 (6); _11 (8); …]
         move ! (1 ∷ 4 ∷ []) $
-        looks-slice ! tt R (Is R) (shows 𝓤 H A R) vals tells (copies 𝓤 H A W) ys b o (λ q″. elem-out ! R (Is R) (shows 𝓤 H A R) vals tells q″ ys i noTlv b o l (λ g.
-        -- [list[i]; what it owns; the others; what shuts; the borrow; res; token′; true; payload; _11 (9); _10 (11); …]
-        assigns ! (of-opd ! (load ! (from ! (hop ! (look ! 11 refl) (stop !))) (look-raw ! 0 refl))) (from ! (stop !)) (init ! 9 refl (LL.lawful T.the-type T′.the-laws 𝓤 H A W .typed t (mach t ∷ []) g .0)) $
-        elem-back ! R q″ ys i noTlv (vals t) b o l $ shuts-slice ! tt R q″ ys b o $
-        -- [token; the borrow; res; token′; true; payload; _11 (6); …]
+        looks-slice ! tt R (Is R) (shows 𝓤 H A R) vals tells (copies 𝓤 H A W) ys b o (λ q″. elem-out ! R (Is R) (shows 𝓤 H A R) vals tells q″ ys (i - 1) noTlv b o l (λ g.
+        -- [list[i - 1]; what it owns; the others; what shuts; the borrow; res; token′; true; payload; _12 (9); _11 (11);
+        -- _10 (13); …]
+        assigns ! (of-opd ! (load ! (from ! (hop ! (look ! 13 refl) (stop !))) (look-raw ! 0 refl))) (from ! (stop !)) (init ! 11 refl (LL.lawful T.the-type T′.the-laws 𝓤 H A W .typed t (mach t ∷ []) g .0)) $
+        elem-back ! R q″ ys (i - 1) noTlv (vals t) b o l $ shuts-slice ! tt R q″ ys b o $
+        -- [token; the borrow; res; token′; true; payload; _12 (6); …]
         move ! (3 ∷ 5 ∷ []) $ use2 W (raw (OneC 𝓤 H A mem run .pre (to-one t i))) (asked-one t i g (is′ .1)) $
-        -- [pre; token; the borrow; res; true; _11 (5); …]
-        calls-at ! (fmOf 𝓤 H (W .laws) 𝓣) (OneC 𝓤 H A mem run) known″ (to-one t i) (and-then ! (load ! (from ! (stop !)) (look ! 5 refl)) (and-then ! (load ! (from ! (stop !)) (look ! 23 refl)) (and-then ! (load ! (from ! (stop !)) (look ! 21 refl)) (and-then ! (load ! (from ! (stop !)) (look ! 15 refl)) (no-more !))))) (λ w.
+        -- [pre; token; the borrow; res; true; _12 (5); _11 (7); …; _5 (19); _4 (21); _3 (23); _2 (25); …]
+        calls-at ! (fmOf 𝓤 H (W .laws) 𝓣) (OneC 𝓤 H A mem run) known″ (to-one t i) (and-then ! (load ! (from ! (stop !)) (look ! 7 refl)) (and-then ! (load ! (from ! (stop !)) (look ! 25 refl)) (and-then ! (load ! (from ! (stop !)) (look ! 23 refl)) (and-then ! (load ! (from ! (stop !)) (look ! 19 refl)) (no-more !))))) (λ w.
         use1 W (later (some (λ (r : Found). ((‵ (flft κ′ q′) ⊛ ‵ ftrue) ⊛ ‵ (S.the-row .own r (w ∷ []))) ⊛ raw (ensured 𝓤 H A one.ended (one.clauses 𝓤 H A mem run) (κ′, tt) (t, (pay, (kind, (i, tt)))) tt r)))) (id⊢ 𝓤 _) $ await ! tt $ pick ! (λ r.
         split ! $ move ! (1 ∷ []) $ use1 W (raw (fact 𝓤 (OneIs t i r))) (said-one t i r) $ heard ! (OneIs t i r) (λ e″. split ! $ move ! (1 ∷ []) $
         peeks ! S.the-row (Is S.the-row) (shows 𝓤 H A S.the-row) r (w ∷ []) (λ is″.
-        -- [the result; token′ and true; token; the borrow; res; true; _11 (6); …; _0 (28); …]
-        land ! (from ! (stop !)) (init ! 28 refl (EL.lawful S.the-type S′.the-laws 𝓤 H A W tt .typed r _ is″ .0)) $
-        returns-within ! Post refl (look ! 28 refl) $ forget ! 6 refl $ forget ! 8 refl $ forget ! 10 refl $ forget ! 12 refl $ forget ! 14 refl $ forget ! 16 refl $ forget ! 18 refl $ forget ! 20 refl $ forget ! 22 refl $ forget ! 24 refl $ forget ! 26 refl $ forget ! 28 refl $
-        move ! (28 ∷ 29 ∷ []) $ free1 ! $ move ! (26 ∷ 27 ∷ []) $ free1 ! $ move ! (24 ∷ 25 ∷ []) $ free1 ! $ move ! (22 ∷ 23 ∷ []) $ free1 ! $ move ! (20 ∷ 21 ∷ []) $ free1 ! $ move ! (18 ∷ 19 ∷ []) $ free1 ! $
-        move ! (16 ∷ 17 ∷ []) $ free1 ! $ move ! (14 ∷ 15 ∷ []) $ free1 ! $ move ! (12 ∷ 13 ∷ []) $ free1 ! $ move ! (10 ∷ 11 ∷ []) $ free1 ! $ move ! (8 ∷ 9 ∷ []) $ free1 ! $ move ! (6 ∷ 7 ∷ []) $ free1 ! $ free0 ! $
-        move ! (2 ∷ 1 ∷ []) $ join ! $ keep ! (0 ∷ 1 ∷ []) $ by ! (exits r w (e″ ∙ there kind (now pay) ys i₀ (placedOf z) i e e′ l)))))))))
-        (λ ge. skips ! $ exec ! (𝓣 .C) (𝓣 .Λ) (E l₀ l₁ l₂ l₃ l₄ l₅ l₆ l₇ l₈ l₉ l₁₀ l₁₁) mir.t-7 (atRet (E l₀ l₁ l₂ l₃ l₄ l₅ l₆ l₇ l₈ l₉ l₁₀ l₁₁) Post) $
-        use0 W (raw (NoneC 𝓤 H A mem run .pre to-none)) asked-none $
-        -- [pre; the tokens; list; payload; _11 (4); …; _3 (20); …]
-        calls-at ! (fmOf 𝓤 H (W .laws) 𝓣) (NoneC 𝓤 H A mem run) known‴ to-none (and-then ! (load ! (from ! (stop !)) (look ! 20 refl)) (no-more !)) (λ w.
-        use1 W (later (some (λ (r : Found). (‵ ftrue ⊛ ‵ (S.the-row .own r (w ∷ []))) ⊛ raw (ensured 𝓤 H A none.ended (none.clauses 𝓤 H A mem run) tt (kind, tt) tt r)))) (id⊢ 𝓤 _) $ await ! tt $ pick ! (λ r.
+        -- [the result; token′ and true; token; the borrow; res; true; _12 (6); …; _0 (30); …]
+        land ! (from ! (stop !)) (init ! 30 refl (EL.lawful S.the-type S′.the-laws 𝓤 H A W tt .typed r _ is″ .0)) $
+        returns-within ! Post refl (look ! 30 refl) $ forget ! 8 refl $ forget ! 10 refl $ forget ! 12 refl $ forget ! 14 refl $ forget ! 16 refl $ forget ! 18 refl $ forget ! 20 refl $ forget ! 22 refl $ forget ! 24 refl $ forget ! 26 refl $ forget ! 28 refl $ forget ! 30 refl $
+        move ! (30 ∷ 31 ∷ []) $ free1 ! $ move ! (28 ∷ 29 ∷ []) $ free1 ! $ move ! (26 ∷ 27 ∷ []) $ free1 ! $ move ! (24 ∷ 25 ∷ []) $ free1 ! $ move ! (22 ∷ 23 ∷ []) $ free1 ! $ move ! (20 ∷ 21 ∷ []) $ free1 ! $ move ! (18 ∷ 19 ∷ []) $ free1 ! $ move ! (16 ∷ 17 ∷ []) $ free1 ! $ move ! (14 ∷ 15 ∷ []) $ free1 ! $ move ! (12 ∷ 13 ∷ []) $ free1 ! $ move ! (10 ∷ 11 ∷ []) $ free1 ! $ move ! (8 ∷ 9 ∷ []) $ free1 ! $ move ! (6 ∷ 7 ∷ []) $ free1 ! $ free0 ! $
+        move ! (2 ∷ 1 ∷ []) $ join ! $ keep ! (0 ∷ 1 ∷ []) $ by ! (exits r w (e″ ∙ there kind (now pay) ys i₀ (placedOf z) i e e′ some-looked)))))))))
+        (λ ge. skips ! $ exec ! (𝓣 .C) (𝓣 .Λ) (E l₀ l₁ l₂ l₃ l₄ l₅ l₆ l₇ l₈ l₉ l₁₀ l₁₁ l₁₂) mir.t-5 (atRet (E l₀ l₁ l₂ l₃ l₄ l₅ l₆ l₇ l₈ l₉ l₁₀ l₁₁ l₁₂) Post) $
+        assigns ! (of-opd ! (load ! (from ! (fld ! refl (stop !))) (look-in ! 25 (sub ! 1 refl (whole !))))) (from ! (stop !)) (init ! 3 refl (tt, record { fits = gn .0 })) $
+        use0 W (raw (NoneC 𝓤 H A mem run .pre to-none)) (asked-none (gn .0)) $
+        -- [pre; the tokens; list; payload; _12 (4); …; _3 (22); …]
+        calls-at ! (fmOf 𝓤 H (W .laws) 𝓣) (NoneC 𝓤 H A mem run) known‴ to-none (and-then ! (load ! (from ! (stop !)) (look ! 22 refl)) (and-then ! (load ! (from ! (stop !)) (look ! 4 refl)) (no-more !))) (λ w.
+        use1 W (later (some (λ (r : Found). (‵ ftrue ⊛ ‵ (S.the-row .own r (w ∷ []))) ⊛ raw (ensured 𝓤 H A none.ended (none.clauses 𝓤 H A mem run) tt (kind, (n, tt)) tt r)))) (id⊢ 𝓤 _) $ await ! tt $ pick ! (λ r.
         split ! $ move ! (1 ∷ []) $ use1 W (raw (fact 𝓤 (NoneIs r))) (said-none r) $ heard ! (NoneIs r) (λ e″. split ! $ move ! (1 ∷ []) $
         peeks ! S.the-row (Is S.the-row) (shows 𝓤 H A S.the-row) r (w ∷ []) (λ is″.
-        -- [the result; true; the tokens; list; payload; _11 (5); …; _0 (27); …]
-        land ! (from ! (stop !)) (init ! 27 refl (EL.lawful S.the-type S′.the-laws 𝓤 H A W tt .typed r _ is″ .0)) $
-        returns ! (look ! 27 refl) $ forget ! 11 refl $ forget ! 13 refl $ forget ! 15 refl $ forget ! 17 refl $ forget ! 19 refl $ forget ! 21 refl $ forget ! 23 refl $ forget ! 25 refl $ forget ! 27 refl $
-        move ! (27 ∷ 28 ∷ []) $ free1 ! $ move ! (25 ∷ 26 ∷ []) $ free1 ! $ move ! (23 ∷ 24 ∷ []) $ free1 ! $ move ! (21 ∷ 22 ∷ []) $ free1 ! $ move ! (19 ∷ 20 ∷ []) $ free1 ! $ move ! (17 ∷ 18 ∷ []) $ free1 ! $
-        move ! (15 ∷ 16 ∷ []) $ free1 ! $ move ! (13 ∷ 14 ∷ []) $ free1 ! $ move ! (11 ∷ 12 ∷ []) $ free1 ! $ move ! (9 ∷ 10 ∷ []) $ free1 ! $ move ! (7 ∷ 8 ∷ []) $ free1 ! $ move ! (5 ∷ 6 ∷ []) $ free1 ! $ free0 ! $
-        keep ! (2 ∷ 0 ∷ []) $ by ! (exits r w (e″ ∙ not-there kind (now pay) ys i₀ (placedOf z) i e e′ (nltb→le i n ge))))))))))))))))))))))))))))
+        -- [the result; true; the tokens; list; payload; _12 (5); …; _0 (29); …]
+        land ! (from ! (stop !)) (init ! 29 refl (EL.lawful S.the-type S′.the-laws 𝓤 H A W tt .typed r _ is″ .0)) $
+        returns ! (look ! 29 refl) $ forget ! 5 refl $ forget ! 15 refl $ forget ! 17 refl $ forget ! 19 refl $ forget ! 21 refl $ forget ! 23 refl $ forget ! 25 refl $ forget ! 27 refl $ forget ! 29 refl $
+        move ! (29 ∷ 30 ∷ []) $ free1 ! $ move ! (27 ∷ 28 ∷ []) $ free1 ! $ move ! (25 ∷ 26 ∷ []) $ free1 ! $ move ! (23 ∷ 24 ∷ []) $ free1 ! $ move ! (21 ∷ 22 ∷ []) $ free1 ! $ move ! (19 ∷ 20 ∷ []) $ free1 ! $ move ! (17 ∷ 18 ∷ []) $ free1 ! $ move ! (15 ∷ 16 ∷ []) $ free1 ! $ move ! (13 ∷ 14 ∷ []) $ free1 ! $ move ! (11 ∷ 12 ∷ []) $ free1 ! $ move ! (9 ∷ 10 ∷ []) $ free1 ! $ move ! (7 ∷ 8 ∷ []) $ free1 ! $ move ! (5 ∷ 6 ∷ []) $ free1 ! $ free0 ! $
+        keep ! (2 ∷ 0 ∷ []) $ by ! (exits r w (e″ ∙ not-there kind (now pay) ys i₀ (placedOf z) i e e′ (nltb→le 0 i ge)))))))))))))))))))))))))))))
 
 module _ {M : Type 1} (𝓤 : URA M) (H : Heap 𝓤) (A : Atoms 𝓤) (W : Given 𝓤 H A) (mem : Memory → SProp 𝓤) (run : Routine → Fun 𝓤) (𝓣 : Tables 𝓤 H) (known : Triple 𝓤 (𝓣 .C #place) (PlaceC 𝓤 H A mem run)) (known′ : Triple 𝓤 (𝓣 .C #number) (NumberC 𝓤 H A mem run)) (known″ : Triple 𝓤 (𝓣 .C #one) (OneC 𝓤 H A mem run)) (known‴ : Triple 𝓤 (𝓣 .C #none) (NoneC 𝓤 H A mem run)) where
   f-walks : Walks 𝓤 H A f.ended stayed (WpFn 𝓤 H (𝓣 .C) (𝓣 .Λ) code.function) (f.clauses 𝓤 H A mem run)
@@ -296,6 +301,6 @@ find-spec 𝓤 H 𝓜 𝓖 𝓡 =
     (tables 𝓤 H 𝓜 𝓡 code.env .C) (tables 𝓤 H 𝓜 𝓡 code.env .Λ) #f code.function (code.unfolded 𝓤 H 𝓜 𝓡)
     (f-meets 𝓤 H (𝓖 .A) (givenOf 𝓤 H 𝓜 𝓖) (𝓜 .mem) (𝓡 .run) (tablesOf 𝓤 H 𝓜 (tables 𝓤 H 𝓜 𝓡 code.env))
     (cited 𝓤 H (PlaceC 𝓤 H (𝓖 .A) (𝓜 .mem) (𝓡 .run)) 𝓜 𝓡 code.env #place place-def.routine code.calls-finding·find-place (place-thm.met 𝓤 H 𝓜 𝓖 𝓡))
-    (cited 𝓤 H (NumberC 𝓤 H (𝓖 .A) (𝓜 .mem) (𝓡 .run)) 𝓜 𝓡 code.env #number number-def.routine code.calls-finding·place-or (number-thm.met 𝓤 H 𝓜 𝓖 𝓡))
+    (cited 𝓤 H (NumberC 𝓤 H (𝓖 .A) (𝓜 .mem) (𝓡 .run)) 𝓜 𝓡 code.env #number number-def.routine code.calls-finding·looked-in (number-thm.met 𝓤 H 𝓜 𝓖 𝓡))
     (cited 𝓤 H (OneC 𝓤 H (𝓖 .A) (𝓜 .mem) (𝓡 .run)) 𝓜 𝓡 code.env #one one-def.routine code.calls-finding·look (one-thm.met 𝓤 H 𝓜 𝓖 𝓡))
     (cited 𝓤 H (NoneC 𝓤 H (𝓖 .A) (𝓜 .mem) (𝓡 .run)) 𝓜 𝓡 code.env #none none-def.routine code.calls-finding·none-found (none-thm.met 𝓤 H 𝓜 𝓖 𝓡)))

@@ -51,14 +51,14 @@ use denote.Triple.Spec.{Meets, tripleOf}
 use denote.Triple.Table.{entered, cited}
 use denote.Triple.Walked.{says, Stays, stay-none-slice, stay-none, walkOf, goes-none-slice, goes-none, Walks, ends-at, walked, walk-meets}
 use denote.Exit.{yes}
-use Rattle.numbers.specs.Numbers.{gives, mapped, isGiven}
+use Rattle.numbers.specs.Numbers.{gives, mapped}
 use Rattle.walking.specs.declared.Tlv.{Tlv}
 use Rattle.walking.specs.Walk.{noTlv}
 use Rattle.walking.proofs.Tlv as T
 use Rattle.walking.proofs.Tlv.Laws as T′
 use Rattle.walking.proofs.Elem.{R, mach, vals, tells, copies, makes, scaled}
 use Rattle.walking.proofs.Body.{tyOf, after}
-use Rattle.finding.specs.Finding.{placedOf, readsAs, findFrom}
+use Rattle.finding.specs.Finding.{placedOf, isThere, readsAs, findFrom}
 use Rattle.finding.specs.Private.{noneOf}
 use Rattle.finding.specs.declared.Placed.{Placed}
 use Rattle.finding.proofs.Placed as S
@@ -141,7 +141,7 @@ module _ {M : Type 1} (𝓤 : URA M) (H : Heap 𝓤) (A : Atoms 𝓤) (W : Given
 
   -- the answer
   abbrev Right : Placed → Type 0
-  Right z = placedOf z ≡ mapped (λ h. h .place) (findFrom kind ys (now pay) i₀)
+  Right z = placedOf z ≡ mapped (λ h. h .looked) (findFrom kind ys (now pay) i₀)
 
   exits : Room R n → kind < 2 ^ 8 → i₀ < 2 ^ 64 → (z : Placed) → Is S.the-row z (pval z ∷ []) → Right z → ent 𝓤 (⋆ 𝓤 H A Kept) (Post (pval z))
   exits gn gk gf z gz e =
@@ -166,7 +166,7 @@ module _ {M : Type 1} (𝓤 : URA M) (H : Heap 𝓤) (A : Atoms 𝓤) (W : Given
 
     -- of the callee's `ensured`, the clause alone
     abbrev Reads : Bool → Type 0
-    Reads h = h ≡ isGiven (readsAs kind (now pay) t)
+    Reads h = h ≡ isThere (readsAs kind (now pay) t)
 
     said-read : (h : Bool) → ent 𝓤 (ensured 𝓤 H A read.ended (read.clauses 𝓤 H A mem run) (κ′, tt) (t, (pay, (kind, tt))) tt h) (fact 𝓤 (Reads h))
     said-read h = exE 𝓤 _ (λ ws. snd∗ 𝓤 (sem 𝓤 H A (lasts read.ended (κ′, tt) (t, (pay, (kind, tt))) ws)) (fact 𝓤 (Reads h)))
@@ -182,7 +182,7 @@ module _ {M : Type 1} (𝓤 : URA M) (H : Heap 𝓤) (A : Atoms 𝓤) (W : Given
         owned ! usize (Is usize) (uint-makes 𝓤 H A W w64) i _ (refl, gi) $ fjoin ! $ nothing ! $ join ! $ frame ! $ done !
 
     abbrev Tells : Placed → Type 0
-    Tells z = placedOf z ≡ cond (ltb i n) (gives i) (noneOf kind)
+    Tells z = placedOf z ≡ cond (ltb i n) (gives (i + 1)) (noneOf kind n)
 
     said-tell : (z : Placed) → ent 𝓤 (ensured 𝓤 H A outcome.ended (outcome.clauses 𝓤 H A mem run) tt (i, (n, (kind, tt))) tt z) (fact 𝓤 (Tells z))
     said-tell z = exE 𝓤 _ (λ ws. snd∗ 𝓤 (sem 𝓤 H A (lasts outcome.ended tt (i, (n, (kind, tt))) ws)) (fact 𝓤 (Tells z)))

@@ -1,4 +1,4 @@
--- A place of the list is given, and past its end what `nothing` says.
+-- A place of the list is given, counted from 1, and past its end what `nothing` says.
 use mathlib.Core.Path.{_∙_}
 use borrow.Author.Tests.{lt-ltb, le-ltb}
 use borrow.Author.Needs.{needs}
@@ -13,4 +13,4 @@ returns-2 c = c .nothing .ensures ∙ rw (le-ltb (c .before .before .args .place
 
 pub outcome-spec : {M : Type 1} → statement M
 outcome-spec =
-    tie.close (tie.spec returns (λ c κs. search needs) returns-2)
+    tie.close (tie.spec (λ c. search needs) returns (λ c κs. search needs) returns-2)

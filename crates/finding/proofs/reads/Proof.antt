@@ -1,6 +1,6 @@
 -- `reads` meets its contract: a candidate reads where its value measures, and no other record reads.
 use mathlib.Core.Path.{sym, _∙_, ap}
-use Rattle.numbers.specs.Numbers.{isGiven}
+use Rattle.finding.specs.Finding.{isThere}
 use Rattle.finding.proofs.Looking.{inside, measured, no-candidate}
 use borrow.Author.Needs.{needs}
 use Rattle.finding.proofs.reads.Statement.{statement}
@@ -19,7 +19,7 @@ returns-3 : tie.Need-returns-3
 returns-3 c = let x = c .before .before .before .before .before .before .before .args in measured (x .code) (x .payload .now) (x .t) _ _ _ (c .enum-told3 .given .1) (c .before .before .measure .ensures) (c .before .before .before .value-in .ensures) (sym (c .before .before .before .before .before .is-candidate .ensures) ∙ c .before .before .before .before .if1 .taken)
 
 returns-4 : tie.Need-returns-4
-returns-4 c = let x = c .before .before .before .args in ap isGiven (no-candidate (x .code) (x .payload .now) (x .t) (sym (c .before .is-candidate .ensures) ∙ c .if1 .left))
+returns-4 c = let x = c .before .before .before .args in ap isThere (no-candidate (x .code) (x .payload .now) (x .t) (sym (c .before .is-candidate .ensures) ∙ c .if1 .left))
 
 pub reads-spec : {M : Type 1} → statement M
 reads-spec =
