@@ -49,7 +49,7 @@ pub record Firmness : Type 0 where
       × (o .1 ≡ filled (listed (length list) (walkOf payload)) (walkOf payload .items) list))
   pub ashlar-read-kind : (code : ℕ) (value : List ℕ) → Firm (λ r. r ≡ kindNumbers (readKind code value))
   pub ashlar-find : (list : List Tlv) (payload : List ℕ) (code from : ℕ)
-      → Firm (λ r. r ≡ foundNumbers (mapped (λ h. h .place) (findFrom code list payload from)))
+      → Firm (λ r. r ≡ foundNumbers (mapped (λ h. h .looked) (findFrom code list payload from)))
   pub ashlar-text : (code number : ℕ) (value : List ℕ) → Firm (λ r. r ≡ partNumbers (locateTextIn code number value))
   pub ashlar-radio : (number : ℕ) (value : List ℕ) → Firm (λ r. r ≡ partNumbers (locateRadio inventoryCode (number ∷ []) value))
   pub ashlar-radio-text : (number : ℕ) (value : List ℕ) → Firm (λ r. r ≡ partNumbers (locateRadioText number value))

@@ -82,11 +82,11 @@ pub extern "C" fn ashlar_read_kind(code: u8, value: &[u8]) -> AshlarKind
     c_answers::kind_numbers(kinds::measure(code, value))
 }
 
-// The place of the first record of the kind with this code that reads, at the place `from` of the list or after it
-// (rules F1 to F3).
+// The first record of the kind with this code that reads, after the first `from` records of the list: how many were
+// looked at up to it (rules F1 to F3).
 #[no_mangle]
 pub extern "C" fn ashlar_find(list: &[Tlv], payload: &[u8], code: u8, from: usize) -> AshlarFound
-    ensures { λ r. ⌜ r ≡ foundNumbers (mapped (λ h. h .place)
+    ensures { λ r. ⌜ r ≡ foundNumbers (mapped (λ h. h .looked)
         (findFrom code (now (list .entry)) (now (payload .entry)) from)) ⌝ }
 {
     c_answers::found_numbers(finding::find_place(list, payload, code, from))

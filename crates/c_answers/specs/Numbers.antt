@@ -68,10 +68,11 @@ abbrev pub kindNumbers : {R : Type 0} → Answer (Typed R) → AshlarKind
 kindNumbers (gives t) = contentsNumbers (t .held) (t .consumed) (t .rest)
 kindNumbers (refuses n vs) = record { entries = 0; consumed = 0; rest = 0; «is_list» = false; refusal = n }
 
--- Rule F1: finding answers the place alone. What the value there reads as is for `read_kind` to say.
+-- Rule F1: finding answers how many records were looked at, alone: 15 carries it too. What the value of the one that was
+-- found reads as is for `read_kind` to say.
 abbrev pub foundNumbers : Answer ℕ → AshlarFound
-foundNumbers (gives i) = record { place = i; refusal = 0 }
-foundNumbers (refuses n vs) = record { place = 0; refusal = n }
+foundNumbers (gives k) = record { looked = k; refusal = 0 }
+foundNumbers (refuses n vs) = record { looked = getD vs 0 0; refusal = n }
 
 -- Rules E7 and E8: a text or a radio is a part of the value, given by where its first byte stands and by its length.
 abbrev pub partNumbers : Answer Span → AshlarPart

@@ -59,11 +59,11 @@ pub struct AshlarKind {
     pub refusal: u8,
 }
 
-// The place of the record that was found (rule F1). What its value reads as is for `ashlar_read_kind` to say, so that
-// this answer fits two registers.
+// How many records were looked at (rule F1): the place of the one that was found, counted from 1, or the list's length
+// for 15. What its value reads as is for `ashlar_read_kind` to say, so that this answer fits two registers.
 #[repr(C)]
 pub struct AshlarFound {
-    pub place: usize,
+    pub looked: usize,
     pub refusal: u8,
 }
 
@@ -204,14 +204,14 @@ pub fn kind_numbers(size: KindSize) -> AshlarKind
     }
 }
 
-// The place of a record that was looked for.
+// A record that was looked for.
 pub fn found_numbers(placed: Placed) -> AshlarFound
     ensures { λ r. ⌜ r ≡ foundNumbers (placedOf placed) ⌝ }
 {
     match placed {
-        Placed::At(place) => AshlarFound { place, refusal: 0 },
+        Placed::At(looked) => AshlarFound { looked, refusal: 0 },
         Placed::Refused(refusal) => AshlarFound {
-            place: 0,
+            looked: numbers::carried_by(refusal),
             refusal: numbers::number_of(refusal),
         },
     }

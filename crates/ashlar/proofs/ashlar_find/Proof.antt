@@ -108,7 +108,7 @@ module _ {M : Type 1} (𝓤 : URA M) (H : Heap 𝓤) (A : Atoms 𝓤) (W : Given
   handed = qed W ((‵ (flft κ q) ⊛ (‵ (flft κ′ q′) ⊛ ‵ ftrue)) ∷ ‵ (owns (ShrSlice (named 0) κ R ∷ ShrSlice (named 1) κ′ u8 ∷ u8 ∷ usize ∷ []) x at) ∷ []) ∵ join ! $ frame ! $ done !
 
   abbrev Says : Placed → Type 0
-  Says r = placedOf r ≡ mapped (λ h. h .place) (findFrom kind ys (now pay) i₀)
+  Says r = placedOf r ≡ mapped (λ h. h .looked) (findFrom kind ys (now pay) i₀)
 
   -- the call of `found_numbers` at an answer r
   module _ (r : Placed) (u : Val) where
