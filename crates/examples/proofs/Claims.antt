@@ -1,13 +1,18 @@
 -- Every row of the table holds: both sides compute to the same. Four rows on the table of fragments are theorems about
 -- runs.
-use mathlib.Core.Path.{refl}
+use mathlib.Core.Path.{_≡_, refl}
 use mathlib.Core.List.{flatten}
+use native.Mathlib.Omega.{arith}
+use lib.ListN.{length}
 use Rattle.searching.specs.Search.{lowest}
 use Rattle.machines.specs.Machine.{those}
 use Rattle.framing.specs.Tlv.{readTlv, writeSize}
 use Rattle.framing.specs.Cmdu.{readHeader}
 use Rattle.walking.specs.Steps.{walkFrom}
-use Rattle.walking.specs.Walk.{stepAt, walkOf}
+use Rattle.numbers.specs.Numbers.{gives}
+use Rattle.walking.specs.Claims.{shortTlvs}
+use Rattle.walking.specs.Walk.{stepAt, walkOf, walkOn, counted, listed}
+use Rattle.walking.proofs.Claims as of-walking
 use Rattle.records.specs.Reading.{empty, fixed, readRecord}
 use Rattle.record_writing.specs.Writing.{recordSize}
 use Rattle.layouts.specs.Layouts.{layoutOf, isList}
@@ -19,7 +24,7 @@ use Rattle.texts.specs.Reading.{untilZero, textSpan, radioList, laidOf, validOf
 use Rattle.texts.specs.Access.{ofText, locateRadio, countRadios, locateText, locateRadioText}
 use Rattle.kinds.specs.Kinds.{readKind, locateKind, countKind, locateTextIn}
 use Rattle.kinds.specs.Writing.{writeKind, kindBytes}
-use Rattle.finding.specs.Finding.{readsAs, firstOf, findFrom, findInPayload}
+use Rattle.finding.specs.Finding.{readsAs, firstOf, findFrom, findInPayload, findOnward}
 use Rattle.pushing.specs.Push.{wayBy, keepWay, messageWay}
 use Rattle.searching.specs.Count.{howMany}
 use Rattle.stations.specs.Addresses.{addressOf}
@@ -55,6 +60,13 @@ of-framing = record {
   as-lent = refl;
 }
 
+-- 1,492 bytes have 497 TLVs by a theorem, which no computing is needed for
+full : (length (shortTlvs 496 1) ≡ 1492) × (counted (walkOf (shortTlvs 496 1)) ≡ gives (record { count = 497; padding = 0 }))
+full = of-walking.claims .room-needed .reached 1492 (omega arith)
+
+long-enough : listed 497 (walkOf (shortTlvs 496 1)) ≡ counted (walkOf (shortTlvs 496 1))
+long-enough = of-walking.claims .room-needed .enough (shortTlvs 496 1) 497 (omega (arith, full .0))
+
 of-walks : OfWalks
 unfolding readTlv stepAt walkFrom walkOf
 of-walks = record {
@@ -74,6 +86,9 @@ of-walks = record {
   fault-before-14 = refl;
   just-enough = refl;
   list-filled = refl;
+  as-many-as-fit = full .0;
+  each-counted = full .1;
+  list-long-enough = long-enough;
 }
 
 of-kinds : OfKinds
@@ -189,14 +204,22 @@ of-texts = record {
 }
 
 of-finding : OfFinding
-unfolding readTlv stepAt walkFrom walkOf fixed readRecord layoutOf isList textKind isText readKind readsAs firstOf findFrom findInPayload
+unfolding readTlv stepAt walkFrom walkOf fixed readRecord layoutOf isList textKind isText readKind readsAs firstOf findFrom findInPayload walkOn findOnward
 of-finding = record {
   found-at = refl;
   none-found = refl;
+  none-from-the-second = refl;
+  none-beyond-the-list = refl;
+  none-in-no-list = refl;
   no-kind-to-find = refl;
   none-in-a-payload = refl;
   unwalked = refl;
   no-kind-in-a-payload = refl;
+  none-onward = refl;
+  onward-over-both = refl;
+  fault-onward = refl;
+  no-kind-onward = refl;
+  too-many-before = refl;
 }
 
 of-the-table : OfTheTable
@@ -300,6 +323,7 @@ of-c = record {
   c-no-value = refl;
   c-found = refl;
   c-none-found = refl;
+  c-no-kind-to-find = refl;
   c-part = refl;
   c-accepted = refl;
   c-not-accepted = refl;

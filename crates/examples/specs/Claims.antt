@@ -12,6 +12,7 @@ use Rattle.machines.specs.Machine.{those}
 use Rattle.framing.specs.Tlv.{readTlv, valueIn, header, writeSize, leaves}
 use Rattle.framing.specs.Cmdu.{readHeader}
 use Rattle.walking.specs.Steps.{passed, last, ended}
+use Rattle.walking.specs.Claims.{shortTlvs}
 use Rattle.walking.specs.Walk.{stepAt, walkOf, counted, listed, filled}
 use Rattle.records.specs.declared.Record.{Record}
 use Rattle.records.specs.declared.SupportedFreqBand.{SupportedFreqBand}
@@ -26,7 +27,7 @@ use Rattle.utf8.specs.Utf8.{isUtf8}
 use Rattle.texts.specs.Access.{locateRadioText}
 use Rattle.kinds.specs.Kinds.{one, readKind, locateKind, countKind, locateTextIn}
 use Rattle.kinds.specs.Writing.{writeKind, kindBytes}
-use Rattle.finding.specs.Finding.{findFrom, findInPayload}
+use Rattle.finding.specs.Finding.{findFrom, findInPayload, findOnward}
 use Rattle.pushing.specs.Push.{Way, refuse, duplicate, keepAt, openAt, end, waiting, duplicated, inconsistent, missing, missingLast, single, joined as joinedAs, wayBy, keepWay, messageWay}
 use Rattle.orders.specs.Runs.{Push, push, sweep, pushed, dropped, after, replyTo, start, holding, holdsNothing, repliesTo}
 use Rattle.stations.specs.declared.Heard.{Heard}
@@ -101,6 +102,10 @@ pub record OfWalks : Type 0 where
   pub fault-before-14 : listed 0 (walkOf (two-tlvs ++ (0x03 ∷ 0x00 ∷ []))) ≡ refuses 1 (7 ∷ 1 ∷ [])
   pub just-enough : listed 2 (walkOf two-tlvs) ≡ gives (record { count = 2; padding = 0 })
   pub list-filled : filled (listed 3 (walkOf two-tlvs)) (walkOf two-tlvs .items) (with-none ∷ with-none ∷ with-a-byte ∷ []) ≡ with-a-byte ∷ with-none ∷ with-a-byte ∷ []
+  -- Rule W7: 496 TLVs of type 1 without a value, and one with a value of 1 byte. They are 1,492 bytes, and 497 TLVs.
+  pub as-many-as-fit : length (shortTlvs 496 1) ≡ 1492
+  pub each-counted : counted (walkOf (shortTlvs 496 1)) ≡ gives (record { count = 497; padding = 0 })
+  pub list-long-enough : listed 497 (walkOf (shortTlvs 496 1)) ≡ counted (walkOf (shortTlvs 496 1))
 
 pub record OfKinds : Type 0 where
   -- Rule K2: all codes that a kind has.
@@ -228,13 +233,24 @@ pub record OfTexts : Type 0 where
 pub record OfFinding : Type 0 where
   -- Rule F1: of three records, the one at place 0 doesn't read as kind 2, and the next one is of kind 1.
   pub found-at : findFrom 2 (with-none ∷ with-a-byte ∷ record { «tlv_type» = 2; length = 6; offset = 4 } ∷ []) (two-tlvs ++ mac 3) 0
-      ≡ gives (record { place = 2; tlv = record { «tlv_type» = 2; length = 6; offset = 4 }; reading = record { held = one (Record.MacAddress (kept-mac 3)); consumed = 6; rest = 0 } })
-  pub none-found : findFrom 2 (with-none ∷ with-a-byte ∷ []) two-tlvs 0 ≡ refuses 15 []
+      ≡ gives (record { looked = 3; tlv = record { «tlv_type» = 2; length = 6; offset = 4 }; reading = record { held = one (Record.MacAddress (kept-mac 3)); consumed = 6; rest = 0 } })
+  -- 15 carries the list's length, wherever the search starts, and 0 for an empty list
+  pub none-found : findFrom 2 (with-none ∷ with-a-byte ∷ []) two-tlvs 0 ≡ refuses 15 (2 ∷ [])
+  pub none-from-the-second : findFrom 2 (with-none ∷ with-a-byte ∷ []) two-tlvs 1 ≡ refuses 15 (2 ∷ [])
+  pub none-beyond-the-list : findFrom 2 (with-none ∷ with-a-byte ∷ []) two-tlvs 9 ≡ refuses 15 (2 ∷ [])
+  pub none-in-no-list : findFrom 2 [] two-tlvs 0 ≡ refuses 15 (0 ∷ [])
   pub no-kind-to-find : findFrom 3 (with-none ∷ []) two-tlvs 0 ≡ refuses 16 []
   -- Rule F4: in a payload 16 comes first, then the walk's own refusal, then 15.
-  pub none-in-a-payload : findInPayload 2 two-tlvs 0 ≡ refuses 15 []
+  pub none-in-a-payload : findInPayload 2 two-tlvs 0 ≡ refuses 15 (2 ∷ [])
   pub unwalked : findInPayload 2 (0x02 ∷ []) 0 ≡ refuses 1 (0 ∷ 2 ∷ [])
   pub no-kind-in-a-payload : findInPayload 3 (0x02 ∷ []) 0 ≡ refuses 16 []
+  -- Rule F5: going on after two TLVs, at offset 7. A step that is refused gives its offset, 15 the number of all TLVs;
+  -- and more TLVs than bytes before the offset count as the offset.
+  pub none-onward : findOnward 2 two-tlvs 7 2 ≡ refuses 15 (2 ∷ [])
+  pub onward-over-both : findOnward 2 two-tlvs 0 0 ≡ refuses 15 (2 ∷ [])
+  pub fault-onward : findOnward 2 (two-tlvs ++ (0x03 ∷ 0x00 ∷ [])) 4 1 ≡ refuses 1 (7 ∷ 1 ∷ [])
+  pub no-kind-onward : findOnward 3 (0x02 ∷ []) 0 0 ≡ refuses 16 []
+  pub too-many-before : findOnward 2 two-tlvs 4 100 ≡ refuses 15 (5 ∷ [])
 
 pub record OfTheTable : Type 0 where
   -- Rules T4 to T7: push's steps in their order. 11, then 12, then a number that is held, then the last mark.
@@ -352,8 +368,9 @@ pub record OfC : Type 0 where
   pub c-record : kindNumbers (one-record Record.EndOfMessage 6 1) ≡ record { entries = 0; consumed = 6; rest = 1; «is_list» = false; refusal = 0 }
   pub c-list : kindNumbers (a-list 2 18 1) ≡ record { entries = 2; consumed = 18; rest = 1; «is_list» = true; refusal = 0 }
   pub c-no-value : kindNumbers {R = Record} (refuses 18 []) ≡ record { entries = 0; consumed = 0; rest = 0; «is_list» = false; refusal = 18 }
-  pub c-found : foundNumbers (gives 3) ≡ record { place = 3; refusal = 0 }
-  pub c-none-found : foundNumbers (refuses 15 []) ≡ record { place = 0; refusal = 15 }
+  pub c-found : foundNumbers (gives 3) ≡ record { looked = 3; refusal = 0 }
+  pub c-none-found : foundNumbers (refuses 15 (4 ∷ [])) ≡ record { looked = 4; refusal = 15 }
+  pub c-no-kind-to-find : foundNumbers (refuses 16 []) ≡ record { looked = 0; refusal = 16 }
   pub c-part : partNumbers (gives (record { start = 5; end = 9 })) ≡ record { start = 5; length = 4; refusal = 0 }
   pub c-accepted : checkNumbers (gives true) ≡ record { at = 0; shortfall = 0; accepted = true; refusal = 0 }
   pub c-not-accepted : checkNumbers (gives false) ≡ record { at = 0; shortfall = 0; accepted = false; refusal = 0 }
