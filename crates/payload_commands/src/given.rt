@@ -18,10 +18,20 @@ fn tlv_of(record: &[u8]) -> Tlv {
     }
 }
 
-// The records, at most 40 of them.
-fn list_of(records: &[u8]) -> [Tlv; 40] {
+// How many records there are, at most 40; `-` stands for none.
+fn count_of(records: &[u8]) -> usize
+    ensures { λ r. ⌜ r ≤ 40 ⌝ }
+{
+    if command_lines::byte_at(records, 0) == b'-' {
+        return 0;
+    }
+    command_lines::least(command_lines::pieces(records, b','), 40)
+}
+
+// The list whose first elements are these records.
+fn list_of(records: &[u8]) -> [Tlv; 498] {
     let mut tlvs = listing::empty();
-    let count = command_lines::least(command_lines::pieces(records, b','), 40);
+    let count = count_of(records);
     let mut i = 0;
     while i < count {
         tlvs[i] = tlv_of(command_lines::piece(records, b',', i));
@@ -41,7 +51,7 @@ pub(crate) fn first(
     ensures { λ r. ⌜ r ≤ 65536 ⌝ }
 {
     let list = list_of(records);
-    let listed = listing::walk_and_find(list, &payload[..0], payload, code);
+    let listed = listing::walk_and_find(list, count_of(records), &payload[..0], payload, code);
     let answer = listed.found;
     found::put_hit(found::hit_of(answer), payload, text, used)
 }

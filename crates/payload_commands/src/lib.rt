@@ -1,4 +1,4 @@
-// The commands over the TLVs of a payload: k and g, which walk, and d, D and l, which find.
+// The commands over the TLVs of a payload: k, g and L, which walk, and d, D and l, which find.
 mod found;
 mod given;
 mod listing;
@@ -13,7 +13,7 @@ pub fn field_of_bytes(letter: u8) -> usize
 {
     match letter {
         b'k' | b'g' => 1,
-        b'd' | b'D' => 2,
+        b'd' | b'D' | b'L' => 2,
         b'l' => 3,
         _ => 0,
     }
@@ -28,6 +28,12 @@ pub fn answer(line: &[u8], payload: &[u8], text: &mut Answers, used: usize) -> u
         b'l' => given::first(command_lines::field(line, 2), payload, code, text, used),
         b'd' => found::first(payload, code, text, used),
         b'D' => found::every(payload, code, text, used),
+        b'L' => walked::walk_into(
+            payload,
+            command_lines::number(command_lines::field(line, 1)),
+            text,
+            used,
+        ),
         _ => walked::walk(payload, text, used),
     }
 }

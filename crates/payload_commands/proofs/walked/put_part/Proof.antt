@@ -1,4 +1,4 @@
--- `put_part` meets its contract: no more than the 40 places are shown.
+-- `put_part` meets its contract: no more than the 498 places are shown.
 use Prim.Native.Nat.{_≤_, _-_}
 use borrow.Author.Needs.{needs}
 use Rattle.payload_commands.proofs.walked.put_part.Statement.{statement}

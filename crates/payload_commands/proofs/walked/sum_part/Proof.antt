@@ -1,4 +1,4 @@
--- `sum_part` is safe and ends: no more than the 40 places are summed.
+-- `sum_part` is safe and ends: no more than the 498 places are summed.
 use Prim.Native.Nat.{_-_}
 use borrow.Author.Needs.{needs}
 use Rattle.payload_commands.proofs.walked.sum_part.Statement.{statement}
