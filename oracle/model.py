@@ -391,6 +391,7 @@ def radio_text_at(data, number):
 # --- finding ---
 
 def find(kind, data, tlvs, start):
+    """How many were looked at up to the first that reads, and the bytes read."""
     if kind not in KINDS:
         raise Refused(16)
     for index in range(start, len(tlvs)):
@@ -398,10 +399,15 @@ def find(kind, data, tlvs, start):
         value = data[at + 3:at + 3 + length]
         if code == kind and at + 3 + length <= len(data):
             try:
-                return index, value[:consumed(kind, value)]
+                return index + 1, value[:consumed(kind, value)]
             except Refused:
                 pass
-    raise Refused(15)
+    # a carried 0 is not shown
+    raise Refused(15, *[len(tlvs)][:len(tlvs)])
+
+
+def found_words(looked, value):
+    return "ok %d %d %s" % (looked - 1, looked, shown(value))
 
 
 # --- table ---
@@ -716,6 +722,11 @@ def answer(table, stations, line):
         return checked(*proposed(words[2], int(words[1]), data))
     if command == "Q":
         return ends_of(cut(data, min(int(words[1]), MOST_PLACES)))
+    if command == "L":
+        tlvs, room = walk(data), int(words[1])
+        if room < len(tlvs):
+            raise Refused(14, tlvs[room][1])
+        return listed(tlvs, len(data))
     if command == "U":
         return "ok " + shown(radio_text_at(data, int(words[1])))
     kind = int(words[1])
@@ -737,23 +748,22 @@ def answer(table, stations, line):
             bytes([len(numbers)]) + b"".join(n.to_bytes(2, "big") for n in numbers) + len(part).to_bytes(2, "big") + part
             for numbers, part in found)
         return "ok %d %s" % (len(found), checksum(text))
-    if command == "d":
-        index, value = find(kind, data, walk(data), 0)
-        return "ok %d %s" % (index, shown(value))
     if command == "l":
         records = [] if words[2] == "-" else [tuple(map(int, r.split(":"))) for r in words[2].split(",")]
-        index, value = find(kind, data, records, 0)
-        return "ok %d %s" % (index, shown(value))
+        return found_words(*find(kind, data, records, 0))
+    if command in ("d", "D") and kind not in KINDS:
+        raise Refused(16)
+    if command == "d":
+        return found_words(*find(kind, data, walk(data), 0))
     if command == "D":
-        if kind not in KINDS:
-            raise Refused(16)
-        tlvs, start, count, text = walk(data), 0, 0, b""
+        tlvs, looked, count, parts = walk(data), 0, 0, []
         while True:
             try:
-                index, value = find(kind, data, tlvs, start)
+                looked, value = find(kind, data, tlvs, looked)
             except Refused:
-                return "ok %d %s" % (count, checksum(text))
-            start, count, text = index + 1, count + 1, text + len(value).to_bytes(2, "big") + value
+                return "ok %d %s" % (count, checksum(b"".join(parts)))
+            count += 1
+            parts.append(len(value).to_bytes(2, "big") + value)
     raise Bad
 
 

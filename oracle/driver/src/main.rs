@@ -306,6 +306,11 @@ impl Ask for FindAll<'_> {
     }
 }
 
+/// The place in the list, and how many were looked at up to it.
+fn found(place: usize, value: &[u8]) -> String {
+    format!("ok {place} {} {}", place + 1, shown(value))
+}
+
 /// Find over a list of records that the command gives. The original has no such list: it gets the TLVs that lie inside
 /// the payload, each with the record's type and the value behind its offset, and its answer is taken back to the place
 /// in the list.
@@ -322,7 +327,7 @@ fn find_listed(kind: u8, records: &str, payload: &[u8]) -> Result<String, Bad> {
     }
     Ok(match of_kind(kind, Find(&tlvs)) {
         None | Some(None) => NO.into(),
-        Some(Some((index, value))) => format!("ok {} {}", places[index], shown(&value)),
+        Some(Some((index, value))) => found(places[index], &value),
     })
 }
 
@@ -400,7 +405,7 @@ fn answer(table: &mut Table, line: &str) -> Result<String, Bad> {
                 None => NO.into(),
                 Some(tlvs) => match of_kind(kind, Find(&tlvs)) {
                     None | Some(None) => NO.into(),
-                    Some(Some((index, value))) => format!("ok {index} {}", shown(&value)),
+                    Some(Some((index, value))) => found(index, &value),
                 },
             }
         }
