@@ -38,6 +38,7 @@ ROWS = [
     ("ControlUrl, a text of 1,400 ASCII bytes", "url-1400", None, None, 4200),
     ("Find, none among 166", "find-none", 1.2, 0.5, None),
     ("Find, the first of 166", "find-first", None, 1.25, None),
+    ("Find all of 15,914, one after the other", "find-all", 2, None, None),
     ("Push 3 × 1,492 bytes to complete", "push-1492", 1.5, 0.5, None),
     ("Push 3 × 16 bytes to complete", "push-16", 1.5, 0.5, None),
     ("A push of 16 bytes that waits, empty table", "wait 0", 2.5, 1, 900),

@@ -202,9 +202,9 @@ static bool is_kind(uint8_t code) {
 AshlarFound plain_find(const AshlarTlv *list, size_t count, const uint8_t *p, size_t n, uint8_t code, size_t from) {
     for (size_t i = from; i < count; i++) {
         if (list[i].tlv_type != code || n < 3 || n - 3 < list[i].length || n - 3 - list[i].length < list[i].offset) continue;
-        if (!kind_in(code, p + list[i].offset + 3, list[i].length).refusal) return (AshlarFound){i, 0};
+        if (!kind_in(code, p + list[i].offset + 3, list[i].length).refusal) return (AshlarFound){i + 1, 0};
     }
-    return (AshlarFound){.refusal = is_kind(code) ? 15 : 16};
+    return is_kind(code) ? (AshlarFound){count, 15} : (AshlarFound){0, 16};
 }
 
 static AshlarPart no_part(uint8_t number) { return (AshlarPart){0, 0, number}; }

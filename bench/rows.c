@@ -107,11 +107,24 @@ static void find(int turns, uint8_t code) {
     for (int i = 0; i < turns; i++) {
         f = CALL(find)(list, w.count, payload, size, code, 0);
         /* the original hands the value over: so it is taken out in each turn */
-        if (!f.refusal) memcpy(value, payload + list[f.place].offset + 3, 6);
+        if (!f.refusal) memcpy(value, payload + list[f.looked - 1].offset + 3, 6);
         __asm__ volatile("" ::"r"(value) : "memory");
     }
     if (f.refusal) printf("none\n");
     else printf("%lu\n", sum(value, 6));
+}
+
+/* every TLV of the kind, each looked for after the one before (rule F3) */
+static void find_all(int turns, uint8_t code) {
+    AshlarWalk w = CALL(walk_into)(list, TLVS, payload, size);
+    AshlarFound f = {0};
+    size_t found = 0;
+    for (int i = 0; i < turns; i++) {
+        found = 0;
+        f.looked = 0;
+        while (!(f = CALL(find)(list, w.count, payload, size, code, f.looked)).refusal) found++;
+    }
+    printf("%zu found, %zu looked at, %d\n", found, f.looked, f.refusal);
 }
 
 /* what a payload's copy costs by itself */
@@ -237,6 +250,7 @@ int main(int argc, char **argv) {
     else if (!strcmp(row, "url-1400")) url(1400), read_kind(turns, 22);
     else if (!strcmp(row, "find-none")) find(turns, 1);
     else if (!strcmp(row, "find-first")) find(turns, 2);
+    else if (!strcmp(row, "find-all")) tlvs(15914, 22, 0, 2), find_all(turns, 22);
     else if (!strcmp(row, "push-1492")) complete(turns, 1492);
     else if (!strcmp(row, "push-16")) complete(turns, 16);
     else if (!strcmp(row, "wait")) waiting(turns, (int)many, 16);

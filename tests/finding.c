@@ -1,5 +1,5 @@
 /* Finding over lists of TLV records that no walk need have made (rules F1 to F3): the cases are named, and each says
-   what has to be answered. */
+   what has to be answered: the refusal, and how many records were looked at. */
 #include "../include/ashlar.h"
 #include <stdio.h>
 
@@ -19,9 +19,9 @@ static bool reads(AshlarTlv t, uint8_t code, size_t consumed) {
     return got.refusal == 0 && got.consumed == consumed;
 }
 
-static void finds(const char *name, const AshlarTlv *list, size_t n, uint8_t code, size_t from, size_t place, size_t consumed, uint8_t refusal) {
+static void finds(const char *name, const AshlarTlv *list, size_t n, uint8_t code, size_t from, size_t looked, size_t consumed, uint8_t refusal) {
     AshlarFound got = ashlar_find(list, n, payload, sizeof payload, code, from);
-    bool good = got.refusal == refusal && (refusal != 0 || (got.place == place && reads(list[place], code, consumed)));
+    bool good = got.refusal == refusal && got.looked == looked && (refusal != 0 || reads(list[looked - 1], code, consumed));
     failed += !good;
     printf("%s finding: %s\n", good ? "ok" : "FAILED", name);
 }
@@ -32,22 +32,26 @@ int main(void) {
     const AshlarTlv longer[] = {{0x92, 13, 0}, {0x92, 13, 16}, {0x92, 13, 32}, {0, 0, 48}, {0x92, 13, 0}, {0x92, 13, 16}};
     const AshlarTlv other[] = {{0x92, 14, 16}, {0x92, 12, 16}, {1, 6, 3}, {1, 5, 3}};
 
-    finds("an unreadable record before a readable one", walked, 4, 0x92, 0, 1, 13, 0);
-    finds("the next one after it", walked, 4, 0x92, 2, 2, 13, 0);
-    finds("none after the last", walked, 4, 0x92, 3, 0, 0, 15);
-    finds("none from the list's end, and from beyond it", walked, 4, 0x92, 4, 0, 0, 15);
-    finds("none from 2 to the 64 less 1", walked, 4, 0x92, SIZE_MAX, 0, 0, 15);
-    finds("records outside the payload are passed over, offsets near 2 to the 64 among them", outside, 6, 0x92, 0, 5, 13, 0);
-    finds("a value that ends with the payload is inside, if it reads", past, 1, 0x92, 0, 0, 13, 0);
-    finds("one that ends a byte past it is not", past + 1, 1, 0x92, 0, 0, 0, 15);
+    finds("an unreadable record before a readable one", walked, 4, 0x92, 0, 2, 13, 0);
+    finds("the next one after it", walked, 4, 0x92, 2, 3, 13, 0);
+    finds("none after the last", walked, 4, 0x92, 3, 4, 0, 15);
+    finds("none from the list's end", walked, 4, 0x92, 4, 4, 0, 15);
+    finds("nor from beyond it: all were looked at", walked, 4, 0x92, 5, 4, 0, 15);
+    finds("the first record of the list", walked + 1, 3, 0x92, 0, 1, 13, 0);
+    finds("the last record of the list", walked, 3, 0x92, 2, 3, 13, 0);
+    finds("unreadable records count", walked, 1, 0x92, 0, 1, 0, 15);
+    finds("none from 2 to the 64 less 1", walked, 4, 0x92, SIZE_MAX, 4, 0, 15);
+    finds("records outside the payload are passed over, offsets near 2 to the 64 among them", outside, 6, 0x92, 0, 6, 13, 0);
+    finds("a value that ends with the payload is inside, if it reads", past, 1, 0x92, 0, 1, 13, 0);
+    finds("one that ends a byte past it is not", past + 1, 1, 0x92, 0, 1, 0, 15);
     finds("an empty list", walked, 0, 0x92, 0, 0, 0, 15);
-    finds("a list longer than the walk's: entries past the walk's are searched like any other", longer, 6, 0x92, 4, 5, 13, 0);
-    finds("a kind 0 record at the payload's last three bytes", walked, 4, 0, 0, 3, 0, 0);
-    finds("the record's length decides, not the header's: 14 bytes leave one", other, 4, 0x92, 0, 0, 13, 0);
-    finds("and 12 bytes do not read", other + 1, 1, 0x92, 0, 0, 0, 15);
-    finds("the type is the record's, not the payload's", other + 2, 2, 1, 0, 0, 6, 0);
-    finds("no TLV of the kind", walked, 4, 23, 0, 0, 0, 15);
-    finds("a kind that is none of the 24", walked, 4, 3, 0, 0, 0, 16);
+    finds("a list longer than the walk's: entries past the walk's are searched like any other", longer, 6, 0x92, 4, 6, 13, 0);
+    finds("a kind 0 record at the payload's last three bytes", walked, 4, 0, 0, 4, 0, 0);
+    finds("the record's length decides, not the header's: 14 bytes leave one", other, 4, 0x92, 0, 1, 13, 0);
+    finds("and 12 bytes do not read", other + 1, 1, 0x92, 0, 1, 0, 15);
+    finds("the type is the record's, not the payload's", other + 2, 2, 1, 0, 1, 6, 0);
+    finds("no TLV of the kind", walked, 4, 23, 0, 4, 0, 15);
+    finds("a kind that is none of them", walked, 4, 3, 0, 0, 0, 16);
     finds("that, with an empty list", walked, 0, 255, 0, 0, 0, 16);
     return failed != 0;
 }

@@ -241,18 +241,18 @@ static void finds(void) {
     AshlarTlv list[ASHLAR_TLVS(sizeof roles)];
     size_t n = ashlar_walk_into(list, ASHLAR_TLVS(sizeof roles), roles, sizeof roles).count;
     AshlarFound f = ashlar_find(list, n, roles, sizeof roles, ASHLAR_SEARCHED_ROLE, 0);
-    check("ashlar_find: place", n == 5 && f.place == 1 && f.refusal == ASHLAR_OK);
+    check("ashlar_find: looked", n == 5 && f.looked == 2 && f.refusal == ASHLAR_OK);
     f = ashlar_find(list, n, roles, sizeof roles, ASHLAR_SEARCHED_ROLE, 2);
-    check("ashlar_find: from", f.place == 4 && f.refusal == ASHLAR_OK);
+    check("ashlar_find: from", f.looked == 5 && f.refusal == ASHLAR_OK);
     f = ashlar_find(list, n, roles, sizeof roles, 2, 1);
-    check("ashlar_find: the code comes before from", f.place == 3 && f.refusal == ASHLAR_OK);
+    check("ashlar_find: the code comes before from", f.looked == 4 && f.refusal == ASHLAR_OK);
     f = ashlar_find(list, n, roles, sizeof roles - 1, ASHLAR_SEARCHED_ROLE, 2);
-    check("ashlar_find: 15", f.place == 0 && f.refusal == ASHLAR_NOT_FOUND);
+    check("ashlar_find: 15", f.looked == 5 && f.refusal == ASHLAR_NOT_FOUND);
     refusals |= 1u << f.refusal;
     f = ashlar_find(list, 2, roles, sizeof roles, 1, 0);
-    check("ashlar_find: the list's length", f.refusal == ASHLAR_NOT_FOUND);
+    check("ashlar_find: the list's length", f.looked == 2 && f.refusal == ASHLAR_NOT_FOUND);
     f = ashlar_find(list, n, roles, sizeof roles, 3, 0);
-    check("ashlar_find: 16", f.place == 0 && f.refusal == ASHLAR_UNKNOWN_KIND);
+    check("ashlar_find: 16", f.looked == 0 && f.refusal == ASHLAR_UNKNOWN_KIND);
     refusals |= 1u << f.refusal;
 }
 

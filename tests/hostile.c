@@ -204,8 +204,8 @@ static void find(void) {
     many = listed(p, n, &list);
     size_t from = below(4) ? 0 : below(3) ? below(20) : (size_t)any() << 32;
     AshlarFound a = ashlar_find(list, many, p, n, k, from), b = plain_find(list, many, p, n, k, from);
-    bool same = a.place == b.place && a.refusal == b.refusal;
-    told(FIND, a.refusal, same && (a.refusal || reads(k, p, list[a.place])));
+    bool same = a.looked == b.looked && a.refusal == b.refusal;
+    told(FIND, a.refusal, same && (a.refusal || reads(k, p, list[a.looked - 1])));
 }
 
 /* the part that is answered lies in the value */
