@@ -5,9 +5,10 @@
 #include <stdlib.h>
 #include <string.h>
 
-enum { MOST = 64, TLVS = 15914 };
+/* the longest payload has as many TLVs with an address each */
+enum { MOST = 64, TLVS = 15914, LONGEST = 9 * TLVS };
 
-static uint8_t payload[ASHLAR_STORE], store[ASHLAR_STORE], out[3 * ASHLAR_PAYLOAD];
+static uint8_t payload[LONGEST], store[ASHLAR_STORE], out[3 * ASHLAR_PAYLOAD];
 static AshlarTlv list[TLVS];
 static AshlarTable tables[MOST];
 static AshlarStations stations[MOST];
@@ -250,7 +251,7 @@ int main(int argc, char **argv) {
     else if (!strcmp(row, "url-1400")) url(1400), read_kind(turns, 22);
     else if (!strcmp(row, "find-none")) find(turns, 1);
     else if (!strcmp(row, "find-first")) find(turns, 2);
-    else if (!strcmp(row, "find-all")) tlvs(15914, 22, 0, 2), find_all(turns, 22);
+    else if (!strcmp(row, "find-all")) tlvs(TLVS, 2, 6, 6), find_all(turns, 2);
     else if (!strcmp(row, "push-1492")) complete(turns, 1492);
     else if (!strcmp(row, "push-16")) complete(turns, 16);
     else if (!strcmp(row, "wait")) waiting(turns, (int)many, 16);

@@ -75,7 +75,8 @@ extern "C" {
 #define ASHLAR_STATION_TABLE 2048       /* bytes of an AshlarStations */
 #define ASHLAR_PAIRS 1024               /* pairs that a report is over, at most (rule Q4) */
 #define ASHLAR_OLD 3000                 /* milliseconds after which ashlar_sweep drops a message (rule S1) */
-/* TLVs of a payload of `size` bytes, at most: ashlar_walk_into never refuses a list of that length with 14 */
+/* TLVs of a payload of `size` bytes, at most: ashlar_walk_into never refuses a list of that length with 14.
+   Both are proved, and that a payload of that size has as many (rule W7). */
 #define ASHLAR_TLVS(size) ((size) / 3)
 
 /* ---- Refusals ---- */
@@ -124,7 +125,8 @@ typedef enum {
     /* The payload has more TLVs than the list has elements. `at` is the offset of the first TLV that has
        none: call again with a longer list. */
     ASHLAR_LIST_TOO_SHORT = 14,
-    /* The list has no readable TLV of this kind, from the given place on. */
+    /* The list has no readable TLV of this kind after its first `from` TLVs. `looked` is the list's
+       length. */
     ASHLAR_NOT_FOUND = 15,
     /* The code is not in AshlarCode. */
     ASHLAR_UNKNOWN_KIND = 16,
@@ -232,9 +234,10 @@ typedef struct {
     uint8_t refusal; /* an AshlarRefusal */
 } AshlarKind;
 
-/* What a search answers. */
+/* What a search answers. The TLV that was found is list[looked - 1]. */
 typedef struct {
-    size_t place;    /* the number of the TLV in the list, from 0; 0 where refused */
+    size_t looked;   /* how many TLVs were looked at, from the list's start: the place of the one that was
+                        found, counted from 1; the list's length for 15, and 0 for 16 */
     uint8_t refusal; /* an AshlarRefusal */
 } AshlarFound;
 
@@ -423,9 +426,9 @@ AshlarWalk ashlar_walk_into(AshlarTlv *list, size_t list_length, const uint8_t *
    is refused by 3, whatever its texts are. Refusals: 3, 4, 5, 16, 18. */
 AshlarKind ashlar_read_kind(uint8_t code, const uint8_t *value, size_t value_length);
 
-/* Finds the first TLV of the list, from the place `from` on, that has this code, lies inside the payload, and
-   whose value reads. Start from 0 for the first, and from an answer's place plus 1 for the next (rules F1 to
-   F3). Refusals: 15, 16. */
+/* Finds the first TLV of the list, after its first `from` TLVs, that has this code, lies inside the payload,
+   and whose value reads. `from` is 0 for the first, and an answer's `looked` for the next (rules F1 to F3).
+   Refusals: 15, 16. */
 AshlarFound ashlar_find(const AshlarTlv *list, size_t list_length, const uint8_t *payload,
                         size_t payload_length, uint8_t code, size_t from);
 

@@ -26,6 +26,20 @@ static void finds(const char *name, const AshlarTlv *list, size_t n, uint8_t cod
     printf("%s finding: %s\n", good ? "ok" : "FAILED", name);
 }
 
+/* the largest payload with the most TLVs: each is found, one after the other, and then none */
+static void finds_all(void) {
+    enum { MOST = 15914 };
+    static uint8_t urls[3 * MOST];
+    static AshlarTlv list[MOST];
+    for (size_t i = 0; i < sizeof urls; i += 3) urls[i] = ASHLAR_CONTROL_URL;
+    size_t n = ashlar_walk_into(list, MOST, urls, sizeof urls).count, found = 0;
+    AshlarFound got = {0};
+    while (!(got = ashlar_find(list, n, urls, sizeof urls, ASHLAR_CONTROL_URL, got.looked)).refusal) failed += got.looked != ++found;
+    bool good = n == MOST && found == MOST && got.looked == MOST && got.refusal == ASHLAR_NOT_FOUND && !failed;
+    failed += !good;
+    printf("%s finding: all of 15,914, each from the number before\n", good ? "ok" : "FAILED");
+}
+
 int main(void) {
     const AshlarTlv outside[] = {{0x92, 13, SIZE_MAX}, {0x92, 13, SIZE_MAX - 2}, {0x92, 13, SIZE_MAX - 15}, {0x92, 13, 51}, {0x92, 13, 36}, {0x92, 13, 16}};
     const AshlarTlv past[] = {{0x92, 13, 35}, {0x92, 13, 36}};
@@ -53,5 +67,6 @@ int main(void) {
     finds("no TLV of the kind", walked, 4, 23, 0, 4, 0, 15);
     finds("a kind that is none of them", walked, 4, 3, 0, 0, 0, 16);
     finds("that, with an empty list", walked, 0, 255, 0, 0, 0, 16);
+    finds_all();
     return failed != 0;
 }
