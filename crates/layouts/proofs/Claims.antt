@@ -19,14 +19,14 @@ use Rattle.layouts.specs.declared.Located.{Located}
 use Rattle.layouts.specs.declared.Located.the-variants.{Entry, Refused as NotLocated}
 use Rattle.layouts.specs.declared.Counted.{Counted}
 use Rattle.layouts.specs.declared.Counted.the-variants.{Entries, Refused as NotCounted}
-use Rattle.layouts.specs.Layouts.{Layout, Rest, handed-back, refused, ListKind, layoutOf}
-use Rattle.layouts.specs.Reading.{ListAt, Consumed, consumedTo, listingOf, endingOf, readingOf, readAs, readValue}
+use Rattle.layouts.specs.Layouts.{Counting, c1, to-end, Layout, layoutOf}
+use Rattle.layouts.specs.Reading.{ListAt, countingOf, Consumed, consumedTo, listingOf, endingOf, readingOf, readAs, readValue}
 use Rattle.layouts.specs.Access.{Span, spanOf, lengthAt, locatedOf, locateEntry, partOf, countedOf, countEntries}
 use Rattle.layouts.specs.Claims.{Firmness, levelsOf, Shown, Below, ListValues, ListAlone, ListsAlone, Claims}
 use Rattle.layouts.proofs.Within.{end-within}
 use Rattle.layouts.proofs.Laws.{read-to}
 use Rattle.layouts.proofs.Finding.{find-here}
-use Rattle.layouts.proofs.Table.{allCounted, each, rest-counted}
+use Rattle.layouts.proofs.Table.{allCounted, each, inner-counted}
 use Rattle.layouts.proofs.Reached.{reached, only, span-inside}
 use Rattle.layouts.proofs.Local.{Agree, taken, end-local, list-alike, span-alike, length-alike}
 use Rattle.layouts.proofs.Parts.{parts-of-entries, plain}
@@ -74,26 +74,26 @@ firmness = record {
   count = λ code path s. by-telling countedOf counted-told _;
 }
 
--- the kind of a code whose value reads
+-- the layout of a code whose value reads
 record Read (code : ℕ) (s : List ℕ) (r : Consumed) : Type 0 where
-  kind : ListKind
-  is : layoutOf code ≡ gives kind
-  reads : readAs kind s ≡ gives r
-  done : Ended kind s r
+  layout : Layout
+  is : layoutOf code ≡ gives layout
+  reads : readAs layout s ≡ gives r
+  done : Ended layout s r
 
 read : (code : ℕ) (s : List ℕ) (r : Consumed) → readValue code s ≡ gives r → Read code s r
 unfolding readValue
 read code s r x =
-    let a = gave (layoutOf code) (λ k. readAs k s) r x in
-    record { kind = a .first; is = a .is; reads = a .then; done = ended (a .first) s r (a .then) }
+    let a = gave (layoutOf code) (λ l. readAs l s) r x in
+    record { layout = a .first; is = a .is; reads = a .then; done = ended (a .first) s r (a .then) }
 
-levels-3 : (code : ℕ) (k : ListKind) → layoutOf code ≡ gives k → levelsOf (k .layout) ≤ 3
-levels-3 code k x = leb→le (levelsOf (k .layout)) 3 (each (λ k. leb (levelsOf (k .layout)) 3) tt code k x)
+levels-3 : (code : ℕ) (l : Layout) → layoutOf code ≡ gives l → levelsOf l ≤ 3
+levels-3 code l x = leb→le (levelsOf l) 3 (each (λ l. leb (levelsOf l) 3) tt code l x)
 
 consumed-within : (code : ℕ) (s : List ℕ) (r : Consumed) → readValue code s ≡ gives r → (r .consumed ≤ length s) × (r .consumed + r .rest ≡ length s)
 consumed-within code s r x =
     let a = read code s r x in
-    let w = end-within (a .kind .layout) s 0 (r .consumed) (a .done .ends) in
+    let w = end-within (a .layout) s 0 (r .consumed) (a .done .ends) in
     let l = a .done .left in
     (w .1, omega arith)
 
@@ -101,20 +101,20 @@ own-count : (code : ℕ) (s : List ℕ) (r : Consumed) → readValue code s ≡ 
 unfolding countEntries lengthAt
 own-count code s r x =
     let a = read code s r x in
-    answers (λ l t. lengthAt l [] t) code s (a .kind) r (a .is) (a .reads) ∙
-    follows _ _ _ (find-here (a .kind .layout) s 0) ∙ mapped-given _ _ (a .done .list) (a .done .has) ∙ ap gives (a .done .many)
+    answers (λ l t. lengthAt l [] t) code s (a .layout) r (a .is) (a .reads) ∙
+    follows _ _ _ (find-here (a .layout) s 0) ∙ mapped-given _ _ (a .done .list) (a .done .has) ∙ ap gives (a .done .many)
 
 every-entry : (code : ℕ) (is s : List ℕ) (r : Consumed) (n i : ℕ) → readValue code s ≡ gives r → countEntries code is s ≡ gives n → i < n →
     Shown (locateEntry code (is ++ i ∷ []) s) (r .consumed)
 unfolding countEntries locateEntry readValue
 every-entry code is s r n i x y h =
     let a = asked (λ l t. lengthAt l is t) code s n y in
-    let same : a .value ≡ r = given (a .value) r (sym (follows (layoutOf code) (a .kind) (λ k. readAs k s) (a .is) ∙ a .reads) ∙ x) in
-    let e = ended (a .kind) s r (a .reads ∙ ap gives same) in
-    let b = reached (a .kind .layout) is s (r .consumed) n i (e .ends) (a .says) h in
+    let same : a .value ≡ r = given (a .value) r (sym (follows (layoutOf code) (a .layout) (λ l. readAs l s) (a .is) ∙ a .reads) ∙ x) in
+    let e = ended (a .layout) s r (a .reads ∙ ap gives same) in
+    let b = reached (a .layout) is s (r .consumed) n i (e .ends) (a .says) h in
     record {
       span = b .span;
-      is = answers (λ l t. spanOf l (is ++ i ∷ []) t) code s (a .kind) (a .value) (a .is) (a .reads) ∙ b .is;
+      is = answers (λ l t. spanOf l (is ++ i ∷ []) t) code s (a .layout) (a .value) (a .is) (a .reads) ∙ b .is;
       ordered = b .ordered;
       inside = b .inside;
     }
@@ -123,8 +123,8 @@ no-other : (code : ℕ) (is s : List ℕ) (i : ℕ) (r : Span) → locateEntry c
 unfolding countEntries locateEntry
 no-other code is s i r x =
     let a = asked (λ l t. spanOf l (is ++ i ∷ []) t) code s r x in
-    let b = only (a .kind .layout) is s i r (a .says) in
-    record { many = b .many; counts = answers (λ l t. lengthAt l is t) code s (a .kind) (a .value) (a .is) (a .reads) ∙ b .counts; less = b .less }
+    let b = only (a .layout) is s i r (a .says) in
+    record { many = b .many; counts = answers (λ l t. lengthAt l is t) code s (a .layout) (a .value) (a .is) (a .reads) ∙ b .counts; less = b .less }
 
 no-numbers : (code : ℕ) (s : List ℕ) (r : Span) → locateEntry code [] s ≡ gives r → ⊥
 unfolding locateEntry spanOf
@@ -151,8 +151,8 @@ module _ (code : ℕ) (s : List ℕ) (r : Consumed) (x : readValue code s ≡ gi
   short : r .consumed ≤ length s
   short = consumed-within code s r x .0
 
-  -- a kind that refuses a rest has read all bytes
-  whole : a .kind .rest ≡ refused → ListAlone code s r
+  -- a list to the end leaves no byte
+  whole : countingOf (a .layout) ≡ to-end → ListAlone code s r
   whole e =
       let all : t ≡ s = take-all (r .consumed) s (a .done .all e) in
       let l = a .done .all e in
@@ -165,13 +165,13 @@ module _ (code : ℕ) (s : List ℕ) (r : Consumed) (x : readValue code s ≡ gi
         parts = λ is. ap (λ t. partOf (locateEntry code is t) t) all;
       }
 
-  -- in another every list is counted
-  module _ (e : a .kind .rest ≡ handed-back) where
+  -- in another value every list is counted
+  module _ (e : countingOf (a .layout) ≡ c1) where
     abbrev l : Layout
-    l = a .kind .layout
+    l = a .layout
 
     c : T (allCounted l)
-    c = rest-counted code (a .kind) (a .is) e
+    c = inner-counted code (a .layout) (a .is) e
 
     agree : Agree (r .consumed) s t
     agree = taken (r .consumed) s short
@@ -179,29 +179,29 @@ module _ (code : ℕ) (s : List ℕ) (r : Consumed) (x : readValue code s ≡ gi
     same : r .consumed ≤ r .consumed
     same = omega arith
 
-    reads-as : readAs (a .kind) t ≡ gives (record { consumed = r .consumed; rest = 0; entries = r .entries })
+    reads-as : readAs (a .layout) t ≡ gives (record { consumed = r .consumed; rest = 0; entries = r .entries })
     unfolding consumedTo
     reads-as =
         let list = list-alike s t (r .consumed) agree l 0 (r .consumed) c same (a .done .ends) ∙ a .done .has in
         let stop = end-local s t (r .consumed) agree l 0 (r .consumed) c same (a .done .ends) in
         let n = length-take-le (r .consumed) s short in
         let none : length t - r .consumed ≡ 0 = omega arith in
-        read-to (a .kind) t (a .done .list) (r .consumed) list stop ∙ rw (e, none, a .done .many)
+        read-to (a .layout) t (a .done .list) (r .consumed) list stop ∙ rw (e, none, a .done .many)
 
     counts : (is : List ℕ) → countEntries code is t ≡ countEntries code is s
     unfolding countEntries
     counts is =
-        answers (λ l t. lengthAt l is t) code t (a .kind) _ (a .is) reads-as ∙ length-alike s t (r .consumed) agree l (r .consumed) c same (a .done .ends) is ∙
-        sym (answers (λ l t. lengthAt l is t) code s (a .kind) r (a .is) (a .reads))
+        answers (λ l t. lengthAt l is t) code t (a .layout) _ (a .is) reads-as ∙ length-alike s t (r .consumed) agree l (r .consumed) c same (a .done .ends) is ∙
+        sym (answers (λ l t. lengthAt l is t) code s (a .layout) r (a .is) (a .reads))
 
     spans : (is : List ℕ) → locateEntry code is s ≡ spanOf l is s
     unfolding locateEntry
-    spans is = answers (λ l t. spanOf l is t) code s (a .kind) r (a .is) (a .reads)
+    spans is = answers (λ l t. spanOf l is t) code s (a .layout) r (a .is) (a .reads)
 
     located : (is : List ℕ) → locateEntry code is t ≡ locateEntry code is s
     unfolding locateEntry
     located is =
-        answers (λ l t. spanOf l is t) code t (a .kind) _ (a .is) reads-as ∙ span-alike s t (r .consumed) agree l (r .consumed) c same (a .done .ends) is ∙ sym (spans is)
+        answers (λ l t. spanOf l is t) code t (a .layout) _ (a .is) reads-as ∙ span-alike s t (r .consumed) agree l (r .consumed) c same (a .done .ends) is ∙ sym (spans is)
 
     parts : (is : List ℕ) → partOf (locateEntry code is t) t ≡ partOf (locateEntry code is s) s
     parts is = ap (λ y. partOf y t) (located is) ∙ go (locateEntry code is s) refl where
@@ -213,13 +213,13 @@ module _ (code : ℕ) (s : List ℕ) (r : Consumed) (x : readValue code s ≡ gi
 
     counted : ListAlone code s r
     unfolding readValue
-    counted = record { reads = follows (layoutOf code) (a .kind) (λ k. readAs k t) (a .is) ∙ reads-as; counts = counts; located = located; parts = parts }
+    counted = record { reads = follows (layoutOf code) (a .layout) (λ l. readAs l t) (a .is) ∙ reads-as; counts = counts; located = located; parts = parts }
 
   alone : ListAlone code s r
-  alone = go (a .kind .rest) refl where
-    go : (b : Rest) → a .kind .rest ≡ b → ListAlone code s r
-    go handed-back e = counted e
-    go refused e = whole e
+  alone = go (countingOf (a .layout)) refl where
+    go : (w : Counting) → countingOf (a .layout) ≡ w → ListAlone code s r
+    go c1 e = counted e
+    go to-end e = whole e
 
 pub consumed-alone : ListsAlone
 consumed-alone = alone

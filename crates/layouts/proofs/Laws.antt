@@ -8,8 +8,8 @@ use Rattle.numbers.specs.Numbers.{Answer, gives, refuses, andThen}
 use Rattle.numbers.proofs.Firm.{never}
 use Rattle.numbers.proofs.Answers.{follows, stops}
 use Rattle.layouts.specs.declared.LayoutRow.{LayoutRow}
-use Rattle.layouts.specs.Layouts.{bytes, entry, ListKind}
-use Rattle.layouts.specs.Reading.{reaching, ListAt, headOf, countAt, listOf, entriesEnd, endOf, consumedTo, readAs}
+use Rattle.layouts.specs.Layouts.{Layout, bytes, entry}
+use Rattle.layouts.specs.Reading.{reaching, ListAt, headOf, countingOf, countAt, listOf, entriesEnd, endOf, consumedTo, readAs}
 use Rattle.layouts.specs.Rows.{counting, rowBelow, layoutIn, rowLayout}
 use Rattle.layouts.proofs.Within.{list-leaf}
 
@@ -18,10 +18,10 @@ pub layout-zero : (row : LayoutRow) → row .levels ≡ 0 → rowLayout row ≡ 
 unfolding layoutIn
 layout-zero row e = rw e
 
-pub layout-more : (row : LayoutRow) → (row .levels ≡ 0 → ⊥) → rowLayout row ≡ entry (row .h0) (counting (row .w0)) (rowLayout (rowBelow row))
+pub layout-more : (row : LayoutRow) → (row .levels ≡ 0 → ⊥) → rowLayout row ≡ entry (row .h0) (counting (row .«has_count»)) (rowLayout (rowBelow row))
 unfolding layoutIn
 layout-more row f = go (row .levels) refl where
-  go : (k : ℕ) → row .levels ≡ k → layoutIn k row ≡ entry (row .h0) (counting (row .w0)) (layoutIn (k - 1) (rowBelow row))
+  go : (k : ℕ) → row .levels ≡ k → layoutIn k row ≡ entry (row .h0) (counting (row .«has_count»)) (layoutIn (k - 1) (rowBelow row))
   go zero e = absurd (f e)
   go (suc k) e = rw (sub-one (suc k))
 
@@ -52,7 +52,11 @@ module _ (row : LayoutRow) (s : List ℕ) (p : ℕ) where
     go zero e = never m 6 [] (sym x ∙ list-none e)
     go (suc k) e = omega arith
 
-  pub list-steps : (row .levels ≡ 0 → ⊥) → listOf (rowLayout row) s p ≡ andThen (reaching (p + row .h0) s (p + row .h0)) (λ q. countAt (counting (row .w0)) (row .h1) s q)
+  -- and it is counted as the row says
+  pub counting-of : (m : ListAt) → listOf (rowLayout row) s p ≡ gives m → countingOf (rowLayout row) ≡ counting (row .«has_count»)
+  counting-of m x = let l = list-level m x in rw (layout-more row (omega arith))
+
+  pub list-steps : (row .levels ≡ 0 → ⊥) → listOf (rowLayout row) s p ≡ andThen (reaching (p + row .h0) s (p + row .h0)) (λ q. countAt (counting (row .«has_count»)) (row .h1) s q)
   unfolding listOf
   list-steps f = rw (layout-more row f, head-of (rowBelow row))
 
@@ -81,7 +85,7 @@ unfolding entriesEnd
 entries-more f n i p h = let e : n - i ≡ suc (n - (i + 1)) = omega arith in rw e
 
 -- a value whose list is there and that ends
-pub read-to : (k : ListKind) (s : List ℕ) (m : ListAt) (e : ℕ) → listOf (k .layout) s 0 ≡ gives m → endOf (k .layout) s 0 ≡ gives e →
-    readAs k s ≡ consumedTo (k .rest) e (m .many) s
+pub read-to : (l : Layout) (s : List ℕ) (m : ListAt) (e : ℕ) → listOf l s 0 ≡ gives m → endOf l s 0 ≡ gives e →
+    readAs l s ≡ consumedTo (countingOf l) e (m .many) s
 unfolding readAs
-read-to k s m e x y = rw (x, y)
+read-to l s m e x y = rw (x, y)

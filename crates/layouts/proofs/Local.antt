@@ -9,17 +9,15 @@ use lib.ListN.{length, getD, take}
 use lib.Seq.{getD-take, length-take-le}
 use lib.Dec.{ltb, T}
 use borrow.Author.Tests.{ltb-true}
-use Rattle.numbers.specs.Bytes.{bigEndian, numberAt}
-use Rattle.numbers.proofs.Bytes.{digitsAt, number-at}
 use Rattle.numbers.specs.Numbers.{Answer, gives, refuses, andThen}
 use Rattle.numbers.proofs.Answers.{given, gave, follows, mapped-given}
-use Rattle.layouts.specs.Layouts.{Counting, c1, c2, to-end, Layout, bytes, entry}
+use Rattle.layouts.specs.Layouts.{c1, to-end, Layout, bytes, entry}
 use Rattle.layouts.specs.Reading.{ListAt, headOf, countAt, listOf, entriesEnd, endOf}
 use Rattle.layouts.specs.Access.{childAt, below, Spot, findEntry, spanOf, lengthAt, Spans, spansFrom}
 use Rattle.layouts.proofs.Within.{Within, reaches, reached, count-within, behind-head, list-leaf, list-within, entries-within, ends-in, end-within}
 use Rattle.layouts.proofs.Spans.{spans-end, placed, cons, spans-within}
 use Rattle.layouts.proofs.Reached.{child-reads, child-lies, find-lies}
-use Rattle.layouts.proofs.Table.{hasCount, allCounted}
+use Rattle.layouts.proofs.Table.{allCounted}
 
 -- the first m bytes of t are those of s
 pub record Agree (m : ℕ) (s t : List ℕ) : Type 0 where
@@ -30,47 +28,29 @@ pub record Agree (m : ℕ) (s t : List ℕ) : Type 0 where
 pub taken : (q : ℕ) (s : List ℕ) → q ≤ length s → Agree q s (take q s)
 taken q s h = record { long = omega (arith, length-take-le q s h); same = λ i l. getD-take q s i 0 l }
 
-counted : (k : ℕ) (w : Counting) (e : Layout) → T (allCounted (entry k w e)) → T (hasCount w)
-counted k c1 e c = tt
-counted k c2 e c = tt
-counted k to-end e c = c
-
 counted-below : (l : Layout) → T (allCounted l) → T (allCounted (below l))
 counted-below (bytes n) c = c
 counted-below (entry k c1 e) c = c
-counted-below (entry k c2 e) c = c
 counted-below (entry k to-end e) c = absurd c
 
 module _ (s t : List ℕ) (m : ℕ) (g : Agree m s t) where
-  -- a number in them is the same
-  number-local : (w p : ℕ) → p + w ≤ m → p + w ≤ length s → numberAt w p t ≡ numberAt w p s
-  number-local w p b l = sym (number-at w p t (omega (arith, g .long))) ∙ ap bigEndian (digits w p b) ∙ number-at w p s l where
-    digits : (w p : ℕ) → p + w ≤ m → digitsAt w p t ≡ digitsAt w p s
-    digits zero p b = refl
-    digits (suc w) p b = rw (g .same p (omega arith), digits w (p + 1) (omega arith))
-
-  count-local : (w : Counting) (h p : ℕ) (x : ListAt) → T (hasCount w) → x .first ≤ m → countAt w h s p ≡ gives x → countAt w h t p ≡ gives x
+  count-local : (h p : ℕ) (x : ListAt) → x .first ≤ m → countAt c1 h s p ≡ gives x → countAt c1 h t p ≡ gives x
   unfolding countAt
-  count-local c1 h p x c l y =
+  count-local h p x l y =
       let a = reached (p + 1) s _ x y in
       let z : p + 1 ≡ x .first = ap (λ x. x .first) (a .1) in
       let long = g .long in
-      rw (number-local 1 p (omega arith) (a .0)) (reaches (p + 1) t _ (omega arith) ∙ ap gives (a .1))
-  count-local c2 h p x c l y =
-      let a = reached (p + 2) s _ x y in
-      let z : p + 2 ≡ x .first = ap (λ x. x .first) (a .1) in
-      let long = g .long in
-      rw (number-local 2 p (omega arith) (a .0)) (reaches (p + 2) t _ (omega arith) ∙ ap gives (a .1))
-  count-local to-end h p x c l y = absurd c
+      rw (g .same p (omega arith)) (reaches (p + 1) t _ (omega arith) ∙ ap gives (a .1))
 
   pub list-local : (l : Layout) (p : ℕ) (x : ListAt) → T (allCounted l) → x .first ≤ m → listOf l s p ≡ gives x → listOf l t p ≡ gives x
   unfolding listOf
   list-local (bytes k) p x c b y = y
-  list-local (entry k w e) p x c b y =
-      let a = behind-head k w e s p x y in
-      let z = count-within w (headOf e) s (p + k) x (a .head) (a .counts) in
+  list-local (entry k to-end e) p x c b y = absurd c
+  list-local (entry k c1 e) p x c b y =
+      let a = behind-head k c1 e s p x y in
+      let z = count-within c1 (headOf e) s (p + k) x (a .head) (a .counts) in
       let long = g .long in
-      rw (reaches (p + k) t (p + k) (omega arith)) (count-local w (headOf e) (p + k) x (counted k w e c) b (a .counts))
+      rw (reaches (p + k) t (p + k) (omega arith)) (count-local (headOf e) (p + k) x b (a .counts))
 
   pub spans-local : (f f′ : ℕ → Answer ℕ) → ((p q : ℕ) → f p ≡ gives q → Within p q s) → ((p q : ℕ) → q ≤ m → f p ≡ gives q → f′ p ≡ gives q) →
       (n p : ℕ) (r : Spans) → r .end ≤ m → spansFrom f n p ≡ gives r → spansFrom f′ n p ≡ gives r

@@ -10,7 +10,7 @@ use borrow.Author.Tests.{leb-true, le-leb, lt-leb, ltb-true}
 use Rattle.numbers.specs.Numbers.{Answer, gives, refuses}
 use Rattle.numbers.proofs.Firm.{never}
 use Rattle.numbers.proofs.Answers.{given, gave}
-use Rattle.layouts.specs.Layouts.{Counting, c1, c2, to-end, Layout, bytes, entry}
+use Rattle.layouts.specs.Layouts.{Counting, c1, to-end, Layout, bytes, entry}
 use Rattle.layouts.specs.Reading.{reaching, ListAt, headOf, countAt, listOf, entriesEnd, endOf}
 use Rattle.layouts.specs.Access.{childAt, below}
 
@@ -33,7 +33,6 @@ reached q s a b x = go (leb q (length s)) refl x where
 pub count-within : (w : Counting) (h : ℕ) (s : List ℕ) (p : ℕ) (m : ListAt) → p ≤ length s → countAt w h s p ≡ gives m → Within p (m .first) s
 unfolding countAt
 count-within c1 h s p m b x = let a = reached (p + 1) s _ m x in let e : p + 1 ≡ m .first = ap (λ m. m .first) (a .1) in omega arith
-count-within c2 h s p m b x = let a = reached (p + 2) s _ m x in let e : p + 2 ≡ m .first = ap (λ m. m .first) (a .1) in omega arith
 count-within to-end h s p m b x = let e : p ≡ m .first = ap (λ m. m .first) (given _ m x) in omega arith
 
 -- the list of an entry that has one stands after its head

@@ -10,7 +10,7 @@ use Rattle.layouts.specs.declared.Located.{Located}
 use Rattle.layouts.specs.declared.Located.the-variants.{Entry, Refused}
 use Rattle.layouts.specs.declared.Counted.{Counted}
 use Rattle.layouts.specs.declared.Counted.the-variants.{Entries, Refused as NotCounted}
-use Rattle.layouts.specs.Layouts.{Layout, bytes, entry, ListKind, layoutOf}
+use Rattle.layouts.specs.Layouts.{Layout, bytes, entry, layoutOf}
 use Rattle.layouts.specs.Reading.{listOf, entriesEnd, endOf, readAs}
 
 -- Rule E1: the numbers of a path, `depth` of them. Those past the third are 0, because no kind has more than three
@@ -56,16 +56,16 @@ unfoldable pub lengthAt : Layout → List ℕ → List ℕ → Answer ℕ
 lengthAt l is s = andThen (findEntry l is s 0) (λ f. mapped (λ m. m .many) (listOf (f .layout) s (f .start)))
 
 -- Rules E2 and N2: the whole value has to read before the entry is looked for.
-unfoldable pub ofValue : {A : Type 0} → (Layout → List ℕ → Answer A) → ListKind → List ℕ → Answer A
-ofValue f k s = andThen (readAs k s) (λ r. f (k .layout) s)
+unfoldable pub ofValue : {A : Type 0} → (Layout → List ℕ → Answer A) → Layout → List ℕ → Answer A
+ofValue f l s = andThen (readAs l s) (λ r. f l s)
 
 -- Rules E1 and E2, for the list kinds.
 unfoldable pub locateEntry : ℕ → List ℕ → List ℕ → Answer Span
-locateEntry code is s = andThen (layoutOf code) (λ k. ofValue (λ l t. spanOf l is t) k s)
+locateEntry code is s = andThen (layoutOf code) (λ l. ofValue (λ l t. spanOf l is t) l s)
 
 -- Rule E3, for the list kinds.
 unfoldable pub countEntries : ℕ → List ℕ → List ℕ → Answer ℕ
-countEntries code is s = andThen (layoutOf code) (λ k. ofValue (λ l t. lengthAt l is t) k s)
+countEntries code is s = andThen (layoutOf code) (λ l. ofValue (λ l t. lengthAt l is t) l s)
 
 -- Rules E1 and A5: the part itself, and where it starts. Where there is none, it is the empty part at the start.
 abbrev pub partOf : Answer Span → List ℕ → List ℕ

@@ -9,7 +9,7 @@ use Rattle.numbers.specs.Firmness.{Firm}
 use Rattle.numbers.specs.Parts.{behind}
 use Rattle.layouts.specs.declared.LayoutRow.{LayoutRow}
 use Rattle.layouts.specs.declared.Path.{Path}
-use Rattle.layouts.specs.Layouts.{Counting, to-end, Layout, bytes, entry, ListKind, layoutOf, isList}
+use Rattle.layouts.specs.Layouts.{Counting, to-end, Layout, bytes, entry, layoutOf, isList}
 use Rattle.layouts.specs.Rows.{rowLayout}
 use Rattle.layouts.specs.Reading.{ListAt, listOf, entriesEnd, endOf, Consumed, listingOf, endingOf, readingOf, readValue}
 use Rattle.layouts.specs.Access.{numbersOf, Span, spanOf, nthOf, partsIn, locatedOf, locateEntry, partOf, startIn, countedOf, countEntries}
@@ -47,7 +47,7 @@ pub record Below (x : Answer ℕ) (i : ℕ) : Type 0 where
 -- What holds for every value of every list kind (rules K1, E1, E2 and E3).
 pub record ListValues : Type 0 where
   -- Rule E1: no kind has more than three levels
-  pub levels-3 : (code : ℕ) (k : ListKind) → layoutOf code ≡ gives k → levelsOf (k .layout) ≤ 3
+  pub levels-3 : (code : ℕ) (l : Layout) → layoutOf code ≡ gives l → levelsOf l ≤ 3
   -- Rule K1: the bytes consumed and the rest together are the value
   pub consumed-within : (code : ℕ) (s : List ℕ) (r : Consumed) → readValue code s ≡ gives r →
       (r .consumed ≤ length s) × (r .consumed + r .rest ≡ length s)

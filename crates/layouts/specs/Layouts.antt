@@ -5,10 +5,9 @@ use Prim.Native.Nat.{ℕ, _+_}
 use lib.Dec.{eqb}
 use Rattle.numbers.specs.Numbers.{Answer, gives, refuses, isGiven}
 
--- Rule K3: the count of a list has one byte (c1) or two (c2), or the list has no count and goes to the end.
+-- Rule K3: the count of a list has one byte (c1), or the list has no count and goes to the end.
 pub data Counting : Type 0 where
   c1 : Counting
-  c2 : Counting
   to-end : Counting
 
 -- Rule K3: an entry is some bytes, its head, and then, unless it is the head alone, a list of entries. A whole value is
@@ -17,12 +16,9 @@ pub data Layout : Type 0 where
   bytes : ℕ → Layout
   entry : ℕ → Counting → Layout → Layout
 
--- how the table writes layouts: a list of e with a count of one byte or two, e to the end, and n bytes and then e
+-- how the table writes layouts: a list of e with a count, e to the end, and n bytes and then e
 abbrev pub c1-of : Layout → Layout
 c1-of e = entry 0 c1 e
-
-abbrev pub c2-of : Layout → Layout
-c2-of e = entry 0 c2 e
 
 abbrev pub to-end-of : Layout → Layout
 to-end-of e = entry 0 to-end e
@@ -32,55 +28,44 @@ abbrev pub _then_ : ℕ → Layout → Layout
 n then bytes m = bytes (n + m)
 n then entry m w e = entry (n + m) w e
 
--- Rule K4: what becomes of bytes after the layout. They are the rest, or they are refused.
-pub data Rest : Type 0 where
-  handed-back : Rest
-  refused : Rest
-
-pub record ListKind : Type 0 where
-  pub layout : Layout
-  pub rest : Rest
-
 pub record Line : Type 0 where
   pub code : ℕ
-  pub kind : ListKind
+  pub layout : Layout
 
-abbrev line : ℕ → Rest → Layout → Line
-line n r l = record { code = n; kind = record { layout = l; rest = r } }
+abbrev line : ℕ → Layout → Line
+line n l = record { code = n; layout = l }
 
--- Rule K2: the list kinds, with their codes and layouts. Rule K4: 6, 7, 9, 10 and 30 refuse left-over bytes.
+-- Rule K2: the list kinds, with their codes and layouts.
 abbrev pub table : List Line
 table =
     -- SupportedService
-    line 0x80 handed-back (c1-of (bytes 1)) ∷
+    line 0x80 (c1-of (bytes 1)) ∷
     -- NonIeee1905NeighborDevices
-    line 6 refused (6 then to-end-of (bytes 6)) ∷
+    line 6 (6 then to-end-of (bytes 6)) ∷
     -- Ieee1905NeighborDevice
-    line 7 refused (6 then to-end-of (bytes 7)) ∷
+    line 7 (6 then to-end-of (bytes 7)) ∷
     -- LinkMetricTx
-    line 9 refused (12 then to-end-of (bytes 29)) ∷
+    line 9 (12 then to-end-of (bytes 29)) ∷
     -- LinkMetricRx
-    line 10 refused (12 then to-end-of (bytes 23)) ∷
+    line 10 (12 then to-end-of (bytes 23)) ∷
     -- Ipv4
-    line 23 handed-back (c1-of (6 then c1-of (bytes 9))) ∷
+    line 23 (c1-of (6 then c1-of (bytes 9))) ∷
     -- Ipv6
-    line 24 handed-back (c1-of (22 then c1-of (bytes 33))) ∷
+    line 24 (c1-of (22 then c1-of (bytes 33))) ∷
     -- DeviceBridgingCapability
-    line 4 handed-back (c1-of (c1-of (bytes 6))) ∷
+    line 4 (c1-of (c1-of (bytes 6))) ∷
     -- ApOperationalBss
-    line 0x83 handed-back (c1-of (6 then c1-of (6 then c1-of (bytes 1)))) ∷
+    line 0x83 (c1-of (6 then c1-of (6 then c1-of (bytes 1)))) ∷
     -- BssConfigurationReport
-    line 0xB7 handed-back (c1-of (6 then c1-of (8 then c1-of (bytes 1)))) ∷
-    -- L2NeighborDevice
-    line 30 refused (c1-of (6 then c2-of (6 then c2-of (bytes 6)))) ∷
+    line 0xB7 (c1-of (6 then c1-of (8 then c1-of (bytes 1)))) ∷
     []
 
 -- The line with this code; 16 where no list kind has it. Rule K1 asks this of all kinds, in the crate `kinds`.
-abbrev pub lineOf : ℕ → List Line → Answer ListKind
+abbrev pub lineOf : ℕ → List Line → Answer Layout
 lineOf n [] = refuses 16 []
-lineOf n (l ∷ ls) = cond (eqb n (l .code)) (gives (l .kind)) (lineOf n ls)
+lineOf n (l ∷ ls) = cond (eqb n (l .code)) (gives (l .layout)) (lineOf n ls)
 
-unfoldable pub layoutOf : ℕ → Answer ListKind
+unfoldable pub layoutOf : ℕ → Answer Layout
 layoutOf n = lineOf n table
 
 -- whether a list kind has this code

@@ -3,16 +3,15 @@ use mathlib.Core.Bool.{cond}
 use mathlib.Core.List.{List, []}
 use Prim.Native.Nat.{ℕ, zero, suc, _+_, _-_, _/_}
 use lib.Dec.{ltb, leb}
-use lib.ListN.{length}
+use lib.ListN.{length, getD}
 use Rattle.numbers.specs.Numbers.{Answer, gives, refuses, told, andThen}
-use Rattle.numbers.specs.Bytes.{numberAt}
 use Rattle.layouts.specs.declared.Listing.{Listing}
 use Rattle.layouts.specs.declared.Listing.the-variants.{Of, Refused as NoList}
 use Rattle.layouts.specs.declared.Ending.{Ending}
 use Rattle.layouts.specs.declared.Ending.the-variants.{At, Refused as NoEnd}
 use Rattle.layouts.specs.declared.Reading.{Reading}
 use Rattle.layouts.specs.declared.Reading.the-variants.{Value, Refused}
-use Rattle.layouts.specs.Layouts.{Counting, c1, c2, to-end, Layout, bytes, entry, Rest, handed-back, refused, ListKind, layoutOf}
+use Rattle.layouts.specs.Layouts.{Counting, c1, to-end, Layout, bytes, entry, layoutOf}
 
 -- Rule K1: the answer a, if the value has q bytes. A value that stops before is refused by 3.
 abbrev pub reaching : {A : Type 0} → ℕ → List ℕ → A → Answer A
@@ -27,11 +26,15 @@ abbrev pub headOf : Layout → ℕ
 headOf (bytes n) = n
 headOf (entry n w e) = n
 
--- Rule K3: the list at p, by its count. A list to the end has as many whole entries of h bytes as fit, and none if h is
--- 0.
+-- how its own list is counted; where there is none, it makes no difference
+abbrev pub countingOf : Layout → Counting
+countingOf (bytes n) = c1
+countingOf (entry n w e) = w
+
+-- Rule K3: the list at p. Its count is the byte there. A list to the end has as many whole entries of h bytes as fit,
+-- and none if h is 0.
 unfoldable pub countAt : Counting → ℕ → List ℕ → ℕ → Answer ListAt
-countAt c1 h s p = reaching (p + 1) s (record { many = numberAt 1 p s; first = p + 1 })
-countAt c2 h s p = reaching (p + 2) s (record { many = numberAt 2 p s; first = p + 2 })
+countAt c1 h s p = reaching (p + 1) s (record { many = getD s p 0; first = p + 1 })
 countAt to-end h s p = gives (record { many = (length s - p) / h; first = p })
 
 -- The list of the entry that starts at p: it follows the entry's head. An entry without a list: 6 (rules E2 and E3).
@@ -69,15 +72,16 @@ abbrev pub readingOf : Reading → Answer Consumed
 readingOf (Value c r n) = gives (record { consumed = c; rest = r; entries = n })
 readingOf (Refused r) = told r
 
--- Rule K4: a value of n entries whose layout ends at e. What follows is the rest, or is refused by 4.
-unfoldable pub consumedTo : Rest → ℕ → ℕ → List ℕ → Answer Consumed
-consumedTo handed-back e n s = gives (record { consumed = e; rest = length s - e; entries = n })
-consumedTo refused e n s = cond (ltb e (length s)) (refuses 4 []) (gives (record { consumed = e; rest = 0; entries = n }))
+-- Rule K4: a value of n entries whose layout ends at e. What follows is the rest. After a list to the end, as kinds 6,
+-- 7, 9 and 10 have it, it is refused by 4.
+unfoldable pub consumedTo : Counting → ℕ → ℕ → List ℕ → Answer Consumed
+consumedTo c1 e n s = gives (record { consumed = e; rest = length s - e; entries = n })
+consumedTo to-end e n s = cond (ltb e (length s)) (refuses 4 []) (gives (record { consumed = e; rest = 0; entries = n }))
 
 -- Rule K7: the layout is looked at first (3), then left-over bytes (4).
-unfoldable pub readAs : ListKind → List ℕ → Answer Consumed
-readAs k s = andThen (listOf (k .layout) s 0) (λ m. andThen (endOf (k .layout) s 0) (λ e. consumedTo (k .rest) e (m .many) s))
+unfoldable pub readAs : Layout → List ℕ → Answer Consumed
+readAs l s = andThen (listOf l s 0) (λ m. andThen (endOf l s 0) (λ e. consumedTo (countingOf l) e (m .many) s))
 
 -- Rule K1, for the list kinds: the value of the kind with this code.
 unfoldable pub readValue : ℕ → List ℕ → Answer Consumed
-readValue code s = andThen (layoutOf code) (λ k. readAs k s)
+readValue code s = andThen (layoutOf code) (λ l. readAs l s)

@@ -15,7 +15,7 @@ ghost use mathlib.Core.Path.{_≡_};
 ghost use Rattle.layouts.specs.Reading.{endingOf};
 ghost use Rattle.layouts.specs.Access.{numbersOf, childAt, findEntry, spanOf, lengthAt, ofValue, locatedOf, countedOf};
 ghost use Rattle.layouts.specs.Rows.{rowLayout};
-ghost use Rattle.layouts.specs.PrivateRows.{kindWith, levelTold};
+ghost use Rattle.layouts.specs.PrivateRows.{levelTold};
 
 // An entry that was found: its row, and where it starts.
 pub(crate) enum Level {
@@ -96,10 +96,10 @@ fn length_at(row: LayoutRow, path: Path, s: &[u8]) -> Counted
 }
 
 // The same two for a value, which has to read first (rule E2).
-pub(crate) fn locate_in(row: LayoutRow, strict: bool, path: Path, s: &[u8]) -> Located
-    ensures { λ r. ⌜ locatedOf r ≡ ofValue (λ l t. spanOf l (numbersOf path) t) (kindWith (rowLayout row) strict) (now (s .entry)) ⌝ }
+pub(crate) fn locate_in(row: LayoutRow, path: Path, s: &[u8]) -> Located
+    ensures { λ r. ⌜ locatedOf r ≡ ofValue (λ l t. spanOf l (numbersOf path) t) (rowLayout row) (now (s .entry)) ⌝ }
 {
-    match read_row(row, strict, s) {
+    match read_row(row, s) {
         Reading::Value {
             consumed: _,
             rest: _,
@@ -109,10 +109,10 @@ pub(crate) fn locate_in(row: LayoutRow, strict: bool, path: Path, s: &[u8]) -> L
     }
 }
 
-pub(crate) fn count_in(row: LayoutRow, strict: bool, path: Path, s: &[u8]) -> Counted
-    ensures { λ r. ⌜ countedOf r ≡ ofValue (λ l t. lengthAt l (numbersOf path) t) (kindWith (rowLayout row) strict) (now (s .entry)) ⌝ }
+pub(crate) fn count_in(row: LayoutRow, path: Path, s: &[u8]) -> Counted
+    ensures { λ r. ⌜ countedOf r ≡ ofValue (λ l t. lengthAt l (numbersOf path) t) (rowLayout row) (now (s .entry)) ⌝ }
 {
-    match read_row(row, strict, s) {
+    match read_row(row, s) {
         Reading::Value {
             consumed: _,
             rest: _,

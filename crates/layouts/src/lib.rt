@@ -15,17 +15,15 @@ ghost use Rattle.layouts.specs.Rows.{rowLayout};
 ghost use Rattle.layouts.specs.Reading.{listOf, entriesEnd, endOf, listingOf, endingOf, readingOf, readValue};
 ghost use Rattle.layouts.specs.Access.{numbersOf, locatedOf, locateEntry, partOf, startIn, countedOf, countEntries};
 
-// A layout as a row of numbers (rule K3). An entry has h0 bytes and then, if `levels` is not 0, a list whose count has
-// w0 bytes: 1 or 2, or 0 for a list to the end. An entry of that list has h1 bytes and then, if levels are left, a list
-// whose count has w1 bytes, and so on. A value is an entry too.
+// A layout as a row of numbers (rule K3). An entry has h0 bytes and then, if `levels` is not 0, a list: after its count
+// if `has_count`, otherwise to the end. An entry of that list has h1 bytes and then, if levels are left, a list after
+// its count, and so on. A value is an entry too.
 pub struct LayoutRow {
     pub levels: u8,
+    pub has_count: bool,
     pub h0: u8,
-    pub w0: u8,
     pub h1: u8,
-    pub w1: u8,
     pub h2: u8,
-    pub w2: u8,
     pub h3: u8,
 }
 
@@ -82,7 +80,7 @@ pub fn list_at(row: LayoutRow, s: &[u8], at: usize) -> Listing
         return Listing::Refused(Refusal::NoEntry);
     }
     match lists::reach(wide(row.h0), s, at) {
-        Ending::At(q) => lists::count_at(row.w0, wide(row.h1), s, q),
+        Ending::At(q) => lists::count_at(row.has_count, wide(row.h1), s, q),
         Ending::Refused(r) => Listing::Refused(r),
     }
 }
@@ -126,7 +124,7 @@ pub fn is_list(code: u8) -> bool
     ensures { λ r. ⌜ r ≡ isList code ⌝ }
 {
     match rows::row_of(code) {
-        ListKindRow::List(_, _) => true,
+        ListKindRow::List(_) => true,
         ListKindRow::Refused(_) => false,
     }
 }
@@ -136,7 +134,7 @@ pub fn read_value(code: u8, s: &[u8]) -> Reading
     ensures { λ r. ⌜ readingOf r ≡ readValue code (now (s .entry)) ⌝ }
 {
     match rows::row_of(code) {
-        ListKindRow::List(row, strict) => lists::read_row(row, strict, s),
+        ListKindRow::List(row) => lists::read_row(row, s),
         ListKindRow::Refused(r) => Reading::Refused(r),
     }
 }
@@ -146,7 +144,7 @@ pub fn locate(code: u8, path: Path, s: &[u8]) -> Located
     ensures { λ r. ⌜ locatedOf r ≡ locateEntry code (numbersOf path) (now (s .entry)) ⌝ }
 {
     match rows::row_of(code) {
-        ListKindRow::List(row, strict) => access::locate_in(row, strict, path, s),
+        ListKindRow::List(row) => access::locate_in(row, path, s),
         ListKindRow::Refused(r) => Located::Refused(r),
     }
 }
@@ -169,7 +167,7 @@ pub fn count(code: u8, path: Path, s: &[u8]) -> Counted
     ensures { λ r. ⌜ countedOf r ≡ countEntries code (numbersOf path) (now (s .entry)) ⌝ }
 {
     match rows::row_of(code) {
-        ListKindRow::List(row, strict) => access::count_in(row, strict, path, s),
+        ListKindRow::List(row) => access::count_in(row, path, s),
         ListKindRow::Refused(r) => Counted::Refused(r),
     }
 }

@@ -7,14 +7,12 @@ use crate::list_at;
 use crate::read_list;
 use crate::rows::row_below;
 use numbers::Refusal;
-use numbers::be16;
 use numbers::wide;
 ghost use mathlib.Core.Path.{_≡_};
 ghost use Prim.Native.Nat.{_+_, _≤_};
 ghost use lib.ListN.{length};
 ghost use Rattle.layouts.specs.Reading.{reaching, countAt, listingOf, endingOf, readingOf, consumedTo, readAs};
 ghost use Rattle.layouts.specs.Rows.{counting, rowLayout};
-ghost use Rattle.layouts.specs.PrivateRows.{restWith, kindWith};
 
 // Where the n bytes at `at` end, if they are there.
 pub(crate) fn reach(n: usize, s: &[u8], at: usize) -> Ending
@@ -29,23 +27,14 @@ pub(crate) fn reach(n: usize, s: &[u8], at: usize) -> Ending
     Ending::At(at + n)
 }
 
-// The list at `at` whose count has w bytes (rule K3). Its entries begin with h bytes. A list to the end has no entry if
-// h is 0.
-pub(crate) fn count_at(w: u8, h: usize, s: &[u8], at: usize) -> Listing
+// The list at `at` (rule K3), by its count or to the end. Its entries begin with h bytes. A list to the end has no entry
+// if h is 0.
+pub(crate) fn count_at(has_count: bool, h: usize, s: &[u8], at: usize) -> Listing
     requires { ⌜ at ≤ length (now s) ⌝ }
-    ensures { λ r. ⌜ listingOf r ≡ countAt (counting w) h (now (s .entry)) at ⌝ }
+    ensures { λ r. ⌜ listingOf r ≡ countAt (counting «has_count») h (now (s .entry)) at ⌝ }
 {
-    if w == 0 {
-        if h == 0 {
-            return Listing::Of { n: 0, first: at };
-        }
-        return Listing::Of {
-            n: (s.len() - at) / h,
-            first: at,
-        };
-    }
-    if w == 1 {
-        if s.len() - at < 1 {
+    if has_count {
+        if s.len() <= at {
             return Listing::Refused(Refusal::CutShort);
         }
         return Listing::Of {
@@ -53,35 +42,35 @@ pub(crate) fn count_at(w: u8, h: usize, s: &[u8], at: usize) -> Listing
             first: at + 1,
         };
     }
-    if s.len() - at < 2 {
-        return Listing::Refused(Refusal::CutShort);
+    if h == 0 {
+        return Listing::Of { n: 0, first: at };
     }
     Listing::Of {
-        n: be16(s[at], s[at + 1]),
-        first: at + 2,
+        n: (s.len() - at) / h,
+        first: at,
     }
 }
 
 // Reads the value s by this row (rule K1). Its count is read once, for the answer and for its entries.
-pub(crate) fn read_row(row: LayoutRow, strict: bool, s: &[u8]) -> Reading
-    ensures { λ r. ⌜ readingOf r ≡ readAs (kindWith (rowLayout row) strict) (now (s .entry)) ⌝ }
+pub(crate) fn read_row(row: LayoutRow, s: &[u8]) -> Reading
+    ensures { λ r. ⌜ readingOf r ≡ readAs (rowLayout row) (now (s .entry)) ⌝ }
 {
     match list_at(row, s, 0) {
         Listing::Of { n, first } => match read_list(row_below(row), n, s, first) {
-            Ending::At(end) => consumed_to(strict, end, n, s),
+            Ending::At(end) => consumed_to(row.has_count, end, n, s),
             Ending::Refused(r) => Reading::Refused(r),
         },
         Listing::Refused(r) => Reading::Refused(r),
     }
 }
 
-// A value of n entries whose layout ends at `end`. Where the kind is strict, bytes after it are refused (rule K4).
-fn consumed_to(strict: bool, end: usize, n: usize, s: &[u8]) -> Reading
+// A value of n entries whose layout ends at `end`. After a list to the end, left-over bytes are refused (rule K4).
+fn consumed_to(has_count: bool, end: usize, n: usize, s: &[u8]) -> Reading
     requires { ⌜ end ≤ length (now s) ⌝ }
-    ensures { λ r. ⌜ readingOf r ≡ consumedTo (restWith strict) end n (now (s .entry)) ⌝ }
+    ensures { λ r. ⌜ readingOf r ≡ consumedTo (counting «has_count») end n (now (s .entry)) ⌝ }
 {
     let rest = s.len() - end;
-    if strict {
+    if !has_count {
         if 0 < rest {
             return Reading::Refused(Refusal::LeftOver);
         }

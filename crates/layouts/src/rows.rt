@@ -2,77 +2,59 @@
 use crate::LayoutRow;
 use numbers::Refusal;
 ghost use mathlib.Core.Path.{_≡_};
+ghost use mathlib.Core.Bool.{true, false};
 ghost use Prim.Native.Nat.{_<_};
-ghost use Rattle.layouts.specs.Layouts.{bytes, entry, layoutOf};
-ghost use Rattle.layouts.specs.Rows.{counting, rowBelow, rowLayout};
+ghost use Rattle.layouts.specs.Layouts.{layoutOf};
+ghost use Rattle.layouts.specs.Rows.{rowBelow};
 ghost use Rattle.layouts.specs.PrivateRows.{rowTold};
 
-// A row of the table, and whether left-over bytes are refused (rule K4).
+// A row of the table.
 pub(crate) enum ListKindRow {
-    List(LayoutRow, bool),
+    List(LayoutRow),
     Refused(Refusal),
 }
 
-// The row of the entries in its list.
+// The row of the entries in its list. Their own lists have counts.
 pub(crate) fn row_below(row: LayoutRow) -> LayoutRow
     requires { ⌜ 0 < row .levels ⌝ }
     ensures { λ r. ⌜ r ≡ rowBelow row ⌝ }
 {
     LayoutRow {
         levels: row.levels - 1,
+        has_count: true,
         h0: row.h1,
-        w0: row.w1,
         h1: row.h2,
-        w1: row.w2,
         h2: row.h3,
-        w2: 0,
         h3: 0,
     }
 }
 
-// The rows of layouts with one, two and three levels of lists, written from the outside to the inside.
-fn one(h0: u8, w0: u8, h1: u8) -> LayoutRow
-    ensures { λ r. ⌜ rowLayout r ≡ entry h0 (counting w0) (bytes h1) ⌝ }
+// A list with a count, of so many levels: the bytes of its entries before their own lists, from the outside to the
+// inside.
+fn counted(levels: u8, h1: u8, h2: u8, h3: u8) -> LayoutRow
+    ensures { λ r. ⌜ r ≡ record { levels = levels; «has_count» = true; h0 = 0; h1 = h1; h2 = h2; h3 = h3 } ⌝ }
+{
+    LayoutRow {
+        levels,
+        has_count: true,
+        h0: 0,
+        h1,
+        h2,
+        h3,
+    }
+}
+
+// Some bytes, and then a list to the end.
+fn to_end(h0: u8, h1: u8) -> LayoutRow
+    ensures { λ r. ⌜ r ≡ record { levels = 1; «has_count» = false; h0 = h0; h1 = h1; h2 = 0; h3 = 0 } ⌝ }
 {
     LayoutRow {
         levels: 1,
+        has_count: false,
         h0,
-        w0,
         h1,
-        w1: 0,
         h2: 0,
-        w2: 0,
         h3: 0,
-    }
-}
-
-fn two(h0: u8, w0: u8, h1: u8, w1: u8, h2: u8) -> LayoutRow
-    ensures { λ r. ⌜ rowLayout r ≡ entry h0 (counting w0) (entry h1 (counting w1) (bytes h2)) ⌝ }
-{
-    LayoutRow {
-        levels: 2,
-        h0,
-        w0,
-        h1,
-        w1,
-        h2,
-        w2: 0,
-        h3: 0,
-    }
-}
-
-fn three(h0: u8, w0: u8, h1: u8, w1: u8, h2: u8, w2: u8, h3: u8) -> LayoutRow
-    ensures { λ r. ⌜ rowLayout r ≡ entry h0 (counting w0) (entry h1 (counting w1) (entry h2 (counting w2) (bytes h3))) ⌝ }
-{
-    LayoutRow {
-        levels: 3,
-        h0,
-        w0,
-        h1,
-        w1,
-        h2,
-        w2,
-        h3,
     }
 }
 
@@ -82,27 +64,25 @@ pub(crate) fn row_of(code: u8) -> ListKindRow
 {
     match code {
         // SupportedService
-        0x80 => ListKindRow::List(one(0, 1, 1), false),
+        0x80 => ListKindRow::List(counted(1, 1, 0, 0)),
         // NonIeee1905NeighborDevices
-        6 => ListKindRow::List(one(6, 0, 6), true),
+        6 => ListKindRow::List(to_end(6, 6)),
         // Ieee1905NeighborDevice
-        7 => ListKindRow::List(one(6, 0, 7), true),
+        7 => ListKindRow::List(to_end(6, 7)),
         // LinkMetricTx
-        9 => ListKindRow::List(one(12, 0, 29), true),
+        9 => ListKindRow::List(to_end(12, 29)),
         // LinkMetricRx
-        10 => ListKindRow::List(one(12, 0, 23), true),
+        10 => ListKindRow::List(to_end(12, 23)),
         // Ipv4
-        23 => ListKindRow::List(two(0, 1, 6, 1, 9), false),
+        23 => ListKindRow::List(counted(2, 6, 9, 0)),
         // Ipv6
-        24 => ListKindRow::List(two(0, 1, 22, 1, 33), false),
+        24 => ListKindRow::List(counted(2, 22, 33, 0)),
         // DeviceBridgingCapability
-        4 => ListKindRow::List(two(0, 1, 0, 1, 6), false),
+        4 => ListKindRow::List(counted(2, 0, 6, 0)),
         // ApOperationalBss
-        0x83 => ListKindRow::List(three(0, 1, 6, 1, 6, 1, 1), false),
+        0x83 => ListKindRow::List(counted(3, 6, 6, 1)),
         // BssConfigurationReport
-        0xB7 => ListKindRow::List(three(0, 1, 6, 1, 8, 1, 1), false),
-        // L2NeighborDevice
-        30 => ListKindRow::List(three(0, 1, 6, 2, 6, 2, 6), true),
+        0xB7 => ListKindRow::List(counted(3, 6, 8, 1)),
         _ => ListKindRow::Refused(Refusal::UnknownKind),
     }
 }

@@ -9,7 +9,7 @@ use lib.Seq.{length-take-le}
 use Rattle.numbers.specs.Numbers.{Answer, gives, refuses, andThen, mapped}
 use Rattle.numbers.proofs.Firm.{never}
 use Rattle.numbers.proofs.Answers.{given, gave, follows, stops, mapped-given, mapped-refused}
-use Rattle.layouts.specs.Layouts.{to-end, Layout, bytes, entry, refused, ListKind, layoutOf}
+use Rattle.layouts.specs.Layouts.{to-end, Layout, bytes, entry, layoutOf}
 use Rattle.layouts.specs.Reading.{Consumed, readAs, readValue}
 use Rattle.layouts.specs.Access.{Span, spanOf, ofValue, partOf, nthOf, partsIn, locateEntry}
 use Rattle.layouts.proofs.Claims as lists
@@ -25,10 +25,7 @@ use Rattle.links.specs.PrivatePairs.{pairBytes}
 abbrev pub linkLayout : LinkKind → Layout
 linkLayout k = entry 12 to-end (bytes (pairBytes k))
 
-abbrev pub linkKind : LinkKind → ListKind
-linkKind k = record { layout = linkLayout k; rest = refused }
-
-layout-is : (k : LinkKind) → layoutOf (linkCode k) ≡ gives (linkKind k)
+layout-is : (k : LinkKind) → layoutOf (linkCode k) ≡ gives (linkLayout k)
 unfolding layoutOf
 layout-is Tx = refl
 layout-is Rx = refl
@@ -46,9 +43,9 @@ pub record Laid (k : LinkKind) (s : List ℕ) (r : Consumed) : Type 0 where
   pub by-number : (i : ℕ) → nthOf pairs i ≡ mapped (λ e. partOf (gives e) s) (spanOf (linkLayout k) (i ∷ []) s)
   pub spans : (i : ℕ) → i < length pairs → spanOf (linkLayout k) (i ∷ []) s ≡ gives (pairSpan k i)
 
-laid : (k : LinkKind) (s : List ℕ) (r : Consumed) → readAs (linkKind k) s ≡ gives r → Laid k s r
+laid : (k : LinkKind) (s : List ℕ) (r : Consumed) → readAs (linkLayout k) s ≡ gives r → Laid k s r
 laid k s r x =
-    let e = ended (linkKind k) s r x in
+    let e = ended (linkLayout k) s r x in
     let first : e .list .first ≡ 12 = lists.claims .plain .after-head 12 (bytes (pairBytes k)) s (e .list) (e .has) in
     let p = lists.claims .parts-of-entries (linkLayout k) s (e .list) (r .consumed) (e .has) (e .ends) in
     let g = ends-in 12 to-end (bytes (pairBytes k)) s 0 (r .consumed) (e .ends) in
@@ -71,20 +68,20 @@ laid k s r x =
 
 -- what is asked of a value of this kind, by whether it reads
 module _ {A : Type 0} (f : Layout → List ℕ → Answer A) (k : LinkKind) (s : List ℕ) where
-  asks : andThen (layoutOf (linkCode k)) (λ l. ofValue f l s) ≡ ofValue f (linkKind k) s
-  asks = follows (layoutOf (linkCode k)) (linkKind k) (λ l. ofValue f l s) (layout-is k)
+  asks : andThen (layoutOf (linkCode k)) (λ l. ofValue f l s) ≡ ofValue f (linkLayout k) s
+  asks = follows (layoutOf (linkCode k)) (linkLayout k) (λ l. ofValue f l s) (layout-is k)
 
-  pub asked : (r : Consumed) → readAs (linkKind k) s ≡ gives r → andThen (layoutOf (linkCode k)) (λ l. ofValue f l s) ≡ f (linkLayout k) s
+  pub asked : (r : Consumed) → readAs (linkLayout k) s ≡ gives r → andThen (layoutOf (linkCode k)) (λ l. ofValue f l s) ≡ f (linkLayout k) s
   unfolding ofValue
-  asked r x = asks ∙ follows (readAs (linkKind k) s) r (λ r. f (linkLayout k) s) x
+  asked r x = asks ∙ follows (readAs (linkLayout k) s) r (λ r. f (linkLayout k) s) x
 
-  refused-all : (n : ℕ) (vs : List ℕ) → readAs (linkKind k) s ≡ refuses n vs → andThen (layoutOf (linkCode k)) (λ l. ofValue f l s) ≡ refuses n vs
+  refused-all : (n : ℕ) (vs : List ℕ) → readAs (linkLayout k) s ≡ refuses n vs → andThen (layoutOf (linkCode k)) (λ l. ofValue f l s) ≡ refuses n vs
   unfolding ofValue
-  refused-all n vs x = asks ∙ stops (readAs (linkKind k) s) n vs (λ r. f (linkLayout k) s) x
+  refused-all n vs x = asks ∙ stops (readAs (linkLayout k) s) n vs (λ r. f (linkLayout k) s) x
 
-reads : (k : LinkKind) (s : List ℕ) → readValue (linkCode k) s ≡ readAs (linkKind k) s
+reads : (k : LinkKind) (s : List ℕ) → readValue (linkCode k) s ≡ readAs (linkLayout k) s
 unfolding readValue
-reads k s = follows (layoutOf (linkCode k)) (linkKind k) (λ l. readAs l s) (layout-is k)
+reads k s = follows (layoutOf (linkCode k)) (linkLayout k) (λ l. readAs l s) (layout-is k)
 
 -- a value that reads has pairs, and one that doesn't refuses
 pub pairs-refused : (k : LinkKind) (s : List ℕ) (n : ℕ) (vs : List ℕ) → readValue (linkCode k) s ≡ refuses n vs → pairsIn k s ≡ refuses n vs
@@ -111,16 +108,16 @@ pub record Read (k : LinkKind) (s : List ℕ) (ps : List (List ℕ)) : Type 0 wh
 pub read : (k : LinkKind) (s : List ℕ) (ps : List (List ℕ)) → pairsIn k s ≡ gives ps → Read k s ps
 unfolding pairsIn ofValue
 read k s ps x =
-    let g = gave (readAs (linkKind k) s) (λ r. partsIn (linkLayout k) s) ps (sym (asks partsIn k s) ∙ x) in
+    let g = gave (readAs (linkLayout k) s) (λ r. partsIn (linkLayout k) s) ps (sym (asks partsIn k s) ∙ x) in
     let l = laid k s (g .first) (g .is) in
     record { value = g .first; lie = l; same = given (l .pairs) ps (sym (l .are) ∙ g .then) }
 
 -- asking for a pair is asking for the entry
 pub by-entry : (k : LinkKind) (s : List ℕ) (i : ℕ) → pairAt k s i ≡ mapped (λ e. partOf (gives e) s) (locateEntry (linkCode k) (i ∷ []) s)
 unfolding pairAt pairsIn locateEntry
-by-entry k s i = go (readAs (linkKind k) s) refl
+by-entry k s i = go (readAs (linkLayout k) s) refl
   where
-    go : (x : Answer Consumed) → readAs (linkKind k) s ≡ x → andThen (pairsIn k s) (λ ps. nthOf ps i) ≡ mapped (λ e. partOf (gives e) s) (locateEntry (linkCode k) (i ∷ []) s)
+    go : (x : Answer Consumed) → readAs (linkLayout k) s ≡ x → andThen (pairsIn k s) (λ ps. nthOf ps i) ≡ mapped (λ e. partOf (gives e) s) (locateEntry (linkCode k) (i ∷ []) s)
     go (gives r) x =
         let l = laid k s r x in
         follows (pairsIn k s) (l .pairs) (λ ps. nthOf ps i) (asked partsIn k s r x ∙ l .are) ∙ l .by-number i ∙
@@ -142,7 +139,7 @@ pub record Whole (k : LinkKind) (s : List ℕ) (e : Span) : Type 0 where
 pub whole : (k : LinkKind) (s : List ℕ) (i : ℕ) (e : Span) → locateEntry (linkCode k) (i ∷ []) s ≡ gives e → Whole k s e
 unfolding locateEntry ofValue
 whole k s i e x =
-    let g = gave (readAs (linkKind k) s) (λ r. spanOf (linkLayout k) (i ∷ []) s) e (sym (asks (λ l t. spanOf l (i ∷ []) t) k s) ∙ x) in
+    let g = gave (readAs (linkLayout k) s) (λ r. spanOf (linkLayout k) (i ∷ []) s) e (sym (asks (λ l t. spanOf l (i ∷ []) t) k s) ∙ x) in
     let l = laid k s (g .first) (g .is) in
     let is = l .by-number i ∙ mapped-given (λ e. partOf (gives e) s) (spanOf (linkLayout k) (i ∷ []) s) e (g .then) in
     let less : i < length (l .pairs) = found (l .pairs) i (partOf (gives e) s) is in

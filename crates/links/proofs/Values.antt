@@ -21,7 +21,7 @@ use Rattle.links.specs.Pairs.{pairsIn}
 use Rattle.links.specs.PrivatePairs.{pairBytes}
 use Rattle.links.proofs.Passing.{AllPairs}
 use Rattle.links.proofs.Witness.{zeros, zeros-bytes, no-bytes}
-use Rattle.links.proofs.Reading.{linkLayout, linkKind, asked}
+use Rattle.links.proofs.Reading.{linkLayout, asked}
 
 abbrev pub valueOf : List (List ℕ) → List ℕ
 valueOf ps = zeros 12 (flatten ps)
@@ -100,9 +100,9 @@ module _ (k : LinkKind) (ps : List (List ℕ)) (long : (i : ℕ) → i < length 
       sym (spans-end (endOf (bytes (pairBytes k)) s) (length ps) 12) ∙
       mapped-given (λ r. r .end) (spansFrom (endOf (bytes (pairBytes k)) s) (length ps) 12) (lies .spans) (lies .are) ∙ ap gives (lies .end)
 
-  reads : readAs (linkKind k) s ≡ gives (record { consumed = 12 + length ps * pairBytes k; rest = 0; entries = length ps })
+  reads : readAs (linkLayout k) s ≡ gives (record { consumed = 12 + length ps * pairBytes k; rest = 0; entries = length ps })
   unfolding consumedTo
-  reads = read-to (linkKind k) s list (12 + length ps * pairBytes k) has ends ∙ rw (le-ltb (12 + length ps * pairBytes k) (length s) (omega (arith, lies .all)))
+  reads = read-to (linkLayout k) s list (12 + length ps * pairBytes k) has ends ∙ rw (le-ltb (12 + length ps * pairBytes k) (length s) (omega (arith, lies .all)))
 
   pub pairs-of-value : pairsIn k s ≡ gives ps
   unfolding pairsIn partsIn spansIn

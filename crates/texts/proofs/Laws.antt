@@ -13,7 +13,7 @@ use borrow.Author.Tests.{eq-eqb, ne-eqb, lt-ltb, le-ltb, ltb-true, ltb-false}
 use Rattle.numbers.specs.Numbers.{Answer, gives, refuses, andThen, mapped}
 use Rattle.numbers.proofs.Firm.{never}
 use Rattle.numbers.proofs.Answers.{given, follows, stops, mapped-given}
-use Rattle.layouts.specs.Layouts.{Counting, c1, c2, to-end, Layout, bytes, entry}
+use Rattle.layouts.specs.Layouts.{Counting, c1, to-end, Layout, bytes, entry}
 use Rattle.layouts.specs.Reading.{ListAt, countAt, listOf, entriesEnd, endOf}
 use Rattle.layouts.specs.Access.{Span, nthOf, Spans, before, spansFrom}
 use Rattle.layouts.proofs.Within.{reached, behind-head, list-within, entries-within, ends-in, end-within}
@@ -47,7 +47,6 @@ until-within (b ∷ s) = go (eqb b 0) (until-within s) where
 list-first : (n : ℕ) (w : Counting) (e : Layout) (s : List ℕ) (p : ℕ) (m : ListAt) → listOf (entry n w e) s p ≡ gives m → m .first ≡ p + n + countSize w
 unfolding countAt
 list-first n c1 e s p m x = let r = reached _ s _ m (behind-head n c1 e s p m x .counts) in sym (ap (λ m. m .first) (r .1))
-list-first n c2 e s p m x = let r = reached _ s _ m (behind-head n c2 e s p m x .counts) in sym (ap (λ m. m .first) (r .1))
 list-first n to-end e s p m x = let y : p + n ≡ m .first = ap (λ m. m .first) (given _ m (behind-head n to-end e s p m x .counts)) in omega arith
 
 -- the text of an entry that reads lies in it

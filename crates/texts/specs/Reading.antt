@@ -6,7 +6,7 @@ use Prim.Native.Nat.{ℕ, suc, _+_, _-_}
 use lib.Dec.{eqb}
 use lib.ListN.{length}
 use Rattle.numbers.specs.Numbers.{Answer, gives, refuses, andThen, mapped}
-use Rattle.layouts.specs.Layouts.{Counting, c1, c2, to-end, Layout, bytes, entry, c1-of}
+use Rattle.layouts.specs.Layouts.{Counting, c1, to-end, Layout, bytes, entry, c1-of}
 use Rattle.layouts.specs.Reading.{ListAt, listOf, endOf, Consumed}
 use Rattle.layouts.specs.Access.{Span, partOf, Spans, spansFrom}
 use Rattle.utf8.specs.Utf8.{isUtf8}
@@ -20,7 +20,6 @@ untilZero (b ∷ s) = cond (eqb b 0) 0 (suc (untilZero s))
 -- the bytes of a count
 abbrev pub countSize : Counting → ℕ
 countSize c1 = 1
-countSize c2 = 2
 countSize to-end = 0
 
 -- Where the text of a piece or of a radio lies. In a field it goes up to the first zero byte (rule E6). Otherwise it is

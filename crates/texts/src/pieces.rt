@@ -37,16 +37,13 @@ fn until_zero(s: &[u8]) -> usize
 }
 
 // The bytes of a count.
-fn count_size(w: u8) -> usize
-    ensures { λ r. ⌜ (r ≡ countSize (counting w)) × (r ≤ 2) ⌝ }
+fn count_size(has_count: bool) -> usize
+    ensures { λ r. ⌜ (r ≡ countSize (counting «has_count»)) × (r ≤ 1) ⌝ }
 {
-    if w == 0 {
-        return 0;
-    }
-    if w == 1 {
+    if has_count {
         return 1;
     }
-    2
+    0
 }
 
 // The text of the entry of this row that lies from `start` to `end`.
@@ -62,7 +59,7 @@ fn text_span(row: LayoutRow, s: &[u8], start: usize, end: usize) -> TextAt
         };
     }
     TextAt {
-        start: start + wide(row.h0) + count_size(row.w0),
+        start: start + wide(row.h0) + count_size(row.has_count),
         end,
     }
 }

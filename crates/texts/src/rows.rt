@@ -22,18 +22,16 @@ pub(crate) enum TextKindRow {
     Refused(Refusal),
 }
 
-// A piece of h bytes. At level 1 a list of bytes follows, whose count has w bytes; it goes to the end where w is 0.
-fn piece(levels: u8, h: u8, w: u8) -> LayoutRow
-    ensures { λ r. ⌜ r ≡ record { levels = levels; h0 = h; w0 = w; h1 = 1; w1 = 0; h2 = 0; w2 = 0; h3 = 0 } ⌝ }
+// A piece of h bytes. At level 1 a list of bytes follows, after its count or to the end.
+fn piece(levels: u8, has_count: bool, h: u8) -> LayoutRow
+    ensures { λ r. ⌜ r ≡ record { levels = levels; «has_count» = «has_count»; h0 = h; h1 = 1; h2 = 0; h3 = 0 } ⌝ }
 {
     LayoutRow {
         levels,
+        has_count,
         h0: h,
-        w0: w,
         h1: 1,
-        w1: 0,
         h2: 0,
-        w2: 0,
         h3: 0,
     }
 }
@@ -42,7 +40,7 @@ fn piece(levels: u8, h: u8, w: u8) -> LayoutRow
 pub(crate) fn radio() -> LayoutRow
     ensures { λ r. ⌜ rowLayout r ≡ radio ⌝ }
 {
-    piece(1, 6, 1)
+    piece(1, true, 6)
 }
 
 // The list of the radios.
@@ -51,12 +49,10 @@ pub(crate) fn radio_list() -> LayoutRow
 {
     LayoutRow {
         levels: 2,
+        has_count: true,
         h0: 0,
-        w0: 1,
         h1: 6,
-        w1: 1,
         h2: 1,
-        w2: 0,
         h3: 0,
     }
 }
@@ -76,9 +72,9 @@ pub(crate) fn row_of(code: u8) -> TextKindRow
     ensures { λ r. ⌜ rowTold r ≡ textKind code ⌝ }
 {
     match code {
-        DEVICE_IDENTIFICATION_TYPE => text_row(3, piece(0, 64, 0), false),
-        CONTROL_URL => text_row(1, piece(1, 0, 0), false),
-        DEVICE_INVENTORY => text_row(3, piece(1, 0, 1), true),
+        DEVICE_IDENTIFICATION_TYPE => text_row(3, piece(0, true, 64), false),
+        CONTROL_URL => text_row(1, piece(1, false, 0), false),
+        DEVICE_INVENTORY => text_row(3, piece(1, true, 0), true),
         _ => TextKindRow::Refused(Refusal::UnknownKind),
     }
 }

@@ -6,8 +6,7 @@ use mathlib.Core.Path.{_≡_, sym, _∙_}
 use Rattle.numbers.specs.Numbers.{gives}
 use Rattle.layouts.specs.Reading.{listOf, endOf, endingOf, readAs}
 use Rattle.layouts.specs.Rows.{rowLayout}
-use Rattle.layouts.specs.PrivateRows.{kindWith}
-use Rattle.layouts.proofs.Laws.{list-level, end-there, read-to}
+use Rattle.layouts.proofs.Laws.{list-level, counting-of, end-there, read-to}
 use Rattle.layouts.proofs.Within.{end-within}
 
 -- the list that was found
@@ -44,7 +43,7 @@ returns c =
     let e = c .before .before in
     let l = e .before .before .before .before .before in
     let a = l .before .before .before .before .args in
-    c .consumed-to .ensures ∙ sym (read-to (kindWith (rowLayout (a .row)) (a .strict)) (a .s .now) _ _ (has l) (ends-at e))
+    c .consumed-to .ensures ∙ sym (rw (counting-of (a .row) (a .s .now) 0 _ (has l)) at (read-to (rowLayout (a .row)) (a .s .now) _ _ (has l) (ends-at e)))
 
 returns-2 : tie.Need-returns-2
 unfolding readAs
