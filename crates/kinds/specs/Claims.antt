@@ -47,7 +47,7 @@ Apart = (code : ℕ) → (isRecord code ≡ true → (isList code ≡ false) × 
 abbrev pub AllOfIt : Type 0
 AllOfIt = (code : ℕ) (s : List ℕ) (t : Typed Record) → readKind code s ≡ gives t → (t .consumed ≤ length s) × (t .consumed + t .rest ≡ length s)
 
--- Round trips, for all 26 kinds (rule A6). The value of the TLV at the start of s:
+-- Round trips, for all 25 kinds (rule A6). The value of the TLV at the start of s:
 abbrev pub valueAt : List ℕ → List ℕ
 valueAt s = valueIn (readTlv s) s
 

@@ -1,4 +1,4 @@
--- Reading a kind by its code (rules K1 and K2). Nine kinds are lists, three hold text, and twelve are records. Any
+-- Reading a kind by its code (rules K1 and K2). Ten kinds are lists, three hold text, and twelve are records. Any
 -- other code: 16.
 use mathlib.Core.Bool.{Bool, true, cond}
 use mathlib.Core.List.{List, []}

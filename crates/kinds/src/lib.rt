@@ -1,4 +1,4 @@
-// The 26 kinds by their codes (rule K2). A value is read as a list, as text or as a record. Its entries and texts are
+// The 25 kinds by their codes (rule K2). A value is read as a list, as text or as a record. Its entries and texts are
 // asked for. The bytes of a value that reads are written as a TLV.
 use framing::Written;
 use layouts::Counted;
