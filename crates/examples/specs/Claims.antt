@@ -9,7 +9,7 @@ use lib.ListN.{length, drop, replicate}
 use lib.IntN.{pos, negsuc}
 use Rattle.numbers.specs.Numbers.{gives, refuses}
 use Rattle.machines.specs.Machine.{those}
-use Rattle.framing.specs.Tlv.{readTlv, valueIn, header, writeSize, leaves}
+use Rattle.framing.specs.Tlv.{readTlv, valueIn, header, writeSize, tlvBytes, leaves}
 use Rattle.framing.specs.Cmdu.{readHeader}
 use Rattle.walking.specs.Steps.{passed, last, ended}
 use Rattle.walking.specs.Claims.{shortTlvs}
@@ -109,7 +109,7 @@ pub record OfWalks : Type 0 where
 
 pub record OfKinds : Type 0 where
   -- Rule K2: all codes that a kind has.
-  pub all-codes : codesBelow 256 ≡ 0xD4 ∷ 0xB7 ∷ 0xB4 ∷ 0xB3 ∷ 0x92 ∷ 0x83 ∷ 0x80 ∷ 30 ∷ 26 ∷ 24 ∷ 23 ∷ 22 ∷ 21 ∷ 16 ∷ 15 ∷ 13 ∷ 12 ∷ 10 ∷ 9 ∷ 8 ∷ 7 ∷ 6 ∷ 4 ∷ 2 ∷ 1 ∷ 0 ∷ []
+  pub all-codes : codesBelow 256 ≡ 0xD4 ∷ 0xB7 ∷ 0xB4 ∷ 0xB3 ∷ 0x92 ∷ 0x83 ∷ 0x80 ∷ 26 ∷ 24 ∷ 23 ∷ 22 ∷ 21 ∷ 16 ∷ 15 ∷ 13 ∷ 12 ∷ 10 ∷ 9 ∷ 8 ∷ 7 ∷ 6 ∷ 4 ∷ 2 ∷ 1 ∷ 0 ∷ []
   -- Rules K2 and K5: 0x80 says joined, 0x00 left, and any other byte is refused by 5.
   pub joined : readKind 0x92 (association 0x80) ≡ one-record (associated AssociationState.JoinedBss) 13 0
   pub left : readKind 0x92 (association 0x00) ≡ one-record (associated AssociationState.LeftBss) 13 0
@@ -163,11 +163,8 @@ pub record OfKinds : Type 0 where
   pub last-letter : entry-of 0x83 (0 ∷ 1 ∷ 4 ∷ []) operational ≡ 0x74 ∷ []
   pub configured-radios : readKind 0xB7 (and-more configured) ≡ a-list 1 35 1
   pub last-letter-configured : entry-of 0xB7 (0 ∷ 1 ∷ 4 ∷ []) configured ≡ 0x74 ∷ []
-  pub l2-neighbours : readKind 30 beyond ≡ a-list 1 29 0
-  pub l2-left-over : readKind 30 (and-more beyond) ≡ refuses 4 []
-  pub last-beyond : entry-of 30 (0 ∷ 0 ∷ 1 ∷ []) beyond ≡ mac 4
   -- Rules K1, K4 and E2: a code that no kind has, a value cut short, and entries that no list has.
-  pub unknown-kind : readKind 3 [] ≡ refuses 16 []
+  pub unknown-kind : readKind 30 beyond ≡ refuses 16 []
   pub cut-record : readKind 1 (0x02 ∷ []) ≡ refuses 3 []
   pub cut-list : readKind 23 (0x01 ∷ mac 1) ≡ refuses 3 []
   pub cut-front : readKind 6 (0x02 ∷ []) ≡ refuses 3 []
@@ -180,7 +177,7 @@ pub record OfKinds : Type 0 where
   pub entry-in-a-received-link : locateKind 10 (0 ∷ 0 ∷ []) links-received ≡ refuses 6 []
   pub entry-of-a-record : locateKind 1 (0 ∷ []) (mac 1) ≡ refuses 6 []
   pub entry-of-a-cut-record : locateKind 1 (0 ∷ []) (0x02 ∷ []) ≡ refuses 3 []
-  pub entry-of-no-kind : locateKind 3 (0 ∷ []) [] ≡ refuses 16 []
+  pub entry-of-no-kind : locateKind 30 (0 ∷ []) beyond ≡ refuses 16 []
   -- Rule E3: how many entries the list in an entry has; a record kind has no list.
   pub entries-counted : countKind 0x83 (0 ∷ []) operational ≡ gives 2
   pub letters-counted : countKind 0x83 (0 ∷ 1 ∷ []) operational ≡ gives 5
@@ -189,7 +186,7 @@ pub record OfKinds : Type 0 where
   pub written-without-its-rest : kindBytes 0x80 (and-more services) ≡ 0x80 ∷ 0x00 ∷ 0x03 ∷ services
   pub size-written : writeKind 0x80 (and-more services) 6 ≡ gives 6
   pub no-room-for-it : writeKind 0x80 services 5 ≡ refuses 7 []
-  pub unknown-kind-written : writeKind 3 [] 0 ≡ refuses 16 []
+  pub unknown-kind-written : writeKind 30 beyond 32 ≡ refuses 16 []
   pub cut-value-written : writeKind 0x80 (0x02 ∷ []) 0 ≡ refuses 3 []
   pub left-over-written : writeKind 0 (0x78 ∷ []) 0 ≡ refuses 4 []
   pub bad-value-written : writeKind 0xB3 (0x00 ∷ []) 0 ≡ refuses 5 []
@@ -239,11 +236,11 @@ pub record OfFinding : Type 0 where
   pub none-from-the-second : findFrom 2 (with-none ∷ with-a-byte ∷ []) two-tlvs 1 ≡ refuses 15 (2 ∷ [])
   pub none-beyond-the-list : findFrom 2 (with-none ∷ with-a-byte ∷ []) two-tlvs 9 ≡ refuses 15 (2 ∷ [])
   pub none-in-no-list : findFrom 2 [] two-tlvs 0 ≡ refuses 15 (0 ∷ [])
-  pub no-kind-to-find : findFrom 3 (with-none ∷ []) two-tlvs 0 ≡ refuses 16 []
+  pub no-kind-to-find : findFrom 30 (record { «tlv_type» = 30; length = 29; offset = 0 } ∷ []) (tlvBytes 30 beyond) 0 ≡ refuses 16 []
   -- Rule F4: in a payload 16 comes first, then the walk's own refusal, then 15.
   pub none-in-a-payload : findInPayload 2 two-tlvs 0 ≡ refuses 15 (2 ∷ [])
   pub unwalked : findInPayload 2 (0x02 ∷ []) 0 ≡ refuses 1 (0 ∷ 2 ∷ [])
-  pub no-kind-in-a-payload : findInPayload 3 (0x02 ∷ []) 0 ≡ refuses 16 []
+  pub no-kind-in-a-payload : findInPayload 30 (0x02 ∷ []) 0 ≡ refuses 16 []
   -- Rule F5: going on after two TLVs, at offset 7. A step that is refused gives its offset, 15 the number of all TLVs;
   -- and more TLVs than bytes before the offset count as the offset.
   pub none-onward : findOnward 2 two-tlvs 7 2 ≡ refuses 15 (2 ∷ [])

@@ -149,8 +149,8 @@ operational = 0x01 ∷ (mac 1 ++ (0x02 ∷ (mac 2 ++ (home ++ (mac 3 ++ guest)))
 abbrev pub configured : List ℕ
 configured = 0x01 ∷ (mac 1 ++ (0x02 ∷ (mac 2 ++ (0x40 ∷ 0x00 ∷ (home ++ (mac 3 ++ (0x80 ∷ 0x00 ∷ guest)))))))
 
--- IEEE 1905.1a: one interface by its address, with one neighbour by its own, with the two addresses that it reaches.
--- The two inner counts have two bytes (rule K2).
+-- IEEE 1905.1a, L2NeighborDevice (30), which is none of the kinds: one interface by its address, with one neighbour by
+-- its own, with the two addresses that it reaches.
 abbrev pub beyond : List ℕ
 beyond = 0x01 ∷ (mac 1 ++ (0x00 ∷ 0x01 ∷ (mac 2 ++ (0x00 ∷ 0x02 ∷ (mac 3 ++ mac 4)))))
 
