@@ -2,15 +2,8 @@
 use answer_lines::Answers;
 use framing::Written;
 use kinds::KindRead;
+use numbers::Refusal;
 ghost use Prim.Native.Nat.{_≤_};
-
-// f: the kind that the line names is no record kind.
-fn is_unknown(line: &[u8]) -> bool {
-    if command_lines::byte_at(line, 0) == b'f' {
-        return !records::is_record(command_lines::byte_in(line, 1));
-    }
-    false
-}
 
 // s: a value written as it was read: a record kind from its record (rule O1), any other from its bytes (rule O2).
 fn rewrite(code: u8, bytes: &[u8], out: &mut [u8]) -> Written {
@@ -25,13 +18,21 @@ fn rewrite(code: u8, bytes: &[u8], out: &mut [u8]) -> Written {
     }
 }
 
-// w: a TLV of this type and value (rule B5). f: a record from its fields (rule O1).
+// f: a record from its fields (rule O1). The kind that the line names has to be a record kind.
+fn write_record(code: u8, line: &[u8], out: &mut [u8]) -> Written {
+    if records::is_record(code) {
+        return record_writing::write_record(record_lines::record_in(code, line), out);
+    }
+    Written::Refused(Refusal::UnknownKind)
+}
+
+// w: a TLV of this type and value (rule B5).
 fn write(line: &[u8], bytes: &[u8], out: &mut [u8]) -> Written {
     let code = command_lines::byte_in(line, 1);
     match command_lines::byte_at(line, 0) {
         b'w' => framing::write_tlv(code, bytes, out),
         b's' => rewrite(code, bytes, out),
-        _ => record_writing::write_record(record_lines::record_in(code, line), out),
+        _ => write_record(code, line, out),
     }
 }
 
@@ -48,7 +49,7 @@ fn put(written: Written, out: &[u8], text: &mut Answers, used: usize) -> usize
     }
 }
 
-// Answers one line: what was written, into as much room as the line says. A record of no kind is answered "bad".
+// Answers one line: what was written, into as much room as the line says.
 pub(crate) fn answer(
     line: &[u8],
     bytes: &[u8],
@@ -58,9 +59,6 @@ pub(crate) fn answer(
 ) -> usize
     ensures { λ r. ⌜ r ≤ 65536 ⌝ }
 {
-    if is_unknown(line) {
-        return answer_lines::put(text, used, b"bad");
-    }
     let room = command_lines::least(command_lines::size_in(line, 2), out.len());
     let written = write(line, bytes, &mut out[0..room]);
     put(written, out, text, used)

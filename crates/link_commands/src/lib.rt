@@ -4,6 +4,7 @@ use links::LinkKind;
 use links::LinkReport;
 use links::Lowest;
 use links::Reported;
+use numbers::Refusal;
 ghost use Prim.Native.Nat.{_≤_};
 
 // Which field of a line has the command's bytes: that of m; for M, which has none, one after its two reports. For any
@@ -90,12 +91,21 @@ fn put_reported(reported: Reported, text: &mut Answers, used: usize) -> usize
     }
 }
 
+// m: the report over a value. A kind without pairs is refused by 16.
+fn report(line: &[u8], value: &[u8]) -> Reported {
+    let code = command_lines::byte_in(line, 1);
+    if code == 9 || code == 10 {
+        return links::report(kind_in(line, 1), value);
+    }
+    Reported::Refused(Refusal::UnknownKind)
+}
+
 // Answers one line about link quality.
 pub fn answer(line: &[u8], value: &[u8], text: &mut Answers, used: usize) -> usize
     ensures { λ r. ⌜ r ≤ 65536 ⌝ }
 {
     match command_lines::byte_at(line, 0) {
-        b'm' => put_reported(links::report(kind_in(line, 1), value), text, used),
+        b'm' => put_reported(report(line, value), text, used),
         _ => put_reported(
             links::merge(report_in(line, 1), report_in(line, 7)),
             text,
