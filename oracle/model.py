@@ -3,7 +3,7 @@
 
 Usage: oracle/model.py [LEVEL] < COMMANDS
 LEVEL is the last request that counts for the kinds that there are, 8 without it: from 4 on kinds 21, 22 and 0xD4, from 8
-on 9 and 10, from 13 on no kind 30. All other rules hold at any level.
+on 9 and 10. All other rules hold at any level.
 
 The model tries out the driver and the command language. It is a second opinion beside the proved library on the
 numbers, which the original doesn't have, and on the stations, which it doesn't have either. The generator takes its
@@ -127,20 +127,18 @@ def header(data):
 # Fixed kinds: bytes read. Query: by its own rule.
 FIXED = {0: 0, 1: 6, 2: 6, 13: 1, 15: 1, 16: 1, 26: 1, 12: 1, 0x92: 13, 0xB3: 1, 0xB4: 4}
 QUERY = 8
-# Counted kinds: levels from the top, each the bytes of its count and the fixed bytes of its entries.
+# Counted kinds: levels from the top, each the fixed bytes of its entries.
 COUNTED = {
-    0x80: [(1, 1)],
-    23: [(1, 6), (1, 9)],
-    24: [(1, 22), (1, 33)],
-    4: [(1, 0), (1, 6)],
-    0x83: [(1, 6), (1, 6), (1, 1)],
-    0xB7: [(1, 6), (1, 8), (1, 1)],
-    30: [(1, 6), (2, 6), (2, 6)],
+    0x80: [1],
+    23: [6, 9],
+    24: [22, 33],
+    4: [0, 6],
+    0x83: [6, 6, 1],
+    0xB7: [6, 8, 1],
 }
 # To the end: bytes in front, bytes of an entry.
 TO_THE_END = {6: (6, 6), 7: (6, 7)}
 PAIRS = {9: (12, 29), 10: (12, 23)}
-NOTHING_AFTER = {0, 30}
 # Kinds that hold text (rules E5 to E8): fixed fields of 64 bytes, the whole value, strings with their lengths.
 TEXTS = set()
 KINDS, RECORD_KINDS, LIST_KINDS = [], [], []
@@ -155,8 +153,6 @@ def use_level(level):
         TO_THE_END.pop(kind, None)
     if level >= 8:
         TO_THE_END.update(PAIRS)
-    if level >= 13:
-        COUNTED.pop(30, None)
     RECORD_KINDS[:] = sorted([*FIXED, QUERY])
     LIST_KINDS[:] = sorted([*COUNTED, *TO_THE_END])
     KINDS[:] = sorted([*RECORD_KINDS, *LIST_KINDS, *TEXTS])
@@ -167,7 +163,7 @@ use_level(LEVEL)
 
 def string_end(data, at):
     """The offset after a string with its one-byte length."""
-    return end_of_list(data, at, [(1, 1)])
+    return end_of_list(data, at, [1])
 
 
 def texts_of(kind, data):
@@ -205,11 +201,10 @@ def checked_texts(kind, data):
 
 def end_of_list(data, at, levels):
     """The offset after the list that starts at `at`; entries are fixed bytes, then the list of the level below."""
-    (count_bytes, fixed), below = levels[0], levels[1:]
-    if len(data) < at + count_bytes:
+    fixed, below = levels[0], levels[1:]
+    if len(data) < at + 1:
         raise Refused(3)
-    count = int.from_bytes(data[at:at + count_bytes], "big")
-    at += count_bytes
+    count, at = data[at], at + 1
     if not below:
         at += count * fixed
     else:
@@ -241,7 +236,7 @@ def consumed(kind, data):
         raise Refused(16)
     if len(data) < used:
         raise Refused(3)
-    if kind in NOTHING_AFTER and used < len(data):
+    if kind == 0 and used < len(data):
         raise Refused(4)
     if kind in (13, 15) and data[0] != 0:
         raise Refused(5)
@@ -318,7 +313,7 @@ def value_of_fields(kind, words):
         if low > 7:
             raise Refused(9)
         return bytes([rules, reserved, units << 6 | a << 5 | b << 4 | c << 3 | low, vids])
-    raise Bad
+    raise Refused(16)
 
 
 def entry_at(kind, data, numbers):
@@ -340,11 +335,10 @@ def entry_at(kind, data, numbers):
     for number in numbers:
         if not levels:
             raise Refused(6)
-        (count_bytes, fixed), levels = levels[0], levels[1:]
-        count = int.from_bytes(data[at:at + count_bytes], "big")
-        if number >= count:
+        fixed, levels = levels[0], levels[1:]
+        if number >= data[at]:
             raise Refused(6)
-        at += count_bytes
+        at += 1
         for _ in range(number):
             at = end_of_list(data, at + fixed, levels) if levels else at + fixed
         end = end_of_list(data, at + fixed, levels) if levels else at + fixed
@@ -358,7 +352,7 @@ def every_entry(kind, data):
     found = []
 
     def level(numbers, levels):
-        for number in range(1 << 16):
+        for number in itertools.count():
             try:
                 part = entry_at(kind, data, numbers + [number])
             except Refused:
@@ -538,7 +532,7 @@ ERRORS_AT = {9: 15, 10: 14}
 
 def report_over(kind, data):
     if kind not in PAIRS:
-        raise Bad
+        raise Refused(16)
     consumed(kind, data)
     (front, size), at = PAIRS[kind], ERRORS_AT[kind]
     pairs = [data[start:start + size] for start in range(front, len(data), size)]

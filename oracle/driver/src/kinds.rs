@@ -286,24 +286,6 @@ impl Shown for BssConfigurationReport {
     }
 }
 
-impl Shown for L2NeighborDevice {
-    fn fields(&self) -> String {
-        list(&[], self.local_interfaces.len())
-    }
-
-    fn entries(&self) -> Vec<Entry> {
-        let neighbor = |n: &L2Neighbor| Entry {
-            bytes: n.serialize(),
-            below: n.behind_mac_addresses.iter().map(|m| leaf(m.octets().to_vec())).collect(),
-        };
-        let entry = |interface: &L2NeighborLocalInterface| Entry {
-            bytes: interface.serialize(),
-            below: interface.neighbors.iter().map(neighbor).collect(),
-        };
-        self.local_interfaces.iter().map(entry).collect()
-    }
-}
-
 // Kinds of later requests: 2026-04 (texts), 2026-08 (link metrics).
 
 impl Shown for DeviceIdentificationType {
@@ -408,7 +390,6 @@ pub fn of_kind<A: Ask>(code: u8, ask: A) -> Option<A::Answer> {
         21 if level >= 4 => ask.ask::<DeviceIdentificationType>(),
         22 if level >= 4 => ask.ask::<ControlUrl>(),
         0xd4 if level >= 4 => ask.ask::<DeviceInventory>(),
-        30 if level >= 13 => return None,
         0 => ask.ask::<EndOfMessage>(),
         1 => ask.ask::<AlMacAddress>(),
         2 => ask.ask::<MacAddress>(),
@@ -423,7 +404,6 @@ pub fn of_kind<A: Ask>(code: u8, ask: A) -> Option<A::Answer> {
         23 => ask.ask::<Ipv4>(),
         24 => ask.ask::<Ipv6>(),
         26 => ask.ask::<Ieee1905ProfileVersion>(),
-        30 => ask.ask::<L2NeighborDevice>(),
         0x80 => ask.ask::<SupportedService>(),
         0x83 => ask.ask::<ApOperationalBss>(),
         0x92 => ask.ask::<ClientAssociation>(),
