@@ -51,37 +51,36 @@ static AshlarKind to_end(size_t head, size_t entry, size_t n) {
     return listed((n - head) / entry, n, n);
 }
 
-/* one of w bytes of count at p */
-static inline bool counted(size_t w, const uint8_t *v, size_t n, size_t *p, size_t *count) {
-    if (n - *p < w) return false;
-    *count = w == 1 ? v[*p] : (size_t)v[*p] << 8 | v[*p + 1];
-    *p += w;
+/* the count at p */
+static inline bool counted(const uint8_t *v, size_t n, size_t *p, size_t *count) {
+    if (n == *p) return false;
+    *count = v[(*p)++];
     return true;
 }
 
 static inline __attribute__((always_inline)) AshlarKind two(size_t head, size_t entry, const uint8_t *v, size_t n) {
     size_t p = 0, entries, inner;
-    if (!counted(1, v, n, &p, &entries)) return refused(3);
+    if (!counted(v, n, &p, &entries)) return refused(3);
     for (size_t i = 0; i < entries; i++) {
         if (n - p < head) return refused(3);
         p += head;
-        if (!counted(1, v, n, &p, &inner) || n - p < inner * entry) return refused(3);
+        if (!counted(v, n, &p, &inner) || n - p < inner * entry) return refused(3);
         p += inner * entry;
     }
     return listed(entries, p, n);
 }
 
-static inline __attribute__((always_inline)) AshlarKind three(size_t head, size_t w, size_t middle, size_t entry, const uint8_t *v, size_t n) {
+static inline __attribute__((always_inline)) AshlarKind three(size_t head, size_t middle, size_t entry, const uint8_t *v, size_t n) {
     size_t p = 0, entries, middles, inner;
-    if (!counted(1, v, n, &p, &entries)) return refused(3);
+    if (!counted(v, n, &p, &entries)) return refused(3);
     for (size_t i = 0; i < entries; i++) {
         if (n - p < head) return refused(3);
         p += head;
-        if (!counted(w, v, n, &p, &middles)) return refused(3);
+        if (!counted(v, n, &p, &middles)) return refused(3);
         for (size_t j = 0; j < middles; j++) {
             if (n - p < middle) return refused(3);
             p += middle;
-            if (!counted(w, v, n, &p, &inner) || n - p < inner * entry) return refused(3);
+            if (!counted(v, n, &p, &inner) || n - p < inner * entry) return refused(3);
             p += inner * entry;
         }
     }
@@ -133,7 +132,7 @@ static AshlarKind inventory(const uint8_t *v, size_t n) {
         if (!string(0, v, n, &p, &text)) return refused(3);
         valid &= is_text(v, text);
     }
-    if (!counted(1, v, n, &p, &radios)) return refused(3);
+    if (!counted(v, n, &p, &radios)) return refused(3);
     for (q = 0; q < radios; q++) {
         if (!string(6, v, n, &p, &text)) return refused(3);
         valid &= is_text(v, text);
@@ -177,12 +176,8 @@ static inline __attribute__((always_inline)) AshlarKind kind_in(uint8_t code, co
     case 23: return two(6, 9, v, n);
     case 24: return two(22, 33, v, n);
     case 4: return two(0, 6, v, n);
-    case 0x83: return three(6, 1, 6, 1, v, n);
-    case 0xB7: return three(6, 1, 8, 1, v, n);
-    case 30: {
-        AshlarKind k = three(6, 2, 6, 6, v, n);
-        return !k.refusal && k.rest ? refused(4) : k;
-    }
+    case 0x83: return three(6, 6, 1, v, n);
+    case 0xB7: return three(6, 8, 1, v, n);
     default: return refused(16);
     }
 }
@@ -191,7 +186,7 @@ AshlarKind plain_read_kind(uint8_t code, const uint8_t *v, size_t n) { return ki
 
 static bool is_kind(uint8_t code) {
     static const uint64_t known[4] = {
-        1ull << 0 | 1ull << 1 | 1ull << 2 | 1ull << 4 | 1ull << 6 | 1ull << 7 | 1ull << 8 | 1ull << 9 | 1ull << 10 | 1ull << 12 | 1ull << 13 | 1ull << 15 | 1ull << 16 | 1ull << 21 | 1ull << 22 | 1ull << 23 | 1ull << 24 | 1ull << 26 | 1ull << 30,
+        1ull << 0 | 1ull << 1 | 1ull << 2 | 1ull << 4 | 1ull << 6 | 1ull << 7 | 1ull << 8 | 1ull << 9 | 1ull << 10 | 1ull << 12 | 1ull << 13 | 1ull << 15 | 1ull << 16 | 1ull << 21 | 1ull << 22 | 1ull << 23 | 1ull << 24 | 1ull << 26,
         0,
         1ull << 0 | 1ull << 3 | 1ull << 18 | 1ull << 51 | 1ull << 52 | 1ull << 55,
         1ull << 20,

@@ -155,7 +155,6 @@ static const struct {
     {"IPV4", ASHLAR_IPV4, 3, true, 1, 17, {1, [7] = 1}},
     {"IPV6", ASHLAR_IPV6, 3, true, 1, 57, {1, [23] = 1}},
     {"PROFILE_VERSION", ASHLAR_PROFILE_VERSION, 3, false, 0, 1, {9}},
-    {"L2_NEIGHBOR_DEVICE", ASHLAR_L2_NEIGHBOR_DEVICE, 3, true, 1, 23, {1, [8] = 1, [16] = 1}},
     {"SUPPORTED_SERVICE", ASHLAR_SUPPORTED_SERVICE, 3, true, 1, 2, {1}},
     {"AP_OPERATIONAL_BSS", ASHLAR_AP_OPERATIONAL_BSS, 3, true, 1, 16, {1, [7] = 1, [14] = 1}},
     {"CLIENT_ASSOCIATION", ASHLAR_CLIENT_ASSOCIATION, 3, false, 0, 13, {[12] = 0x80}},
@@ -164,6 +163,9 @@ static const struct {
     {"BSS_CONFIGURATION_REPORT", ASHLAR_BSS_CONFIGURATION_REPORT, 3, true, 1, 18, {1, [7] = 1, [16] = 1}},
     {"DEVICE_INVENTORY", ASHLAR_DEVICE_INVENTORY, 3, true, 1, 12, {[3] = 1, [10] = 1, 'a'}},
 };
+
+/* the TLV of an L2NeighborDevice (30), which is no kind: an interface, a neighbour, an address that it reaches */
+static const uint8_t beyond[26] = {30, 0, 23, 1, [11] = 1, [19] = 1};
 
 static uint8_t refusal_of(uint8_t code, const char *value, size_t size) {
     AshlarKind k = ashlar_read_kind(code, (const uint8_t *)value, size);
@@ -188,7 +190,7 @@ static void reads(void) {
     check("ashlar_read_kind: 3", refusal_of(ASHLAR_SUPPORTED_SERVICE, "\5abcde", 5) == ASHLAR_CUT_SHORT);
     check("ashlar_read_kind: 4", refusal_of(ASHLAR_END_OF_MESSAGE, "a", 1) == ASHLAR_LEFT_OVER);
     check("ashlar_read_kind: 5", refusal_of(ASHLAR_MULTI_AP_PROFILE, "\0", 1) == ASHLAR_BAD_VALUE);
-    check("ashlar_read_kind: 16", refusal_of(3, "abc", 3) == ASHLAR_UNKNOWN_KIND);
+    check("ashlar_read_kind: 16", refusal_of(30, (const char *)beyond + 3, 23) == ASHLAR_UNKNOWN_KIND);
     check("ashlar_read_kind: 18", refusal_of(ASHLAR_CONTROL_URL, "ab\xC0\x80", 4) == ASHLAR_NOT_TEXT);
     check("ashlar_read_kind: 3 before 18", refusal_of(ASHLAR_DEVICE_INVENTORY, "\1\xFF\0\1", 4) == ASHLAR_CUT_SHORT);
 }
@@ -219,7 +221,7 @@ static void texts(void) {
     check("ashlar_radio: 3", no_part(ashlar_radio(0, device, 30), ASHLAR_CUT_SHORT) && no_part(ashlar_radio_text(0, device, 30), ASHLAR_CUT_SHORT));
     check("ashlar_text: 6 where a kind holds no text", no_part(ashlar_text(ASHLAR_MAC_ADDRESS, 0, device, 6), ASHLAR_NO_ENTRY) && no_part(ashlar_text(ASHLAR_SUPPORTED_SERVICE, 0, device + 8, 1), ASHLAR_NO_ENTRY));
     check("ashlar_text: its value's own refusal before 6", no_part(ashlar_text(ASHLAR_MAC_ADDRESS, 0, device, 5), ASHLAR_CUT_SHORT) && no_part(ashlar_text(ASHLAR_END_OF_MESSAGE, 0, device, 1), ASHLAR_LEFT_OVER));
-    check("ashlar_text: 16, a code that no kind has", no_part(ashlar_text(3, 0, device, 0), ASHLAR_UNKNOWN_KIND));
+    check("ashlar_text: 16, a code that no kind has", no_part(ashlar_text(30, 0, beyond + 3, 23), ASHLAR_UNKNOWN_KIND));
 
     uint8_t fields[192] = "name";
     memset(fields + 64, 'x', 64);
@@ -251,8 +253,9 @@ static void finds(void) {
     refusals |= 1u << f.refusal;
     f = ashlar_find(list, 2, roles, sizeof roles, 1, 0);
     check("ashlar_find: the list's length", f.looked == 2 && f.refusal == ASHLAR_NOT_FOUND);
-    f = ashlar_find(list, n, roles, sizeof roles, 3, 0);
-    check("ashlar_find: 16", f.looked == 0 && f.refusal == ASHLAR_UNKNOWN_KIND);
+    n = ashlar_walk_into(list, 1, beyond, sizeof beyond).count;
+    f = ashlar_find(list, n, beyond, sizeof beyond, 30, 0);
+    check("ashlar_find: 16", n == 1 && list[0].tlv_type == 30 && list[0].length == 23 && f.looked == 0 && f.refusal == ASHLAR_UNKNOWN_KIND);
     refusals |= 1u << f.refusal;
 }
 

@@ -88,8 +88,8 @@ static uint8_t *bytes(size_t n) {
 }
 
 static uint8_t code(void) {
-    static const uint8_t codes[26] = {0, 1, 2, 4, 6, 7, 8, 9, 10, 12, 13, 15, 16, 21, 22, 23, 24, 26, 30, 0x80, 0x83, 0x92, 0xB3, 0xB4, 0xB7, 0xD4};
-    return below(4) ? codes[below(26)] : (uint8_t)any();
+    static const uint8_t codes[25] = {0, 1, 2, 4, 6, 7, 8, 9, 10, 12, 13, 15, 16, 21, 22, 23, 24, 26, 0x80, 0x83, 0x92, 0xB3, 0xB4, 0xB7, 0xD4};
+    return below(4) ? codes[below(25)] : (uint8_t)any();
 }
 
 /* a text of up to so many bytes: the first and last characters of each length, zeros, now and then what is no
