@@ -7,7 +7,7 @@
    payload of a message is a row of TLVs. Each has a type byte, the length of its value in two bytes, higher
    byte first, and the value. The last TLV is the end marker, of type 0 and without a value. Bytes that a
    bridge added after it are padding. ashlar_walk counts the TLVs, and ashlar_walk_into lists them.
-   ashlar_find looks in such a list for a TLV of one of 26 kinds, and ashlar_read_kind reads its value. Three
+   ashlar_find looks in such a list for a TLV of one of 25 kinds, and ashlar_read_kind reads its value. Three
    kinds hold text, as names and addresses of devices: ashlar_text says where a text lies in such a value.
    ashlar_radio and ashlar_radio_text say where a radio and its text lie in an inventory.
 
@@ -97,7 +97,7 @@ typedef enum {
     /* A value ends inside its kind's layout, as where a count promises more entries than there are: skip the
        TLV. */
     ASHLAR_CUT_SHORT = 3,
-    /* A value has bytes after its layout, in a kind that allows none (0, 6, 7, 9, 10, 30): skip the TLV. Or a
+    /* A value has bytes after its layout, in a kind that allows none (0, 6, 7, 9, 10): skip the TLV. Or a
        message that is to be checked or cut has bytes after its end marker: leave these out. The `padding` of
        ashlar_walk says how many they are. */
     ASHLAR_LEFT_OVER = 4,
@@ -150,10 +150,10 @@ typedef enum {
 
 /* ---- Kinds ---- */
 
-/* The 26 kinds by the type byte of their TLVs (rules K2 to K6). A list begins with a count in one byte unless
-   said otherwise; in kind 30 the inner counts have two. A text is UTF-8, and its bytes are kept as they are:
-   zeros, a byte order mark and noncharacters too. Only a text in a field of 64 bytes ends at its first zero
-   byte, and what follows that byte is not looked at (rules E5 and E6). */
+/* The 25 kinds by the type byte of their TLVs (rules K2 to K6). A list begins with a count in one byte unless
+   said otherwise. A text is UTF-8, and its bytes are kept as they are: zeros, a byte order mark and
+   noncharacters too. Only a text in a field of 64 bytes ends at its first zero byte, and what follows that
+   byte is not looked at (rules E5 and E6). */
 typedef enum {
     ASHLAR_END_OF_MESSAGE = 0,                /* no bytes */
     ASHLAR_AL_MAC_ADDRESS = 1,                /* an address of 6 bytes */
@@ -173,8 +173,6 @@ typedef enum {
     ASHLAR_IPV4 = 23,                         /* a list of: an address, a list of 9 bytes each */
     ASHLAR_IPV6 = 24,                         /* a list of: 22 bytes, a list of 33 bytes each */
     ASHLAR_PROFILE_VERSION = 26,              /* 1 byte */
-    ASHLAR_L2_NEIGHBOR_DEVICE = 30,           /* a list of: an address, a list of: an address, a list of
-                                                 addresses */
     ASHLAR_SUPPORTED_SERVICE = 0x80,          /* a list of 1 byte each */
     ASHLAR_AP_OPERATIONAL_BSS = 0x83,         /* a list of: an address, a list of: an address, a name (a list
                                                  of 1 byte each) */
