@@ -54,12 +54,15 @@ digitsAt zero p s = []
 digitsAt (suc w) p s = getD s p 0 ∷ digitsAt w (p + 1) s
 
 module _ (w p : ℕ) (s : List ℕ) (inside : p + w ≤ length s) where
-  pub number-at : bigEndian (digitsAt w p s) ≡ numberAt w p s
-  number-at = ap bigEndian (taken w p inside)
+  pub digits-at : digitsAt w p s ≡ take w (drop p s)
+  digits-at = taken w p inside
     where
       taken : (w p : ℕ) → p + w ≤ length s → digitsAt w p s ≡ take w (drop p s)
       taken zero p h = refl
       taken (suc w) p h = rw (drop-cons s p 0 (omega arith), taken w (p + 1) (omega arith), add-one)
+
+  pub number-at : bigEndian (digitsAt w p s) ≡ numberAt w p s
+  number-at = ap bigEndian digits-at
 
   -- it says the bytes where it stands
   pub bytes-at-back : AllBytes s → inBytes w (numberAt w p s) ≡ take w (drop p s)

@@ -8,11 +8,11 @@ use lib.ListN.{length, getD, List·getD-map}
 use Rattle.numbers.specs.Firmness.{Firm}
 use Rattle.numbers.specs.Numbers.{gives, refuses, told, number, values, carried}
 use Rattle.numbers.specs.declared.Refusal.{Refusal}
-use Rattle.numbers.specs.declared.Refusal.the-variants.{TooFewBytes, RunsPastEnd, CutShort, LeftOver, BadValue, NoEntry, NoRoom, ValueTooLong, NeverRead, TableFull, StoreTooSmall, PayloadTooLong, OutputTooSmall, ListTooShort, NotFound, UnknownKind, NoStationRoom, NotText, NoReport, SenderFull, NoCutting}
+use Rattle.numbers.specs.declared.Refusal.the-variants.{TooFewBytes, RunsPastEnd, CutShort, LeftOver, BadValue, NoEntry, NoRoom, ValueTooLong, NeverRead, TableFull, StoreTooSmall, PayloadTooLong, OutputTooSmall, ListTooShort, NotFound, UnknownKind, NoStationRoom, NotText, NoReport, SenderFull, NoCutting, NotACapture, BadFrame}
 
 -- the cases by their numbers, with the value v, and the case with the number n
 abbrev cases : ℕ → List Refusal
-cases v = UnknownKind ∷ TooFewBytes v ∷ RunsPastEnd v ∷ CutShort ∷ LeftOver ∷ BadValue ∷ NoEntry ∷ NoRoom ∷ ValueTooLong ∷ NeverRead ∷ TableFull ∷ StoreTooSmall ∷ PayloadTooLong ∷ OutputTooSmall v ∷ ListTooShort ∷ NotFound v ∷ UnknownKind ∷ NoStationRoom ∷ NotText ∷ NoReport ∷ SenderFull ∷ NoCutting ∷ []
+cases v = UnknownKind ∷ TooFewBytes v ∷ RunsPastEnd v ∷ CutShort ∷ LeftOver ∷ BadValue ∷ NoEntry ∷ NoRoom ∷ ValueTooLong ∷ NeverRead ∷ TableFull ∷ StoreTooSmall ∷ PayloadTooLong ∷ OutputTooSmall v ∷ ListTooShort ∷ NotFound v ∷ UnknownKind ∷ NoStationRoom ∷ NotText ∷ NoReport ∷ SenderFull ∷ NoCutting ∷ NotACapture ∷ BadFrame ∷ []
 
 abbrev caseOf : ℕ → ℕ → Refusal
 caseOf n v = getD (cases v) n UnknownKind
@@ -39,6 +39,8 @@ back NotText = refl
 back NoReport = refl
 back SenderFull = refl
 back NoCutting = refl
+back NotACapture = refl
+back BadFrame = refl
 
 -- beside a number stand always so many values
 pub so-many : (a b : Refusal) → number a ≡ number b → length (values a) ≡ length (values b)

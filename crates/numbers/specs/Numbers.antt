@@ -4,7 +4,7 @@ use mathlib.Core.List.{List, [], _∷_}
 use Prim.Native.Nat.{ℕ}
 use lib.ListN.{getD}
 use Rattle.numbers.specs.declared.Refusal.{Refusal}
-use Rattle.numbers.specs.declared.Refusal.the-variants.{TooFewBytes, RunsPastEnd, CutShort, LeftOver, BadValue, NoEntry, NoRoom, ValueTooLong, NeverRead, TableFull, StoreTooSmall, PayloadTooLong, OutputTooSmall, ListTooShort, NotFound, UnknownKind, NoStationRoom, NotText, NoReport, SenderFull, NoCutting}
+use Rattle.numbers.specs.declared.Refusal.the-variants.{TooFewBytes, RunsPastEnd, CutShort, LeftOver, BadValue, NoEntry, NoRoom, ValueTooLong, NeverRead, TableFull, StoreTooSmall, PayloadTooLong, OutputTooSmall, ListTooShort, NotFound, UnknownKind, NoStationRoom, NotText, NoReport, SenderFull, NoCutting, NotACapture, BadFrame}
 
 -- Rule A2: a call answers, or it refuses with a number and the values beside it. This says what a call returns, without
 -- the code's own types.
@@ -50,6 +50,8 @@ numbered NotText = (18, [])
 numbered NoReport = (19, [])
 numbered SenderFull = (20, [])
 numbered NoCutting = (21, [])
+numbered NotACapture = (22, [])
+numbered BadFrame = (23, [])
 
 abbrev pub number : Refusal → ℕ
 number r = numbered r .0

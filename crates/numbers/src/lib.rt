@@ -10,7 +10,7 @@ ghost use Rattle.numbers.specs.Bytes.{bigEndian};
 pub enum Refusal {
     // 1: a TLV or a CMDU header is cut, with the shortfall (rules B3 and B6)
     TooFewBytes(usize),
-    // 2: a TLV declares a longer value than is there, with the shortfall (rule B3)
+    // 2: a TLV declares a longer value than is there, or a capture is cut, with the shortfall (rules B3 and G6)
     RunsPastEnd(usize),
     // 3: a value stops before its layout does (rule K1)
     CutShort,
@@ -30,11 +30,11 @@ pub enum Refusal {
     TableFull,
     // 11: a store below 47,744 bytes (rule T4)
     StoreTooSmall,
-    // 12: a payload above 1,492 bytes, or input of tlvlist above 47,744 (rules T4 and L3)
+    // 12: a payload above 1,492 bytes, or input of tlvlist above 47,744 (rules T4, G5 and L3)
     PayloadTooLong,
     // 13: an output shorter than the joined message, with the message's length (rule T9)
     OutputTooSmall(usize),
-    // 14: a TLV list with fewer elements than the walk has TLVs (rule W5)
+    // 14: a list with fewer elements than there are TLVs or frames (rules W5 and G8)
     ListTooShort,
     // 15: nothing was found, with the number of records that were looked at (rule F1)
     NotFound(usize),
@@ -50,6 +50,10 @@ pub enum Refusal {
     SenderFull,
     // 21: a message that no fragments can carry (rule M5)
     NoCutting,
+    // 22: a file of another form than a capture's (rule G6)
+    NotACapture,
+    // 23: a frame that was captured in part, or a time that no capture can hold (rules G5 and G6)
+    BadFrame,
 }
 
 // The number of a refusal (rule N1).
@@ -78,6 +82,8 @@ pub fn number_of(refusal: Refusal) -> u8
         Refusal::NoReport => 19,
         Refusal::SenderFull => 20,
         Refusal::NoCutting => 21,
+        Refusal::NotACapture => 22,
+        Refusal::BadFrame => 23,
     }
 }
 
@@ -108,6 +114,8 @@ pub fn carried_by(refusal: Refusal) -> usize
         Refusal::NoReport => 0,
         Refusal::SenderFull => 0,
         Refusal::NoCutting => 0,
+        Refusal::NotACapture => 0,
+        Refusal::BadFrame => 0,
     }
 }
 

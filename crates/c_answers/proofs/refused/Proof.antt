@@ -4,7 +4,7 @@ use lib.ListN.{getD}
 use borrow.Author.Needs.{needs}
 use Rattle.numbers.specs.Numbers.{values}
 use Rattle.numbers.specs.declared.Refusal.{Refusal}
-use Rattle.numbers.specs.declared.Refusal.the-variants.{TooFewBytes, RunsPastEnd, CutShort, LeftOver, BadValue, NoEntry, NoRoom, ValueTooLong, NeverRead, TableFull, StoreTooSmall, PayloadTooLong, OutputTooSmall, ListTooShort, NotFound, UnknownKind, NoStationRoom, NotText, NoReport, SenderFull, NoCutting}
+use Rattle.numbers.specs.declared.Refusal.the-variants.{TooFewBytes, RunsPastEnd, CutShort, LeftOver, BadValue, NoEntry, NoRoom, ValueTooLong, NeverRead, TableFull, StoreTooSmall, PayloadTooLong, OutputTooSmall, ListTooShort, NotFound, UnknownKind, NoStationRoom, NotText, NoReport, SenderFull, NoCutting, NotACapture, BadFrame}
 use Rattle.c_answers.proofs.refused.Statement.{statement}
 use Rattle.c_answers.proofs.refused.Tie as tie
 
@@ -30,6 +30,8 @@ one-value NotText = refl
 one-value NoReport = refl
 one-value SenderFull = refl
 one-value NoCutting = refl
+one-value NotACapture = refl
+one-value BadFrame = refl
 
 returns : tie.Need-returns
 returns c = rw (c .number-of .ensures, c .before .carried-by .ensures, one-value (c .before .before .args .refusal))
