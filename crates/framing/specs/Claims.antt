@@ -9,7 +9,9 @@ use Rattle.numbers.specs.Bytes.{AllBytes}
 use Rattle.numbers.specs.Parts.{behind}
 use Rattle.numbers.specs.Firmness.{Firm}
 use Rattle.framing.specs.Tlv.{TlvRead, readOf, readTlv, valueIn, valueFrom, header, tlvBytes, writtenOf, longestValue, writeSize, leaves}
-use Rattle.framing.specs.Cmdu.{headerOf, readHeader}
+use Rattle.framing.specs.Cmdu.{headerOf, readHeader, flagsFor, headerBytes, headerSize}
+use Rattle.framing.specs.declared.CmduFields.{CmduFields}
+use Rattle.framing.specs.declared.CmduHeader.{CmduHeader}
 use Rattle.framing.specs.declared.Written.{Written}
 
 -- Rule A4, for each public call by its name: any two outcomes that its contract allows are one.
@@ -24,6 +26,8 @@ pub record Firmness : Type 0 where
   pub write-tlv : (t : ℕ) (bytes out : List ℕ)
       → Firm {A = Written × List ℕ} (λ o. (writtenOf (o .0) ≡ writeSize (length bytes) (length out)) × (o .1 ≡ leaves (writeSize (length bytes) (length out)) (tlvBytes t bytes) out))
   pub read-cmdu-header : (s : List ℕ) → Firm (λ h. headerOf h ≡ readHeader s)
+  pub write-cmdu-header : (fields : CmduFields) (out : List ℕ)
+      → Firm {A = Written × List ℕ} (λ o. (writtenOf (o .0) ≡ headerSize (length out)) × (o .1 ≡ leaves (headerSize (length out)) (headerBytes fields) out))
 
 -- what reading returns for the TLV of type t and value v
 abbrev pub asRead : ℕ → List ℕ → TlvRead
@@ -39,6 +43,27 @@ pub record RoundTrip : Type 0 where
   -- writing what was read gives the consumed bytes
   pub written-read : (s : List ℕ) → AllBytes s → (t : TlvRead) → gives t ≡ readTlv s
       → tlvBytes (t .tlv-type) (valueIn (readTlv s) s) ≡ take (t .consumed) s
+
+-- fields whose numbers fit their two bytes
+pub record Fields (f : CmduFields) : Type 0 where
+  pub two-of-type : f .«message_type» < 65536
+  pub two-of-id : f .«message_id» < 65536
+
+-- what reading returns for a header with these fields
+abbrev pub asWritten : CmduFields → CmduHeader
+asWritten f = record {
+  «message_version» = f .«message_version»;
+  reserved = 0;
+  «message_type» = f .«message_type»;
+  «message_id» = f .«message_id»;
+  fragment = f .fragment;
+  flags = flagsFor (f .«last_fragment»);
+  «last_fragment» = f .«last_fragment»;
+}
+
+-- Rules A6 and B7: reading a header that was written gives its five fields, whatever stands after it.
+abbrev pub HeaderBack : Type 0
+HeaderBack = (f : CmduFields) (rest : List ℕ) → Fields f → gives (asWritten f) ≡ readHeader (headerBytes f ++ rest)
 
 -- the number of a refusal; 0 where there is none
 abbrev pub numberIn : {A : Type 0} → Answer A → ℕ
@@ -61,4 +86,5 @@ pub record Shortfalls : Type 0 where
 pub record Claims : Type 0 where
   pub firmness : Firmness
   pub round-trip : RoundTrip
+  pub header-back : HeaderBack
   pub shortfalls : Shortfalls

@@ -1,4 +1,4 @@
-// Framing, the lowest layer of the protocol: reading and writing a TLV, and reading the CMDU header (rules B2 to B6).
+// Framing, the lowest layer of the protocol: a TLV and the CMDU header, each read and written (rules B2 to B7).
 // The walk over a payload's TLVs is the crate `walking`.
 use numbers::Refusal;
 use numbers::be16;
@@ -8,7 +8,7 @@ ghost use Prim.Native.Nat.{_≤_};
 ghost use lib.ListN.{length, drop};
 ghost use Rattle.numbers.specs.Parts.{behind};
 ghost use Rattle.framing.specs.Tlv.{readOf, readTlv, valueIn, valueFrom, writtenOf, writeSize, header, tlvBytes, leaves};
-ghost use Rattle.framing.specs.Cmdu.{headerOf, readHeader};
+ghost use Rattle.framing.specs.Cmdu.{headerOf, readHeader, flagsFor, headerBytes, headerSize};
 
 // The longest value that a length in two bytes can say (rule B5).
 const LONGEST_VALUE: usize = 65535;
@@ -31,6 +31,7 @@ pub enum Written {
 }
 
 // The header of a CMDU, every field as it stands there (rule B6). `last_fragment` is bit 7 of `flags`.
+#[repr(C)]
 pub struct CmduHeader {
     pub message_version: u8,
     pub reserved: u8,
@@ -38,6 +39,16 @@ pub struct CmduHeader {
     pub message_id: u16,
     pub fragment: u8,
     pub flags: u8,
+    pub last_fragment: bool,
+}
+
+// What a header that is written says (rule B7). Its reserved byte and the other bits of its flags are 0.
+#[repr(C)]
+pub struct CmduFields {
+    pub message_version: u8,
+    pub message_type: u16,
+    pub message_id: u16,
+    pub fragment: u8,
     pub last_fragment: bool,
 }
 
@@ -144,4 +155,43 @@ pub fn read_cmdu_header(s: &[u8]) -> HeaderRead
         flags: s[7],
         last_fragment: s[7] / 128 % 2 == 1,
     })
+}
+
+// The flags with this last mark (rule B7).
+fn flags_for(last: bool) -> u8
+    ensures { λ r. ⌜ r ≡ flagsFor last ⌝ }
+{
+    if last {
+        return 128;
+    }
+    0
+}
+
+// The bytes of a header with these fields (rule B7).
+fn header_bytes(fields: CmduFields) -> [u8; 8]
+    ensures { λ r. ⌜ r ≡ headerBytes fields ⌝ }
+{
+    [
+        fields.message_version,
+        0,
+        (fields.message_type / 256) as u8,
+        (fields.message_type % 256) as u8,
+        (fields.message_id / 256) as u8,
+        (fields.message_id % 256) as u8,
+        fields.fragment,
+        flags_for(fields.last_fragment),
+    ]
+}
+
+// Writes a CMDU header with these fields at the start of `out` (rule B7).
+pub fn write_cmdu_header(fields: CmduFields, out: &mut [u8]) -> Written
+    ensures answer { λ r. ⌜ writtenOf r ≡ headerSize (length (now (out .entry))) ⌝ }
+    ensures bytes { λ _. ⌜ now (out .exit) ≡ leaves (headerSize (length (now (out .entry)))) (headerBytes fields) (now (out .entry)) ⌝ }
+{
+    if out.len() < 8 {
+        return Written::Refused(Refusal::NoRoom);
+    }
+    let header = header_bytes(fields);
+    put_bytes(&header, out);
+    Written::Bytes(8)
 }
