@@ -4,6 +4,7 @@ pub mod Chained
 pub mod Claims
 pub mod Elem
 pub mod Filled
+pub mod Filling
 pub mod Firm
 pub mod Going
 pub mod Listed

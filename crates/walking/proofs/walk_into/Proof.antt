@@ -184,12 +184,12 @@ module _ {M : Type 1} (𝓤 : URA M) (H : Heap 𝓤) (A : Atoms 𝓤) (W : Given
     exits : (i to : ℕ) (zs : List Tlv) → FilledTo i to zs → n ≤ i → ent 𝓤 (⋆ 𝓤 H A (Kept zs)) (Post (EL.val S.the-type S′.the-laws (r .answer)))
     exits i to zs g le =
         qed W (Kept zs) ∵
-        suffices ! _ (ends-at 𝓤 H A f.ended stayed (f.clauses 𝓤 H A mem run) W ((κs, (q, (q′, tt)), tt, x, at), tt) (EL.val S.the-type S′.the-laws (r .answer)) (r .answer) (zs, (tt, tt)) (g .long, (tt, tt))) $
+        suffices ! _ (ends-at 𝓤 H A f.ended stayed (f.clauses 𝓤 H A mem run) W ((κs, (q, (q′, tt)), tt, x, at), tt) (EL.val S.the-type S′.the-laws (r .answer)) (r .answer) (zs, (tt, tt)) (g .so-far .long, (tt, tt))) $
         says ! (made .answered, ends (now pay) n ys i to zs g le ∙ holds (now pay) m n (walkedOf (r .answer)) made ys) $
         nothing ! $ move ! (4 ∷ 0 ∷ []) $ join ! $ move ! (3 ∷ 0 ∷ []) $ join ! $
         -- [the tokens; obs; the borrow; payload]
         nothing ! $ move ! (4 ∷ 0 ∷ []) $ fjoin ! $
-        move ! (2 ∷ 3 ∷ []) $ fjoin ! $ pureI ! (at-slice R (list zs) (s ∷ [])) (tt, (tt, tt)) (ap (λ (k : ℕ). sliceVal (b, o) k ∷ []) (sym (g .long)), subst (Room R) (sym (g .long)) gn) $ fjoin ! $ fjoin ! $ move ! (1 ∷ 0 ∷ []) $
+        move ! (2 ∷ 3 ∷ []) $ fjoin ! $ pureI ! (at-slice R (list zs) (s ∷ [])) (tt, (tt, tt)) (ap (λ (k : ℕ). sliceVal (b, o) k ∷ []) (sym (g .so-far .long)), subst (Room R) (sym (g .so-far .long)) gn) $ fjoin ! $ fjoin ! $ move ! (1 ∷ 0 ∷ []) $
         frame ! $ frame ! $ owned ! S.the-row (Is S.the-row) (EL.makes S.the-type S′.the-plain 𝓤 H A) (r .answer) _ ga $ done !
 
     abbrev E : Env 𝓤 H
@@ -230,7 +230,7 @@ module _ {M : Type 1} (𝓤 : URA M) (H : Heap 𝓤) (A : Atoms 𝓤) (W : Given
         first ! $ branches ! (load ! (from ! (stop !)) (look ! 3 refl))
         (λ lt. skips ! $ exec ! C Λ E (after 2 mir.turn-1) (Turn (i, (to, zs))) $
         let l : i < n = ltb→lt i n lt in
-        let l′ : i < length zs = omega (arith, f .0 .long, room) in
+        let l′ : i < length zs = omega (arith, f .0 .so-far .long, room) in
         let sc : i * 16 < 2 ^ 64 = scaled i m gn (omega (arith, room)) in
         move ! (16 ∷ []) $ use1 W (‵ Pay ⊛ ‵ Pay) (shr-slice-copy 𝓤 H A W (named 1) κ′ u8 .twice pay (sp ∷ [])) $ split ! $ move ! (17 ∷ 0 ∷ []) $ use2 W (raw (PassC 𝓤 H A mem run .pre (to-callee to))) (asks to (f .1)) $
         -- [pre; payload; _6; _5; _7; _9; _10; _11; _4; _3; _2; _1; _8; _0; obs; the borrow; token; …]
