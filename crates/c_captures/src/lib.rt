@@ -1,0 +1,140 @@
+// What the calls about captures answer (part G), as it crosses to C (rule C5): plain structs, in numbers. A frame crosses
+// as it is.
+use captures::Checked;
+use captures::Frame;
+use captures::Reached;
+use framing::CmduHeader;
+use framing::Written;
+use records::MacAddr;
+ghost use mathlib.Core.Path.{_≡_};
+ghost use Rattle.framing.specs.Tlv.{writtenOf};
+ghost use Rattle.captures.specs.Reading.{reachedOf, checkedOf};
+ghost use Rattle.c_captures.specs.Numbers.{writtenNumbers, noFrame, withoutFrame, reachedNumbers, checkedNumbers};
+
+// How many bytes were written (rules B7 and G5).
+#[repr(C)]
+pub struct AshlarWritten {
+    pub length: usize,
+    pub refusal: u8,
+}
+
+// What a step goes over (rule G7): 1 no byte is left, 2 a 1905 frame, 3 another; 0 where it is refused. The next step
+// starts at `next`. For refusal 2 the shortfall is how many bytes are missing.
+#[repr(C)]
+pub struct AshlarReached {
+    pub frame: Frame,
+    pub next: usize,
+    pub shortfall: usize,
+    pub answer: u8,
+    pub refusal: u8,
+}
+
+// How many 1905 frames a capture holds, and how many others (rule G6). For refusal 2, how many bytes are missing.
+#[repr(C)]
+pub struct AshlarCapture {
+    pub frames: usize,
+    pub others: usize,
+    pub shortfall: usize,
+    pub refusal: u8,
+}
+
+// What a writer answers.
+pub fn written_numbers(written: Written) -> AshlarWritten
+    ensures { λ r. ⌜ r ≡ writtenNumbers (writtenOf written) ⌝ }
+{
+    match written {
+        Written::Bytes(length) => AshlarWritten { length, refusal: 0 },
+        Written::Refused(refusal) => AshlarWritten {
+            length: 0,
+            refusal: numbers::number_of(refusal),
+        },
+    }
+}
+
+// What stands where there is no frame to give.
+fn no_frame() -> Frame
+    ensures { λ r. ⌜ r ≡ noFrame ⌝ }
+{
+    let sender = MacAddr {
+        b0: 0,
+        b1: 0,
+        b2: 0,
+        b3: 0,
+        b4: 0,
+        b5: 0,
+    };
+    let cmdu = CmduHeader {
+        message_version: 0,
+        reserved: 0,
+        message_type: 0,
+        message_id: 0,
+        fragment: 0,
+        flags: 0,
+        last_fragment: false,
+    };
+    Frame {
+        seconds: 0,
+        microseconds: 0,
+        sender,
+        cmdu,
+        offset: 0,
+        length: 0,
+    }
+}
+
+// An answer without a frame, and where the next step starts.
+fn without_frame(answer: u8, next: usize) -> AshlarReached
+    ensures { λ r. ⌜ r ≡ withoutFrame answer next ⌝ }
+{
+    AshlarReached {
+        frame: no_frame(),
+        next,
+        shortfall: 0,
+        answer,
+        refusal: 0,
+    }
+}
+
+// What a step goes over.
+pub fn reached_numbers(reached: Reached) -> AshlarReached
+    ensures { λ r. ⌜ r ≡ reachedNumbers (reachedOf reached) ⌝ }
+{
+    match reached {
+        Reached::FileEnd => without_frame(1, 0),
+        Reached::Ours { frame, next } => AshlarReached {
+            frame,
+            next,
+            shortfall: 0,
+            answer: 2,
+            refusal: 0,
+        },
+        Reached::Other { next } => without_frame(3, next),
+        Reached::Refused(refusal) => AshlarReached {
+            frame: no_frame(),
+            next: 0,
+            shortfall: numbers::carried_by(refusal),
+            answer: 0,
+            refusal: numbers::number_of(refusal),
+        },
+    }
+}
+
+// What the check of a capture answers, and the list of its frames.
+pub fn checked_numbers(checked: Checked) -> AshlarCapture
+    ensures { λ r. ⌜ r ≡ checkedNumbers (checkedOf checked) ⌝ }
+{
+    match checked {
+        Checked::Capture { frames, others } => AshlarCapture {
+            frames,
+            others,
+            shortfall: 0,
+            refusal: 0,
+        },
+        Checked::Refused(refusal) => AshlarCapture {
+            frames: 0,
+            others: 0,
+            shortfall: numbers::carried_by(refusal),
+            refusal: numbers::number_of(refusal),
+        },
+    }
+}
