@@ -8,6 +8,7 @@ use Rattle.ashlar.specs.Claims.{Firmness, Claims}
 firmness : Firmness
 firmness = record {
   ashlar-read-header = λ bytes. by-equation _;
+  ashlar-write-header = λ fields out. both _ _ (by-equation _) (by-equation _);
   ashlar-walk = λ payload. by-equation _;
   ashlar-walk-into = λ list payload. both _ _ (by-equation _) (by-equation _);
   ashlar-read-kind = λ code value. by-equation _;
@@ -31,6 +32,12 @@ firmness = record {
   ashlar-link-report-tx = λ value. by-equation _;
   ashlar-link-report-rx = λ value. by-equation _;
   ashlar-link-merge = λ one other. by-equation _;
+  ashlar-capture-header = λ out. both _ _ (by-equation _) (by-equation _);
+  ashlar-capture-frame = λ a payload out. both _ _ (by-equation _) (by-equation _);
+  ashlar-capture-check = λ file. by-equation _;
+  ashlar-capture-step = λ file at. by-equation _;
+  ashlar-capture-frames = λ list file. both _ _ (by-equation _) (by-equation _);
+  ashlar-capture-arrival = λ frame. by-equation _;
 }
 
 pub claims : Claims

@@ -6,7 +6,9 @@ use Prim.Native.Nat.{ℕ}
 use lib.ListN.{length}
 use Rattle.numbers.specs.Numbers.{mapped}
 use Rattle.numbers.specs.Firmness.{Firm}
-use Rattle.framing.specs.Cmdu.{readHeader}
+use Rattle.framing.specs.Tlv.{leaves}
+use Rattle.framing.specs.declared.CmduFields.{CmduFields}
+use Rattle.framing.specs.Cmdu.{readHeader, headerBytes, headerSize}
 use Rattle.walking.specs.declared.Tlv.{Tlv}
 use Rattle.walking.specs.Walk.{walkOf, counted, listed, filled}
 use Rattle.kinds.specs.Kinds.{readKind, locateTextIn}
@@ -37,11 +39,19 @@ use Rattle.links.specs.declared.LinkKind.the-variants.{Tx, Rx}
 use Rattle.links.specs.Reports.{reportOf}
 use Rattle.c_links.specs.declared.AshlarReport.{AshlarReport}
 use Rattle.c_links.specs.Numbers.{reportNumbers, mergedFrom}
+use Rattle.captures.specs.declared.Frame.{Frame}
+use Rattle.captures.specs.Writing.{ourHeader, fileHeaderSize, frameRecord, frameSize}
+use Rattle.captures.specs.Reading.{fileStep, captureIn, framesCounted, withRoom, framesLeft, arrivalOf}
+use Rattle.c_captures.specs.declared.AshlarWritten.{AshlarWritten}
+use Rattle.c_captures.specs.declared.AshlarCapture.{AshlarCapture}
+use Rattle.c_captures.specs.Numbers.{writtenNumbers, reachedNumbers, checkedNumbers}
 
 -- Rule A4: for each call, by its name, any two answers that its contract allows are one. What the call leaves in the
 -- list, the tables, the store and the output is part of the answer.
 pub record Firmness : Type 0 where
   pub ashlar-read-header : (bytes : List ℕ) → Firm (λ r. r ≡ headerNumbers (readHeader bytes))
+  pub ashlar-write-header : (fields : CmduFields) (out : List ℕ)
+      → Firm {A = AshlarWritten × List ℕ} (λ o. (o .0 ≡ writtenNumbers (headerSize (length out))) × (o .1 ≡ leaves (headerSize (length out)) (headerBytes fields) out))
   pub ashlar-walk : (payload : List ℕ) → Firm (λ r. r ≡ walkNumbers (counted (walkOf payload)))
   pub ashlar-walk-into : (list : List Tlv) (payload : List ℕ)
       → Firm {A = AshlarWalk × List Tlv} (λ o.
@@ -81,6 +91,19 @@ pub record Firmness : Type 0 where
   pub ashlar-link-report-tx : (value : List ℕ) → Firm (λ r. r ≡ reportNumbers (reportOf Tx value))
   pub ashlar-link-report-rx : (value : List ℕ) → Firm (λ r. r ≡ reportNumbers (reportOf Rx value))
   pub ashlar-link-merge : (one other : AshlarReport) → Firm (λ r. r ≡ reportNumbers (mergedFrom one other))
+  pub ashlar-capture-header : (out : List ℕ)
+      → Firm {A = AshlarWritten × List ℕ} (λ o. (o .0 ≡ writtenNumbers (fileHeaderSize (length out))) × (o .1 ≡ leaves (fileHeaderSize (length out)) ourHeader out))
+  pub ashlar-capture-frame : (a : Arrival) (payload out : List ℕ)
+      → Firm {A = AshlarWritten × List ℕ} (λ o.
+      (o .0 ≡ writtenNumbers (frameSize (a .time) (length payload) (length out)))
+      × (o .1 ≡ leaves (frameSize (a .time) (length payload) (length out)) (frameRecord a payload) out))
+  pub ashlar-capture-check : (file : List ℕ) → Firm (λ r. r ≡ checkedNumbers (framesCounted (captureIn file)))
+  pub ashlar-capture-step : (file : List ℕ) (at : ℕ) → Firm (λ r. r ≡ reachedNumbers (fileStep file at))
+  pub ashlar-capture-frames : (list : List Frame) (file : List ℕ)
+      → Firm {A = AshlarCapture × List Frame} (λ o.
+      (o .0 ≡ checkedNumbers (framesCounted (withRoom (length list) (captureIn file))))
+      × (o .1 ≡ framesLeft (withRoom (length list) (captureIn file)) list))
+  pub ashlar-capture-arrival : (frame : Frame) → Firm (λ r. r ≡ arrivalOf frame)
 
 -- everything that is claimed of this crate
 pub record Claims : Type 0 where

@@ -1,5 +1,5 @@
 // The hot calls for C (rule C1): each is a thin shell over the layer's own call. Its answer crosses in numbers, as
-// `c_answers`, `c_stations` or `c_links` says.
+// `c_answers`, `c_stations`, `c_links` or `c_captures` says.
 use c_answers::AshlarChecked;
 use c_answers::AshlarCutting;
 use c_answers::AshlarFound;
@@ -9,12 +9,17 @@ use c_answers::AshlarPart;
 use c_answers::AshlarPushed;
 use c_answers::AshlarShown;
 use c_answers::AshlarWalk;
+use c_captures::AshlarCapture;
+use c_captures::AshlarReached;
+use c_captures::AshlarWritten;
 use c_links::AshlarReport;
 use c_stations::AshlarApplied;
 use c_stations::AshlarAt;
 use c_stations::AshlarHeard;
 use c_stations::AshlarRow;
+use captures::Frame;
 use cutting::Proposed;
+use framing::CmduFields;
 use layouts::Path;
 use links::LinkKind;
 use pushing::Arrival;
@@ -26,7 +31,8 @@ ghost use mathlib.Core.Path.{_≡_};
 ghost use mathlib.Core.List.{[], _∷_};
 ghost use lib.ListN.{length};
 ghost use Rattle.numbers.specs.Numbers.{mapped};
-ghost use Rattle.framing.specs.Cmdu.{readHeader};
+ghost use Rattle.framing.specs.Tlv.{leaves};
+ghost use Rattle.framing.specs.Cmdu.{readHeader, headerBytes, headerSize};
 ghost use Rattle.walking.specs.Walk.{walkOf, counted, listed, filled};
 ghost use Rattle.kinds.specs.Kinds.{readKind, locateTextIn};
 ghost use Rattle.finding.specs.Finding.{findFrom};
@@ -44,9 +50,12 @@ ghost use Rattle.links.specs.declared.LinkKind.the-variants.{Tx, Rx};
 ghost use Rattle.links.specs.Reports.{reportOf};
 ghost use Rattle.cutting.specs.Cuts.{checkOf};
 ghost use Rattle.cutting.specs.Greedy.{cutInto, withEnds};
+ghost use Rattle.captures.specs.Writing.{ourHeader, fileHeaderSize, frameRecord, frameSize};
+ghost use Rattle.captures.specs.Reading.{fileStep, captureIn, framesCounted, withRoom, framesLeft, arrivalOf};
 ghost use Rattle.c_answers.specs.Numbers.{headerNumbers, walkNumbers, kindNumbers, foundNumbers, partNumbers, Numbered, shownIn, checkNumbers, cutNumbers};
 ghost use Rattle.c_stations.specs.Numbers.{associationWith, eventNumbers, appliedNumbers, whereNumbers, rowNumbers};
 ghost use Rattle.c_links.specs.Numbers.{reportNumbers, mergedFrom};
+ghost use Rattle.c_captures.specs.Numbers.{writtenNumbers, reachedNumbers, checkedNumbers};
 
 // The header of the CMDU at the start of the bytes (rule B6).
 #[no_mangle]
@@ -54,6 +63,15 @@ pub extern "C" fn ashlar_read_header(bytes: &[u8]) -> AshlarHeader
     ensures { λ r. ⌜ r ≡ headerNumbers (readHeader (now (bytes .entry))) ⌝ }
 {
     c_answers::header_numbers(framing::read_cmdu_header(bytes))
+}
+
+// Writes the header of a CMDU at the start of `out` (rule B7).
+#[no_mangle]
+pub extern "C" fn ashlar_write_header(fields: CmduFields, out: &mut [u8]) -> AshlarWritten
+    ensures answer { λ r. ⌜ r ≡ writtenNumbers (headerSize (length (now (out .entry)))) ⌝ }
+    ensures bytes { λ _. ⌜ now (out .exit) ≡ leaves (headerSize (length (now (out .entry)))) (headerBytes fields) (now (out .entry)) ⌝ }
+{
+    c_captures::written_numbers(framing::write_cmdu_header(fields, out))
 }
 
 // The TLVs of a payload up to its end marker, counted, and the length of the padding after them (rules W1 to W4).
@@ -271,4 +289,55 @@ pub extern "C" fn ashlar_link_merge(one: AshlarReport, other: AshlarReport) -> A
     ensures { λ r. ⌜ r ≡ reportNumbers (mergedFrom one other) ⌝ }
 {
     c_links::merge_numbers(one, other)
+}
+
+// Writes the file header of a capture at the start of `out` (rule G5).
+#[no_mangle]
+pub extern "C" fn ashlar_capture_header(out: &mut [u8]) -> AshlarWritten
+    ensures answer { λ r. ⌜ r ≡ writtenNumbers (fileHeaderSize (length (now (out .entry)))) ⌝ }
+    ensures bytes { λ _. ⌜ now (out .exit) ≡ leaves (fileHeaderSize (length (now (out .entry)))) ourHeader (now (out .entry)) ⌝ }
+{
+    c_captures::written_numbers(captures::write_file_header(out))
+}
+
+// Writes a fragment as a frame of a capture at the start of `out` (rule G5).
+#[no_mangle]
+pub extern "C" fn ashlar_capture_frame(a: Arrival, payload: &[u8], out: &mut [u8]) -> AshlarWritten
+    ensures answer { λ r. ⌜ r ≡ writtenNumbers (frameSize (a .time) (length (now (payload .entry))) (length (now (out .entry)))) ⌝ }
+    ensures bytes { λ _. ⌜ now (out .exit) ≡ leaves (frameSize (a .time) (length (now (payload .entry))) (length (now (out .entry)))) (frameRecord a (now (payload .entry))) (now (out .entry)) ⌝ }
+{
+    c_captures::written_numbers(captures::write_frame(a, payload, out))
+}
+
+// Checks a whole capture, and counts its frames (rule G6).
+#[no_mangle]
+pub extern "C" fn ashlar_capture_check(file: &[u8]) -> AshlarCapture
+    ensures { λ r. ⌜ r ≡ checkedNumbers (framesCounted (captureIn (now (file .entry)))) ⌝ }
+{
+    c_captures::checked_numbers(captures::check(file))
+}
+
+// Goes over the record at an offset of a capture (rule G7).
+#[no_mangle]
+pub extern "C" fn ashlar_capture_step(file: &[u8], at: usize) -> AshlarReached
+    ensures { λ r. ⌜ r ≡ reachedNumbers (fileStep (now (file .entry)) at) ⌝ }
+{
+    c_captures::reached_numbers(captures::step(file, at))
+}
+
+// Checks a whole capture, and lists its 1905 frames (rule G8). A refusal leaves the list as it was (rule A3).
+#[no_mangle]
+pub extern "C" fn ashlar_capture_frames(list: &mut [Frame], file: &[u8]) -> AshlarCapture
+    ensures { λ r. ⌜ (r ≡ checkedNumbers (framesCounted (withRoom (length (now (list .entry))) (captureIn (now (file .entry))))))
+        × (now (list .exit) ≡ framesLeft (withRoom (length (now (list .entry))) (captureIn (now (file .entry)))) (now (list .entry))) ⌝ }
+{
+    c_captures::checked_numbers(captures::frames_into(list, file))
+}
+
+// A frame as push takes it, but for its payload (rule G9).
+#[no_mangle]
+pub extern "C" fn ashlar_capture_arrival(frame: Frame) -> Arrival
+    ensures { λ r. ⌜ r ≡ arrivalOf frame ⌝ }
+{
+    captures::arrival_of(frame)
 }
