@@ -42,8 +42,7 @@ fn put(written: Written, out: &[u8], text: &mut Answers, used: usize) -> usize
 {
     match written {
         Written::Bytes(size) => {
-            let a = answer_lines::put_ok(text, used);
-            answer_lines::put_shown(text, a, b' ', command_lines::part(out, 0, size))
+            answer_lines::put_ok_shown(text, used, command_lines::part(out, 0, size))
         }
         Written::Refused(refusal) => answer_lines::put_refused(text, used, refusal),
     }

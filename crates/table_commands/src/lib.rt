@@ -48,7 +48,8 @@ fn fragment_in(line: &[u8]) -> Fragment
     }
 }
 
-fn arrival_in(line: &[u8]) -> Arrival
+// What arrives with a line of p, or of F (crate capture_commands): all of a push but its payload.
+pub fn arrival_in(line: &[u8]) -> Arrival
     ensures { λ r. ⌜ r .fragment .number < 256 ⌝ }
 {
     Arrival {
@@ -56,6 +57,17 @@ fn arrival_in(line: &[u8]) -> Arrival
         time: command_lines::number_in(line, 7),
         fragment: fragment_in(line),
     }
+}
+
+// A fragment by number, version, type and last mark, and its payload.
+pub fn put_fragment(f: Fragment, payload: &[u8], text: &mut Answers, used: usize) -> usize
+    ensures { λ r. ⌜ r ≤ 65536 ⌝ }
+{
+    let a = answer_lines::put_next(text, used, f.number as u64);
+    let b = answer_lines::put_after(text, a, b':', f.version as u64);
+    let c = answer_lines::put_after(text, b, b':', f.message_type as u64);
+    let d = answer_lines::put_after(text, c, b':', f.last as u64);
+    answer_lines::put_shown(text, d, b':', payload)
 }
 
 // Which of the words below stands for an answer.
