@@ -53,7 +53,11 @@ fn field_of_bytes(letter: u8) -> usize {
     if 0 < of_links {
         return of_links;
     }
-    cutting_commands::field_of_bytes(letter)
+    let of_cutting = cutting_commands::field_of_bytes(letter);
+    if 0 < of_cutting {
+        return of_cutting;
+    }
+    capture_commands::field_of_bytes(letter)
 }
 
 // Answers one line that is not about the fragment table, and returns where the text then ends. A letter that no command
@@ -81,6 +85,9 @@ fn answer(
     }
     if 0 < cutting_commands::field_of_bytes(letter) {
         return cutting_commands::answer(line, bytes, text, used);
+    }
+    if 0 < capture_commands::field_of_bytes(letter) {
+        return capture_commands::answer(line, bytes, out, text, used);
     }
     answer_lines::put(text, used, b"bad")
 }
