@@ -1,0 +1,3 @@
+pub mod SameCalls
+pub mod SameTable
+pub mod Claims
