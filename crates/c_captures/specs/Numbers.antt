@@ -1,12 +1,10 @@
 -- Rule C5: what is written and read of captures (part G), in the numbers that cross to C. `refusal` is the refusal's
 -- number of part N, and 0 where nothing is refused. A field that a refusal doesn't carry is 0. A frame crosses as it is.
-use mathlib.Core.Bool.{false}
 use Prim.Native.Nat.{ℕ}
 use lib.ListN.{getD}
 use Rattle.numbers.specs.Numbers.{Answer, gives, refuses}
 use Rattle.walking.specs.Steps.{Ahead, ended, passed, last}
-use Rattle.captures.specs.declared.Frame.{Frame}
-use Rattle.captures.specs.Reading.{Captured, ours, other, FrameCount}
+use Rattle.captures.specs.Reading.{noFrame, Captured, ours, other, FrameCount}
 use Rattle.c_captures.specs.declared.AshlarWritten.{AshlarWritten}
 use Rattle.c_captures.specs.declared.AshlarReached.{AshlarReached}
 use Rattle.c_captures.specs.declared.AshlarCapture.{AshlarCapture}
@@ -15,25 +13,6 @@ use Rattle.c_captures.specs.declared.AshlarCapture.{AshlarCapture}
 abbrev pub writtenNumbers : Answer ℕ → AshlarWritten
 writtenNumbers (gives n) = record { length = n; refusal = 0 }
 writtenNumbers (refuses n vs) = record { length = 0; refusal = n }
-
--- what stands where there is no frame to give
-abbrev pub noFrame : Frame
-noFrame = record {
-  seconds = 0;
-  microseconds = 0;
-  sender = record { b0 = 0; b1 = 0; b2 = 0; b3 = 0; b4 = 0; b5 = 0 };
-  cmdu = record {
-    «message_version» = 0;
-    reserved = 0;
-    «message_type» = 0;
-    «message_id» = 0;
-    fragment = 0;
-    flags = 0;
-    «last_fragment» = false;
-  };
-  offset = 0;
-  length = 0;
-}
 
 -- Rule G7: what a step goes over. The end is 1, a 1905 frame 2, another 3, and a refusal 0.
 abbrev pub withoutFrame : (answer next : ℕ) → AshlarReached

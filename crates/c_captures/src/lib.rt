@@ -1,15 +1,13 @@
 // What the calls about captures answer (part G), as it crosses to C (rule C5): plain structs, in numbers. A frame crosses
 // as it is.
-use captures::Checked;
+use captures::FileChecked;
 use captures::Frame;
 use captures::Reached;
-use framing::CmduHeader;
 use framing::Written;
-use records::MacAddr;
 ghost use mathlib.Core.Path.{_≡_};
 ghost use Rattle.framing.specs.Tlv.{writtenOf};
-ghost use Rattle.captures.specs.Reading.{reachedOf, checkedOf};
-ghost use Rattle.c_captures.specs.Numbers.{writtenNumbers, noFrame, withoutFrame, reachedNumbers, checkedNumbers};
+ghost use Rattle.captures.specs.Reading.{reachedOf, fileCheckedOf};
+ghost use Rattle.c_captures.specs.Numbers.{writtenNumbers, withoutFrame, reachedNumbers, checkedNumbers};
 
 // How many bytes were written (rules B7 and G5).
 #[repr(C)]
@@ -51,43 +49,12 @@ pub fn written_numbers(written: Written) -> AshlarWritten
     }
 }
 
-// What stands where there is no frame to give.
-fn no_frame() -> Frame
-    ensures { λ r. ⌜ r ≡ noFrame ⌝ }
-{
-    let sender = MacAddr {
-        b0: 0,
-        b1: 0,
-        b2: 0,
-        b3: 0,
-        b4: 0,
-        b5: 0,
-    };
-    let cmdu = CmduHeader {
-        message_version: 0,
-        reserved: 0,
-        message_type: 0,
-        message_id: 0,
-        fragment: 0,
-        flags: 0,
-        last_fragment: false,
-    };
-    Frame {
-        seconds: 0,
-        microseconds: 0,
-        sender,
-        cmdu,
-        offset: 0,
-        length: 0,
-    }
-}
-
 // An answer without a frame, and where the next step starts.
 fn without_frame(answer: u8, next: usize) -> AshlarReached
     ensures { λ r. ⌜ r ≡ withoutFrame answer next ⌝ }
 {
     AshlarReached {
-        frame: no_frame(),
+        frame: captures::no_frame(),
         next,
         shortfall: 0,
         answer,
@@ -110,7 +77,7 @@ pub fn reached_numbers(reached: Reached) -> AshlarReached
         },
         Reached::Other { next } => without_frame(3, next),
         Reached::Refused(refusal) => AshlarReached {
-            frame: no_frame(),
+            frame: captures::no_frame(),
             next: 0,
             shortfall: numbers::carried_by(refusal),
             answer: 0,
@@ -120,17 +87,17 @@ pub fn reached_numbers(reached: Reached) -> AshlarReached
 }
 
 // What the check of a capture answers, and the list of its frames.
-pub fn checked_numbers(checked: Checked) -> AshlarCapture
-    ensures { λ r. ⌜ r ≡ checkedNumbers (checkedOf checked) ⌝ }
+pub fn checked_numbers(checked: FileChecked) -> AshlarCapture
+    ensures { λ r. ⌜ r ≡ checkedNumbers (fileCheckedOf checked) ⌝ }
 {
     match checked {
-        Checked::Capture { frames, others } => AshlarCapture {
+        FileChecked::Capture { frames, others } => AshlarCapture {
             frames,
             others,
             shortfall: 0,
             refusal: 0,
         },
-        Checked::Refused(refusal) => AshlarCapture {
+        FileChecked::Refused(refusal) => AshlarCapture {
             frames: 0,
             others: 0,
             shortfall: numbers::carried_by(refusal),

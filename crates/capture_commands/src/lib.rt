@@ -2,7 +2,7 @@
 mod listing;
 
 use answer_lines::Answers;
-use captures::Checked;
+use captures::FileChecked;
 use captures::Frame;
 use framing::Written;
 use pushing::Fragment;
@@ -96,13 +96,13 @@ fn put_capture(file: &[u8], room: usize, text: &mut Answers, used: usize) -> usi
     let list = listed.frames;
     let checked = listed.checked;
     match checked {
-        Checked::Capture { frames, others } => {
+        FileChecked::Capture { frames, others } => {
             let a = answer_lines::put_ok(text, used);
             let b = answer_lines::put_next(text, a, frames as u64);
             let c = answer_lines::put_next(text, b, others as u64);
             put_frames(file, list, frames, text, c)
         }
-        Checked::Refused(refusal) => answer_lines::put_refused(text, used, refusal),
+        FileChecked::Refused(refusal) => answer_lines::put_refused(text, used, refusal),
     }
 }
 

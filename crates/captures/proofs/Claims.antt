@@ -8,7 +8,7 @@ use Rattle.numbers.proofs.Firm.{by-equation, by-telling, both}
 use Rattle.framing.specs.Tlv.{writtenOf, leaves}
 use Rattle.framing.proofs.Firm.{written-one}
 use Rattle.captures.specs.Writing.{ourHeader, fileHeaderSize, frameRecord, frameSize}
-use Rattle.captures.specs.Reading.{fileStep, reachedOf, captureIn, checkedOf, framesCounted, withRoom, framesLeft, payloadIn, payloadFrom, arrivalOf}
+use Rattle.captures.specs.Reading.{fileStep, reachedOf, captureIn, fileCheckedOf, framesCounted, withRoom, framesLeft, framePayload, payloadFrom, arrivalOf}
 use Rattle.captures.specs.Claims.{Firmness, Claims}
 use Rattle.captures.proofs.Accepted.{no-other}
 use Rattle.captures.proofs.Faults.{no-late-fault}
@@ -21,10 +21,11 @@ firmness : Firmness
 firmness = record {
   write-file-header = λ out. both _ _ (by-telling writtenOf written-one (fileHeaderSize (length out))) (by-equation (leaves (fileHeaderSize (length out)) ourHeader out));
   write-frame = λ a payload out. both _ _ (by-telling writtenOf written-one (frameSize (a .time) (length payload) (length out))) (by-equation (leaves (frameSize (a .time) (length payload) (length out)) (frameRecord a payload) out));
+  no-frame = by-equation _;
   step = λ file at. by-telling reachedOf reached-one (fileStep file at);
-  check = λ file. by-telling checkedOf checked-one (framesCounted (captureIn file));
-  frames-into = λ list file. both _ _ (by-telling checkedOf checked-one (framesCounted (withRoom (length list) (captureIn file)))) (by-equation (framesLeft (withRoom (length list) (captureIn file)) list));
-  payload = λ file frame. both _ _ (by-equation (payloadIn (now file) frame)) (by-equation (behind (payloadFrom (now file) frame) file));
+  check = λ file. by-telling fileCheckedOf checked-one (framesCounted (captureIn file));
+  frames-into = λ list file. both _ _ (by-telling fileCheckedOf checked-one (framesCounted (withRoom (length list) (captureIn file)))) (by-equation (framesLeft (withRoom (length list) (captureIn file)) list));
+  payload = λ file frame. both _ _ (by-equation (framePayload (now file) frame)) (by-equation (behind (payloadFrom (now file) frame) file));
   arrival-of = λ frame. by-equation (arrivalOf frame);
 }
 

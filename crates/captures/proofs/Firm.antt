@@ -5,11 +5,11 @@ use native.Mathlib.Omega.{arith}
 use Rattle.numbers.proofs.Answers.{given}
 use Rattle.numbers.proofs.Firm.{firm, never}
 use Rattle.walking.specs.Steps.{Ahead}
-use Rattle.captures.specs.Reading.{Captured, reachedOf, FrameCount, checkedOf}
+use Rattle.captures.specs.Reading.{Captured, reachedOf, FrameCount, fileCheckedOf}
 use Rattle.captures.specs.declared.Reached.{Reached}
 use Rattle.captures.specs.declared.Reached.the-variants as Reached
-use Rattle.captures.specs.declared.Checked.{Checked}
-use Rattle.captures.specs.declared.Checked.the-variants as Checked
+use Rattle.captures.specs.declared.FileChecked.{FileChecked}
+use Rattle.captures.specs.declared.FileChecked.the-variants as FileChecked
 
 pub reached-one : (a b : Reached) → reachedOf a ≡ reachedOf b → a ≡ b
 reached-one Reached.FileEnd Reached.FileEnd e = refl
@@ -32,12 +32,12 @@ reached-one (Reached.Other n) (Reached.Refused r) e = never _ _ _ e
 reached-one (Reached.Refused r) (Reached.Other n) e = never _ _ _ (sym e)
 reached-one (Reached.Refused r) (Reached.Refused r′) e = ap Reached.Refused (firm (Ahead Captured) r r′ e)
 
-pub checked-one : (a b : Checked) → checkedOf a ≡ checkedOf b → a ≡ b
-checked-one (Checked.Capture n k) (Checked.Capture n′ k′) e =
+pub checked-one : (a b : FileChecked) → fileCheckedOf a ≡ fileCheckedOf b → a ≡ b
+checked-one (FileChecked.Capture n k) (FileChecked.Capture n′ k′) e =
     let o = given _ _ e in
     let i : n ≡ n′ = ap (λ (c : FrameCount). c .handed) o in
     let j : k ≡ k′ = ap (λ (c : FrameCount). c .passed-over) o in
     rw (i, j)
-checked-one (Checked.Capture n k) (Checked.Refused r) e = never _ _ _ e
-checked-one (Checked.Refused r) (Checked.Capture n k) e = never _ _ _ (sym e)
-checked-one (Checked.Refused r) (Checked.Refused r′) e = ap Checked.Refused (firm FrameCount r r′ e)
+checked-one (FileChecked.Capture n k) (FileChecked.Refused r) e = never _ _ _ e
+checked-one (FileChecked.Refused r) (FileChecked.Capture n k) e = never _ _ _ (sym e)
+checked-one (FileChecked.Refused r) (FileChecked.Refused r′) e = ap FileChecked.Refused (firm FrameCount r r′ e)

@@ -19,7 +19,7 @@ use Rattle.records.specs.Values.{addressAt}
 use Rattle.walking.proofs.Stepping.{whole-rest}
 use Rattle.captures.specs.Form.{Stored, etherType, is1905}
 use Rattle.captures.specs.declared.Frame.{Frame}
-use Rattle.captures.specs.Reading.{ours, other, capturedAt, payloadIn, payloadFrom}
+use Rattle.captures.specs.Reading.{ours, other, capturedAt, framePayload, payloadFrom}
 
 module _ (frame : List ℕ) where
   pub short : length frame < 22 → false ≡ is1905 frame
@@ -57,10 +57,10 @@ module _ (at : ℕ) (r : Stored) where
 
 -- the part that holds a payload, its bytes and where it starts
 module _ (s : List ℕ) (f : Frame) where
-  pub outside : length s < f .offset + f .length → ([] ≡ payloadIn s f) × (0 ≡ payloadFrom s f)
+  pub outside : length s < f .offset + f .length → ([] ≡ framePayload s f) × (0 ≡ payloadFrom s f)
   outside h = let e = lt-leb (f .offset + f .length) (length s) h in (rw e, rw e)
 
-  pub inside : f .offset + f .length ≤ length s → (take (f .offset + f .length - f .offset) (drop (f .offset) s) ≡ payloadIn s f) × (f .offset ≡ payloadFrom s f)
+  pub inside : f .offset + f .length ≤ length s → (take (f .offset + f .length - f .offset) (drop (f .offset) s) ≡ framePayload s f) × (f .offset ≡ payloadFrom s f)
   inside h =
       let e = le-leb (f .offset + f .length) (length s) h in
       let size : f .offset + f .length - f .offset ≡ f .length = omega arith in

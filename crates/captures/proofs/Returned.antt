@@ -11,7 +11,7 @@ use Rattle.machines.specs.Machine.{those}
 use Rattle.records.specs.Values.{addressAt}
 use Rattle.captures.specs.declared.Frame.{Frame}
 use Rattle.captures.specs.Form.{Unread, Stored, recordBytes, fileHeader, fileBytes, is1905}
-use Rattle.captures.specs.Reading.{framesIn, othersIn, payloadIn}
+use Rattle.captures.specs.Reading.{framesIn, othersIn, framePayload}
 use Rattle.captures.specs.HandedBack.{Seen, seenOf, seenIn}
 use Rattle.captures.specs.Claims.{Each, Storable, HandsBack}
 use Rattle.captures.proofs.Frames.{long}
@@ -29,7 +29,7 @@ module _ (o : Bool) (before rest : List ℕ) (at : ℕ) (l : length before ≡ a
   handed-so =
       let h = long (r .frame) is in
       let inside = le-leb (at + 38 + (length (r .frame) - 22)) (length s) (omega (arith, size o before rest at l r fits)) in
-      let part : payloadIn s handed ≡ drop 22 (r .frame) = rw inside (payload-there o before rest at l r fits h) in
+      let part : framePayload s handed ≡ drop 22 (r .frame) = rw inside (payload-there o before rest at l r fits h) in
       ap (λ (p : List ℕ). record { seconds = r .seconds; microseconds = r .microseconds; sender = addressAt (r .frame) 6; cmdu = headerIn (drop 14 (r .frame)); payload = p }) part
 
 -- the test of a record

@@ -16,10 +16,10 @@ use Rattle.machines.specs.Machine.{those}
 use Rattle.table.specs.Rows.{placeSize}
 use Rattle.pushing.specs.declared.Arrival.{Arrival}
 use Rattle.captures.specs.declared.Frame.{Frame}
-use Rattle.captures.specs.declared.Checked.{Checked}
+use Rattle.captures.specs.declared.FileChecked.{FileChecked}
 use Rattle.captures.specs.Form.{Unread, Stored, fileBytes, secondsIn, microsecondsIn, millisecondsOf, is1905}
 use Rattle.captures.specs.Writing.{ourHeader, fileHeaderSize, frameRecord, frameSize}
-use Rattle.captures.specs.Reading.{Captured, fileStep, reachedOf, Capture, captureIn, checkedOf, framesCounted, withRoom, framesLeft, payloadIn, payloadFrom, arrivalOf}
+use Rattle.captures.specs.Reading.{noFrame, Captured, fileStep, reachedOf, Capture, captureIn, fileCheckedOf, framesCounted, withRoom, framesLeft, framePayload, payloadFrom, arrivalOf}
 use Rattle.captures.specs.HandedBack.{seenOf, seenIn, Arrived, fileOf, arrivedIn}
 
 -- Rule A4, for each public call by its name: any two outcomes that its contract allows are one.
@@ -29,14 +29,15 @@ pub record Firmness : Type 0 where
       → Firm {A = Written × List ℕ} (λ o. (writtenOf (o .0) ≡ fileHeaderSize (length out)) × (o .1 ≡ leaves (fileHeaderSize (length out)) ourHeader out))
   pub write-frame : (a : Arrival) (payload out : List ℕ)
       → Firm {A = Written × List ℕ} (λ o. (writtenOf (o .0) ≡ frameSize (a .time) (length payload) (length out)) × (o .1 ≡ leaves (frameSize (a .time) (length payload) (length out)) (frameRecord a payload) out))
+  pub no-frame : Firm (λ r. r ≡ noFrame)
   pub step : (file : List ℕ) (at : ℕ) → Firm (λ r. reachedOf r ≡ fileStep file at)
-  pub check : (file : List ℕ) → Firm (λ r. checkedOf r ≡ framesCounted (captureIn file))
+  pub check : (file : List ℕ) → Firm (λ r. fileCheckedOf r ≡ framesCounted (captureIn file))
   -- the answer, and what the list holds
   pub frames-into : (list : List Frame) (file : List ℕ)
-      → Firm {A = Checked × List Frame} (λ o. (checkedOf (o .0) ≡ framesCounted (withRoom (length list) (captureIn file))) × (o .1 ≡ framesLeft (withRoom (length list) (captureIn file)) list))
+      → Firm {A = FileChecked × List Frame} (λ o. (fileCheckedOf (o .0) ≡ framesCounted (withRoom (length list) (captureIn file))) × (o .1 ≡ framesLeft (withRoom (length list) (captureIn file)) list))
   -- the part's bytes, and where it lies
   pub payload : (file : RefT (List ℕ)) (frame : Frame)
-      → Firm {A = List ℕ × (ℕ × ℕ)} (λ o. (o .0 ≡ payloadIn (now file) frame) × (o .1 ≡ behind (payloadFrom (now file) frame) file))
+      → Firm {A = List ℕ × (ℕ × ℕ)} (λ o. (o .0 ≡ framePayload (now file) frame) × (o .1 ≡ behind (payloadFrom (now file) frame) file))
   pub arrival-of : (frame : Frame) → Firm {A = Arrival} (λ r. r ≡ arrivalOf frame)
 
 -- Rule G3: milliseconds are stored without loss.
@@ -56,8 +57,8 @@ pub record Storable (r : Stored) : Type 0 where
 
 -- Rule G10: a capture reads the same in either byte order, whatever its zone, accuracy and snap length. The frames
 -- are as they are in both: the orders differ in the numbers of the file's own alone.
-abbrev pub EitherOrder : Type 0
-EitherOrder = (u v : Unread) (rs : List Stored) → Each Storable rs → captureIn (fileBytes true u rs) ≡ captureIn (fileBytes false v rs)
+abbrev pub EitherByteOrder : Type 0
+EitherByteOrder = (u v : Unread) (rs : List Stored) → Each Storable rs → captureIn (fileBytes true u rs) ≡ captureIn (fileBytes false v rs)
 
 -- Rule G10: of the records of a file, exactly the 1905 frames are handed back, in their order, and the others are
 -- counted.
@@ -109,7 +110,7 @@ NoLateFault = (s : List ℕ) (capture : Capture) → captureIn s ≡ gives captu
 pub record Claims : Type 0 where
   pub firmness : Firmness
   pub time-kept : TimeKept
-  pub either-order : EitherOrder
+  pub either-order : EitherByteOrder
   pub form-read : FormRead
   pub pushes-back : (ps : List Arrived) → Each Writable ps → PushesBack ps
   pub no-late-fault : NoLateFault

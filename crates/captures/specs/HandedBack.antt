@@ -10,7 +10,7 @@ use Rattle.pushing.specs.declared.Arrival.{Arrival}
 use Rattle.captures.specs.declared.Frame.{Frame}
 use Rattle.captures.specs.Form.{Stored}
 use Rattle.captures.specs.Writing.{ourHeader, frameRecord}
-use Rattle.captures.specs.Reading.{payloadIn, arrivalOf}
+use Rattle.captures.specs.Reading.{framePayload, arrivalOf}
 
 -- what a frame says, with the bytes of its payload
 pub record Seen : Type 0 where
@@ -37,7 +37,7 @@ seenIn s f = record {
   microseconds = f .microseconds;
   sender = f .sender;
   cmdu = f .cmdu;
-  payload = payloadIn s f;
+  payload = framePayload s f;
 }
 
 -- what push takes: a fragment without its payload, and the payload
@@ -51,4 +51,4 @@ fileOf ps = ourHeader ++ flatten (map (λ p. frameRecord (p .arrival) (p .payloa
 
 -- Rule G9: a frame that is handed back, as it is pushed
 abbrev pub arrivedIn : List ℕ → Frame → Arrived
-arrivedIn s f = record { arrival = arrivalOf f; payload = payloadIn s f }
+arrivedIn s f = record { arrival = arrivalOf f; payload = framePayload s f }

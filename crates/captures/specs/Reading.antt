@@ -14,8 +14,8 @@ use Rattle.captures.specs.Form.{fieldAt, magic, major, minor, linkType, 
 use Rattle.captures.specs.declared.Frame.{Frame}
 use Rattle.captures.specs.declared.Reached.{Reached}
 use Rattle.captures.specs.declared.Reached.the-variants as Reached
-use Rattle.captures.specs.declared.Checked.{Checked}
-use Rattle.captures.specs.declared.Checked.the-variants as Checked
+use Rattle.captures.specs.declared.FileChecked.{FileChecked}
+use Rattle.captures.specs.declared.FileChecked.the-variants as FileChecked
 
 -- Rules G1 and G6: the byte order of a file, by its magic; true is the highest byte first. Another magic: 22.
 abbrev pub orderBy : List ℕ → Answer Bool
@@ -35,6 +35,25 @@ unfoldable pub fileOrder : List ℕ → Answer Bool
 fileOrder s =
     cond (ltb (length s) 24) (refuses 2 ((24 - length s) ∷ []))
     (andThen (orderBy s) (λ highFirst. cond (isOurs highFirst s) (gives highFirst) (refuses 22 [])))
+
+-- what stands where there is no frame to give
+abbrev pub noFrame : Frame
+noFrame = record {
+  seconds = 0;
+  microseconds = 0;
+  sender = record { b0 = 0; b1 = 0; b2 = 0; b3 = 0; b4 = 0; b5 = 0 };
+  cmdu = record {
+    «message_version» = 0;
+    reserved = 0;
+    «message_type» = 0;
+    «message_id» = 0;
+    fragment = 0;
+    flags = 0;
+    «last_fragment» = false;
+  };
+  offset = 0;
+  length = 0;
+}
 
 -- Rule G7: what a step goes over, a 1905 frame or another, which is passed over.
 pub data Captured : Type 0 where
@@ -121,9 +140,9 @@ pub record FrameCount : Type 0 where
   pub handed : ℕ
   pub passed-over : ℕ
 
-abbrev pub checkedOf : Checked → Answer FrameCount
-checkedOf (Checked.Capture n k) = gives (record { handed = n; passed-over = k })
-checkedOf (Checked.Refused r) = told r
+abbrev pub fileCheckedOf : FileChecked → Answer FrameCount
+fileCheckedOf (FileChecked.Capture n k) = gives (record { handed = n; passed-over = k })
+fileCheckedOf (FileChecked.Refused r) = told r
 
 abbrev pub framesCounted : Answer Capture → Answer FrameCount
 framesCounted = mapped (λ c. record { handed = length (c .frames); passed-over = c .others })
@@ -142,8 +161,8 @@ framesLeft (refuses n vs) list = list
 abbrev pub isInside : List ℕ → Frame → Bool
 isInside s f = leb (f .offset + f .length) (length s)
 
-abbrev pub payloadIn : List ℕ → Frame → List ℕ
-payloadIn s f = cond (isInside s f) (take (f .length) (drop (f .offset) s)) []
+abbrev pub framePayload : List ℕ → Frame → List ℕ
+framePayload s f = cond (isInside s f) (take (f .length) (drop (f .offset) s)) []
 
 abbrev pub payloadFrom : List ℕ → Frame → ℕ
 payloadFrom s f = cond (isInside s f) (f .offset) 0

@@ -17,7 +17,7 @@ ghost use lib.ListN.{length};
 ghost use Rattle.numbers.specs.Parts.{behind};
 ghost use Rattle.framing.specs.Tlv.{writtenOf, leaves};
 ghost use Rattle.captures.specs.Writing.{ourHeader, fileHeaderSize, frameRecord, frameSize};
-ghost use Rattle.captures.specs.Reading.{reachedOf, fileStep, checkedOf, framesCounted, captureIn, withRoom, framesLeft, payloadIn, payloadFrom, arrivalOf};
+ghost use Rattle.captures.specs.Reading.{noFrame, reachedOf, fileStep, fileCheckedOf, framesCounted, captureIn, withRoom, framesLeft, framePayload, payloadFrom, arrivalOf};
 ghost use Rattle.captures.specs.PrivateReading.{Hands, FramePlan};
 
 // The first number of seconds that doesn't fit four bytes (rule G5).
@@ -45,7 +45,7 @@ pub enum Reached {
 }
 
 // What a capture holds (rule G6): how many 1905 frames, and how many others, which are passed over.
-pub enum Checked {
+pub enum FileChecked {
     Capture { frames: usize, others: usize },
     Refused(Refusal),
 }
@@ -97,8 +97,8 @@ pub fn step(file: &[u8], at: usize) -> Reached
 }
 
 // Checks a whole capture, and counts its frames (rule G6). Where this refuses nothing, no step from 24 on does.
-pub fn check(file: &[u8]) -> Checked
-    ensures { λ r. ⌜ checkedOf r ≡ framesCounted (captureIn (now (file .entry))) ⌝ }
+pub fn check(file: &[u8]) -> FileChecked
+    ensures { λ r. ⌜ fileCheckedOf r ≡ framesCounted (captureIn (now (file .entry))) ⌝ }
 {
     let mut at = 24;
     let mut frames = 0;
@@ -106,7 +106,7 @@ pub fn check(file: &[u8]) -> Checked
     loop {
         match step(file, at) {
             Reached::FileEnd => {
-                return Checked::Capture { frames, others };
+                return FileChecked::Capture { frames, others };
             }
             Reached::Ours { frame: _, next } => {
                 at = next;
@@ -117,7 +117,7 @@ pub fn check(file: &[u8]) -> Checked
                 others += 1;
             }
             Reached::Refused(refusal) => {
-                return Checked::Refused(refusal);
+                return FileChecked::Refused(refusal);
             }
         }
     }
@@ -129,8 +129,10 @@ struct Handed {
     next: usize,
 }
 
-// What stands for a frame where there is none.
-fn no_frame() -> Frame {
+// What stands where there is no frame to give.
+pub fn no_frame() -> Frame
+    ensures { λ r. ⌜ r ≡ noFrame ⌝ }
+{
     Frame {
         seconds: 0,
         microseconds: 0,
@@ -188,24 +190,24 @@ fn next_frame(file: &[u8], from: usize) -> Handed
 // What is answered with a list of `room` elements, and how many elements are filled (rule G8).
 struct Planned {
     count: usize,
-    answer: Checked,
+    answer: FileChecked,
 }
 
 fn plan(file: &[u8], room: usize) -> Planned
-    ensures { λ r. ⌜ FramePlan (now (file .entry)) room (r .count) (checkedOf (r .answer)) ⌝ }
+    ensures { λ r. ⌜ FramePlan (now (file .entry)) room (r .count) (fileCheckedOf (r .answer)) ⌝ }
 {
     match check(file) {
-        Checked::Capture { frames, others } => {
+        FileChecked::Capture { frames, others } => {
             if room < frames {
-                let answer = Checked::Refused(Refusal::ListTooShort);
+                let answer = FileChecked::Refused(Refusal::ListTooShort);
                 return Planned { count: 0, answer };
             }
             let count = frames;
-            let answer = Checked::Capture { frames, others };
+            let answer = FileChecked::Capture { frames, others };
             Planned { count, answer }
         }
-        Checked::Refused(refusal) => {
-            let answer = Checked::Refused(refusal);
+        FileChecked::Refused(refusal) => {
+            let answer = FileChecked::Refused(refusal);
             Planned { count: 0, answer }
         }
     }
@@ -213,8 +215,8 @@ fn plan(file: &[u8], room: usize) -> Planned
 
 // Checks a whole capture, and lists its 1905 frames (rule G8). Nothing is listed before the whole file has been
 // checked, so that a fault in its last record leaves the list as it was (rule A3).
-pub fn frames_into(list: &mut [Frame], file: &[u8]) -> Checked
-    ensures { λ r. ⌜ (checkedOf r ≡ framesCounted (withRoom (length (now (list .entry))) (captureIn (now (file .entry)))))
+pub fn frames_into(list: &mut [Frame], file: &[u8]) -> FileChecked
+    ensures { λ r. ⌜ (fileCheckedOf r ≡ framesCounted (withRoom (length (now (list .entry))) (captureIn (now (file .entry)))))
         × (now (list .exit) ≡ framesLeft (withRoom (length (now (list .entry))) (captureIn (now (file .entry)))) (now (list .entry))) ⌝ }
 {
     let planned = plan(file, list.len());
@@ -232,7 +234,7 @@ pub fn frames_into(list: &mut [Frame], file: &[u8]) -> Checked
 
 // The payload of a frame, as a part of the file that the frame was read from (rule G9).
 pub fn payload(file: &[u8], frame: Frame) -> &[u8]
-    ensures bytes { λ r. ⌜ now r ≡ payloadIn (now (file .entry)) frame ⌝ }
+    ensures bytes { λ r. ⌜ now r ≡ framePayload (now (file .entry)) frame ⌝ }
     ensures place { λ r. ⌜ r .ptr ≡ behind (payloadFrom (now (file .entry)) frame) (file .entry) ⌝ }
 {
     let start = frame.offset;

@@ -38,11 +38,11 @@ use denote.Triple.Table.{entered, cited}
 use denote.Triple.Walked.{says, Stays, gave-slice, stay-dropped, walkOf, goes-gave-slice, goes-dropped, Walks, ends-at, walked, walk-meets}
 use denote.Exit.{yes}
 use Rattle.captures.specs.declared.Frame.{Frame}
-use Rattle.captures.specs.declared.Checked.{Checked}
-use Rattle.captures.specs.Reading.{checkedOf, captureIn, framesCounted, withRoom, framesLeft}
+use Rattle.captures.specs.declared.FileChecked.{FileChecked}
+use Rattle.captures.specs.Reading.{fileCheckedOf, captureIn, framesCounted, withRoom, framesLeft}
 use Rattle.captures.proofs.Frame as T
-use Rattle.captures.proofs.Checked as S
-use Rattle.captures.proofs.Checked.Laws as S′
+use Rattle.captures.proofs.FileChecked as S
+use Rattle.captures.proofs.FileChecked.Laws as S′
 use Rattle.captures.proofs.frames_into as callee
 use Rattle.captures.proofs.frames_into.Symbol as callee-def
 use Rattle.captures.proofs.frames_into.Symbol.{name as #callee}
@@ -109,21 +109,21 @@ module _ {M : Type 1} (𝓤 : URA M) (H : Heap 𝓤) (A : Atoms 𝓤) (W : Given
   handed : ent 𝓤 (onEntry 𝓤 H A f.signature κs (q, (q′, tt)) x at) (Callee 𝓤 H A mem run .pre to)
   handed = qed W ((‵ (flft κ q) ⊛ (‵ (flft κ′ q′) ⊛ ‵ ftrue)) ∷ ‵ (owns (MutSlice (named 0) κ R ∷ ShrSlice (named 1) κ′ u8 ∷ []) x at) ∷ []) ∵ join ! $ frame ! $ done !
 
-  abbrev Says : Checked → List Frame → Type 0
-  Says r zs = (checkedOf r ≡ framesCounted (withRoom m (captureIn (now pay)))) × (zs ≡ framesLeft (withRoom m (captureIn (now pay))) ys)
+  abbrev Says : FileChecked → List Frame → Type 0
+  Says r zs = (fileCheckedOf r ≡ framesCounted (withRoom m (captureIn (now pay)))) × (zs ≡ framesLeft (withRoom m (captureIn (now pay))) ys)
 
   -- the call of `checked_numbers` at an answer r
-  module _ (r : Checked) (u : Val) where
+  module _ (r : FileChecked) (u : Val) where
     abbrev to-num : Num 𝓤 H A mem run .Ghost
     to-num = ((tt, tt, tt, (r, tt), (u ∷ [], tt)), tt)
 
     handed-on : Is S.the-row r (u ∷ []) → ent 𝓤 (⋆ 𝓤 H A []) (Num 𝓤 H A mem run .pre to-num)
     handed-on is = qed W [] ∵ nothing ! $ owned ! S.the-row (Is S.the-row) (EL.makes S.the-type S′.the-plain 𝓤 H A) r _ is $ fjoin ! $ nothing ! $ join ! $ frame ! $ done !
 
-  abbrev InNumbers : Checked → AshlarCapture → Type 0
-  InNumbers r z = z ≡ checkedNumbers (checkedOf r)
+  abbrev InNumbers : FileChecked → AshlarCapture → Type 0
+  InNumbers r z = z ≡ checkedNumbers (fileCheckedOf r)
 
-  exits : (r : Checked) (z : AshlarCapture) (w : Val) (zs : List Frame) → length zs ≡ m → Says r zs → InNumbers r z
+  exits : (r : FileChecked) (z : AshlarCapture) (w : Val) (zs : List Frame) → length zs ≡ m → Says r zs → InNumbers r z
       → ent 𝓤 (⋆ 𝓤 H A ((‵ (flft κ q) ⊛ (‵ (flft κ′ q′) ⊛ ‵ ftrue)) ∷ ‵ (finally R γ zs) ∷ ‵ (N.the-row .own z (w ∷ [])) ∷ [])) (Post w)
   exits r z w zs long e e′ =
       qed W ((‵ (flft κ q) ⊛ (‵ (flft κ′ q′) ⊛ ‵ ftrue)) ∷ ‵ (finally R γ zs) ∷ ‵ (N.the-row .own z (w ∷ [])) ∷ []) ∵
@@ -142,7 +142,7 @@ module _ {M : Type 1} (𝓤 : URA M) (H : Heap 𝓤) (A : Atoms 𝓤) (W : Given
         move ! (12 ∷ 13 ∷ []) $ use2 W (raw (Callee 𝓤 H A mem run .pre to)) handed $
         -- [pre; _5 (1); …; _0 (11); …]
         calls-at ! fm (Callee 𝓤 H A mem run) known to (and-then ! (load ! (from ! (stop !)) (look ! 1 refl)) (and-then ! (load ! (from ! (stop !)) (look ! 7 refl)) (no-more !))) (λ u.
-        use1 W (later (some (λ (r : Checked). ((‵ (flft κ q) ⊛ (‵ (flft κ′ q′) ⊛ ‵ ftrue)) ⊛ ‵ (S.the-row .own r (u ∷ []))) ⊛ raw (ensured 𝓤 H A callee.ended (callee.clauses 𝓤 H A mem run) κs x tt r)))) (id⊢ 𝓤 _) $ await ! tt $ pick ! (λ r.
+        use1 W (later (some (λ (r : FileChecked). ((‵ (flft κ q) ⊛ (‵ (flft κ′ q′) ⊛ ‵ ftrue)) ⊛ ‵ (S.the-row .own r (u ∷ []))) ⊛ raw (ensured 𝓤 H A callee.ended (callee.clauses 𝓤 H A mem run) κs x tt r)))) (id⊢ 𝓤 _) $ await ! tt $ pick ! (λ r.
         split ! $ move ! (1 ∷ []) $ use1 W (some (λ (ws : List Frame × (Unit {0} × Unit {0})). ‵ (lasts callee.ended κs x ws) ⊛ raw (fact 𝓤 (Says r (ws .0))))) (id⊢ 𝓤 _) $ pick ! (λ ws.
         split ! $ move ! (1 ∷ []) $ heard ! (Says r (ws .0)) (λ e. fsplit ! $ fsplit ! $ move ! (1 ∷ []) $ feqL ! (λ long.
         move ! (2 ∷ []) $ split ! $ move ! (1 ∷ []) $ peeks ! S.the-row (Is S.the-row) (shows 𝓤 H A S.the-row) r (u ∷ []) (λ is.

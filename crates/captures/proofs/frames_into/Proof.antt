@@ -53,7 +53,7 @@ use Rattle.walking.proofs.Body.{tyOf, after}
 use Rattle.captures.specs.declared.Frame.{Frame}
 use Rattle.captures.specs.declared.Handed.{Handed}
 use Rattle.captures.specs.declared.Planned.{Planned}
-use Rattle.captures.specs.Reading.{checkedOf}
+use Rattle.captures.specs.Reading.{fileCheckedOf}
 use Rattle.captures.specs.PrivateReading.{Hands, FramePlan}
 use Rattle.captures.proofs.Frame as T
 use Rattle.captures.proofs.Frame.Laws as T′
@@ -61,8 +61,8 @@ use Rattle.captures.proofs.Handed as Q
 use Rattle.captures.proofs.Handed.Laws as Q′
 use Rattle.captures.proofs.Planned as P
 use Rattle.captures.proofs.Planned.Laws as P′
-use Rattle.captures.proofs.Checked as S
-use Rattle.captures.proofs.Checked.Laws as S′
+use Rattle.captures.proofs.FileChecked as S
+use Rattle.captures.proofs.FileChecked.Laws as S′
 use Rattle.captures.proofs.Elem.{R, mach, vals, tells, makes, scaled}
 use Rattle.captures.proofs.Handing.{Filled, begins, goes-over, ends}
 use Rattle.captures.proofs.Planning.{fits, few, holds}
@@ -151,7 +151,7 @@ module _ {M : Type 1} (𝓤 : URA M) (H : Heap 𝓤) (A : Atoms 𝓤) (W : Given
 
     -- what they say of their answers
     abbrev Made : Planned → Type 0
-    Made r = FramePlan (now file) n (r .count) (checkedOf (r .answer))
+    Made r = FramePlan (now file) n (r .count) (fileCheckedOf (r .answer))
 
     said-plan : (r : Planned) → ent 𝓤 (ensured 𝓤 H A plan.ended (plan.clauses 𝓤 H A mem run) (κ′, tt) (file, (n, tt)) tt r) (fact 𝓤 (Made r))
     said-plan r = exE 𝓤 _ (λ ws. snd∗ 𝓤 (sem 𝓤 H A (lasts plan.ended (κ′, tt) (file, (n, tt)) ws)) (fact 𝓤 (Made r)))
@@ -177,7 +177,7 @@ module _ {M : Type 1} (𝓤 : URA M) (H : Heap 𝓤) (A : Atoms 𝓤) (W : Given
     FilledTo = Filled (now file) n ys
 
     room : n ≤ m
-    room = fits (now file) m n (checkedOf (r .answer)) made
+    room = fits (now file) m n (fileCheckedOf (r .answer)) made
 
     abbrev Kept : List Frame → List (Item 𝓤)
     Kept zs = ‵ (Obs zs) ∷ ‵ (Bor zs) ∷ ‵ (flft κ q) ∷ ‵ (flft κ′ q′) ∷ ‵ File ∷ []
@@ -186,7 +186,7 @@ module _ {M : Type 1} (𝓤 : URA M) (H : Heap 𝓤) (A : Atoms 𝓤) (W : Given
     exits i to zs g le =
         qed W (Kept zs) ∵
         suffices ! _ (ends-at 𝓤 H A f.ended stayed (f.clauses 𝓤 H A mem run) W ((κs, (q, (q′, tt)), tt, x, at), tt) (EL.val S.the-type S′.the-laws (r .answer)) (r .answer) (zs, (tt, tt)) (g .so-far .long, (tt, tt))) $
-        says ! (made .answered, ends (now file) n ys i to zs g le ∙ holds (now file) m n (checkedOf (r .answer)) made ys) $
+        says ! (made .answered, ends (now file) n ys i to zs g le ∙ holds (now file) m n (fileCheckedOf (r .answer)) made ys) $
         nothing ! $ move ! (4 ∷ 0 ∷ []) $ join ! $ move ! (3 ∷ 0 ∷ []) $ join ! $
         -- [the tokens; obs; the borrow; file]
         nothing ! $ move ! (4 ∷ 0 ∷ []) $ fjoin ! $
@@ -261,7 +261,7 @@ module _ {M : Type 1} (𝓤 : URA M) (H : Heap 𝓤) (A : Atoms 𝓤) (W : Given
         assigns-last ! (bin ! (load ! (from ! (stop !)) (look ! 6 refl)) (lit ! tt) (record { fits = gj })) (from ! (stop !)) (store ! 6 refl (tt, record { fits = gj })) $
         forget ! 8 refl $ forget ! 9 refl $ forget ! 10 refl $ forget ! 11 refl $
         keep ! (6 ∷ 7 ∷ 8 ∷ 9 ∷ 10 ∷ 11 ∷ 12 ∷ 13 ∷ 14 ∷ 15 ∷ 16 ∷ 17 ∷ 0 ∷ 1 ∷ 2 ∷ 3 ∷ 5 ∷ 18 ∷ 19 ∷ 20 ∷ 21 ∷ 22 ∷ 23 ∷ 24 ∷ 25 ∷ 26 ∷ 27 ∷ 28 ∷ 29 ∷ []) $
-        use1 W (given (Facts (i + 1, (d .next, set zs i t))) (‵ (fat fullShare (ty 6) l₆ 0 (vint w64 (i + 1))))) (guardI 𝓤 (Facts (i + 1, (d .next, set zs i t))) _ (goes-over (now file) n ys i to zs (f .0) (few (now file) m n (checkedOf (r .answer)) made) room l t (d .next) e, has .1 .0 .1)) $
+        use1 W (given (Facts (i + 1, (d .next, set zs i t))) (‵ (fat fullShare (ty 6) l₆ 0 (vint w64 (i + 1))))) (guardI 𝓤 (Facts (i + 1, (d .next, set zs i t))) _ (goes-over (now file) n ys i to zs (f .0) (few (now file) m n (fileCheckedOf (r .answer)) made) room l t (d .next) e, has .1 .0 .1)) $
         again ! ≺ I (i, (to, zs)) (i + 1, (d .next, set zs i t)) (omega arith)))))))
         (λ ge. jumps ! $ exec ! C Λ E mir.t-7 (atRet E Post) $
         assigns ! (of-opd ! (load ! (from ! (fld ! refl (stop !))) (look-in ! 7 (sub ! 1 refl (whole !))))) (from ! (stop !)) (init ! 11 refl (EL.lawful S.the-type S′.the-laws 𝓤 H A W tt .typed (r .answer) _ ga .0)) $

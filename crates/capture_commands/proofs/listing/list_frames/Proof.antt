@@ -54,14 +54,14 @@ use denote.Triple.Table.{entered, cited}
 use denote.Triple.Walked.{says, needs, Stays, stay-dropped, walkOf, goes-dropped, Walks, ends-at, walked, walk-meets}
 use denote.Exit.{yes}
 use Rattle.captures.specs.declared.Frame.{Frame}
-use Rattle.captures.specs.declared.Checked.{Checked}
-use Rattle.captures.specs.Reading.{checkedOf, captureIn, framesCounted, withRoom, framesLeft}
+use Rattle.captures.specs.declared.FileChecked.{FileChecked}
+use Rattle.captures.specs.Reading.{fileCheckedOf, captureIn, framesCounted, withRoom, framesLeft}
 use Rattle.captures.proofs.Frame as T
 use Rattle.captures.proofs.Frame.Laws as T′
 use Rattle.captures.proofs.Elem.{R, vals, tells}
 use Rattle.walking.proofs.Body.{tyOf}
-use Rattle.captures.proofs.Checked as S
-use Rattle.captures.proofs.Checked.Laws as S′
+use Rattle.captures.proofs.FileChecked as S
+use Rattle.captures.proofs.FileChecked.Laws as S′
 use Rattle.captures.proofs.frames_into as callee
 use Rattle.captures.proofs.frames_into.Symbol as callee-def
 use Rattle.captures.proofs.frames_into.Symbol.{name as #callee}
@@ -102,7 +102,7 @@ front-long : (room : ℕ) (ys : List Frame) → room ≤ 40 → length ys ≡ 40
 front-long room ys h long = length-take room ys ∙ omega (arith, long)
 
 -- the answer, and that it is spelled by its two fields
-abbrev answer : List Frame → Checked → ListedFrames
+abbrev answer : List Frame → FileChecked → ListedFrames
 answer zs r = record { frames = zs; checked = r }
 
 abbrev lval : ListedFrames → Val
@@ -144,10 +144,10 @@ module _ {M : Type 1} (𝓤 : URA M) (H : Heap 𝓤) (A : Atoms 𝓤) (W : Given
   File = ShrSlice (named 0) κ u8 .own file (sf ∷ [])
 
   -- what the call says
-  abbrev Said : Checked → List Frame → Type 0
-  Said r zs = (checkedOf r ≡ framesCounted (withRoom (length front) (captureIn (now file)))) × (zs ≡ framesLeft (withRoom (length front) (captureIn (now file))) front)
+  abbrev Said : FileChecked → List Frame → Type 0
+  Said r zs = (fileCheckedOf r ≡ framesCounted (withRoom (length front) (captureIn (now file)))) × (zs ≡ framesLeft (withRoom (length front) (captureIn (now file))) front)
 
-  exits : (zs : List Frame) (r : Checked) → length front ≡ room → Is L.the-row (answer (zs ++ back) r) (lval (answer (zs ++ back) r) ∷ []) → Said r zs
+  exits : (zs : List Frame) (r : FileChecked) → length front ≡ room → Is L.the-row (answer (zs ++ back) r) (lval (answer (zs ++ back) r) ∷ []) → Said r zs
       → ent 𝓤 (⋆ 𝓤 H A ((‵ (flft κ q) ⊛ ‵ ftrue) ∷ [])) (Post (lval (answer (zs ++ back) r)))
   exits zs r long g e =
       qed W ((‵ (flft κ q) ⊛ ‵ ftrue) ∷ []) ∵
@@ -206,7 +206,7 @@ module _ {M : Type 1} (𝓤 : URA M) (H : Heap 𝓤) (A : Atoms 𝓤) (W : Given
         move ! (2 ∷ 4 ∷ 0 ∷ 5 ∷ []) $ join ! $ use3 W (raw (Callee 𝓤 H A mem run .pre (to l₄ α γ))) (asked l₄ α γ) $
         -- [pre; the lender's part; the others; _8; …]
         calls-at ! fm (Callee 𝓤 H A mem run) known (to l₄ α γ) (and-then ! (load ! (from ! (stop !)) (look ! 5 refl)) (and-then ! (load ! (from ! (stop !)) (look ! 12 refl)) (no-more !))) (λ u.
-        use1 W (later (some (λ (r : Checked). ((‵ (flft (α ∷ []) fullShare) ⊛ (‵ (flft κ q) ⊛ ‵ ftrue)) ⊛ ‵ (S.the-row .own r (u ∷ []))) ⊛ raw (ensured 𝓤 H A callee.ended (callee.clauses 𝓤 H A mem run) (κs-callee l₄ α γ) (list l₄ α γ, (file, tt)) tt r)))) (id⊢ 𝓤 _) $ await ! tt $ pick ! (λ r.
+        use1 W (later (some (λ (r : FileChecked). ((‵ (flft (α ∷ []) fullShare) ⊛ (‵ (flft κ q) ⊛ ‵ ftrue)) ⊛ ‵ (S.the-row .own r (u ∷ []))) ⊛ raw (ensured 𝓤 H A callee.ended (callee.clauses 𝓤 H A mem run) (κs-callee l₄ α γ) (list l₄ α γ, (file, tt)) tt r)))) (id⊢ 𝓤 _) $ await ! tt $ pick ! (λ r.
         split ! $ move ! (1 ∷ []) $ use1 W (some (λ (ws : List Frame × (Unit {0} × Unit {0})). ‵ (lasts callee.ended (κs-callee l₄ α γ) (list l₄ α γ, (file, tt)) ws) ⊛ raw (fact 𝓤 (Said r (ws .0))))) (id⊢ 𝓤 _) $ pick ! (λ ws.
         let zs : List Frame = ws .0 in
         split ! $ move ! (1 ∷ []) $ heard ! (Said r zs) (λ e. fsplit ! $ fsplit ! $ move ! (1 ∷ []) $ feqL ! (λ _. move ! (2 ∷ []) $ split ! $ split ! $
