@@ -5,6 +5,7 @@
 #include "../include/ashlar.h"
 
 __typeof__(ashlar_read_header) plain_read_header;
+__typeof__(ashlar_write_header) plain_write_header;
 __typeof__(ashlar_walk) plain_walk;
 __typeof__(ashlar_walk_into) plain_walk_into;
 __typeof__(ashlar_read_kind) plain_read_kind;
@@ -27,6 +28,12 @@ __typeof__(ashlar_station_row) plain_station_row;
 __typeof__(ashlar_link_report_tx) plain_link_report_tx;
 __typeof__(ashlar_link_report_rx) plain_link_report_rx;
 __typeof__(ashlar_link_merge) plain_link_merge;
+__typeof__(ashlar_capture_header) plain_capture_header;
+__typeof__(ashlar_capture_frame) plain_capture_frame;
+__typeof__(ashlar_capture_check) plain_capture_check;
+__typeof__(ashlar_capture_step) plain_capture_step;
+__typeof__(ashlar_capture_frames) plain_capture_frames;
+__typeof__(ashlar_capture_arrival) plain_capture_arrival;
 
 #ifdef PLAIN
 #define CALL(name) plain_##name

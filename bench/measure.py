@@ -57,6 +57,11 @@ ROWS = [
     ("Check of 13,428 bytes, 36 TLVs in 9 fragments", "check-36", None, None, None),
     ("A report over 1,024 pairs of kind 10", "report-1024", 3, None, None),
     ("Two reports of 512 pairs made into one", "merge", 2, None, None),
+    ("A CMDU header written", "write-header", 3, None, None),
+    ("A frame of a capture written, 46 bytes of payload", "frame-46", 3, None, None),
+    ("the same, 1,492 bytes", "frame-1492", 3, None, None),
+    ("A capture of 100 frames checked", "capture-check", 3, None, None),
+    ("the same into a list", "capture-list", 3, None, None),
 ]
 # no payload is copied in these
 UNCOPIED = ("url-1400", "join-known", "join-new", "leave-stale", "where-none")
@@ -217,8 +222,8 @@ A row is counted only if all programs give the same answer.
   byte. A call of the station table may take 1,500; the station is the one that is found last. A check of fragments
   has no bar: ours compares them with the message byte by byte, plain C by its library's memcmp.
 - Some rows have no original: it reads a header only together with what follows it, it cuts and replaces texts, it
-  copies every fragment where it cuts a message, and it has neither a station table nor link reports. Its find returns
-  the value itself; ours and plain C say where it lies, so their turns copy it out.
+  copies every fragment where it cuts a message, and it has neither a station table nor link reports nor captures. Its
+  find returns the value itself; ours and plain C say where it lies, so their turns copy it out.
 
 | Work | Plain C | Original | Ours | to plain C | to the original | Bar | |
 |---|---:|---:|---:|---:|---:|---|---|

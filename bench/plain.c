@@ -536,3 +536,126 @@ AshlarReport plain_link_merge(AshlarReport a, AshlarReport b) {
     bool second = !a.has_lowest || (b.has_lowest && b.lowest < a.lowest);
     return (AshlarReport){a.errors + b.errors, a.packets + b.packets, a.sum + b.sum, (uint16_t)(a.count + b.count), a.kind, second ? b.lowest : a.lowest, a.has_lowest || b.has_lowest, 0};
 }
+
+static AshlarWritten written(size_t size) { return (AshlarWritten){size, 0}; }
+
+static AshlarWritten unwritten(uint8_t number) { return (AshlarWritten){0, number}; }
+
+static uint8_t *put_two(uint8_t *at, uint16_t n) {
+    at[0] = (uint8_t)(n >> 8), at[1] = (uint8_t)n;
+    return at + 2;
+}
+
+/* the eight bytes of a CMDU header */
+static uint8_t *put_cmdu(uint8_t *at, uint8_t version, uint16_t type, uint16_t id, uint8_t number, bool last) {
+    at[0] = version, at[1] = 0;
+    put_two(put_two(at + 2, type), id);
+    at[6] = number, at[7] = last ? 0x80 : 0;
+    return at + 8;
+}
+
+AshlarWritten plain_write_header(AshlarFields f, uint8_t *out, size_t room) {
+    if (room < 8) return unwritten(7);
+    put_cmdu(out, f.version, f.message_type, f.message_id, f.number, f.last);
+    return written(8);
+}
+
+static uint8_t *put_little(uint8_t *at, uint32_t n) {
+    for (int i = 0; i < 4; i++) at[i] = (uint8_t)(n >> 8 * i);
+    return at + 4;
+}
+
+AshlarWritten plain_capture_header(uint8_t *out, size_t room) {
+    static const uint8_t header[24] = {0xD4, 0xC3, 0xB2, 0xA1, 2, 0, 4, 0, [16] = 0xFF, 0xFF, [20] = 1};
+    if (room < sizeof header) return unwritten(7);
+    memcpy(out, header, sizeof header);
+    return written(sizeof header);
+}
+
+AshlarWritten plain_capture_frame(AshlarArrival a, const uint8_t *payload, size_t n, uint8_t *out, size_t room) {
+    static const uint8_t multicast[6] = {0x01, 0x80, 0xC2, 0, 0, 0x13};
+    if (n > ASHLAR_PAYLOAD) return unwritten(12);
+    if (a.time / 1000 >> 32) return unwritten(23);
+    if (room < 38 + n) return unwritten(7);
+    uint8_t *at = put_little(put_little(out, (uint32_t)(a.time / 1000)), (uint32_t)(a.time % 1000 * 1000));
+    at = put_little(put_little(at, (uint32_t)(22 + n)), (uint32_t)(22 + n));
+    memcpy(at, multicast, 6);
+    for (int i = 0; i < 6; i++) at[6 + i] = (uint8_t)(a.key >> (56 - 8 * i));
+    at = put_two(at + 12, 0x893A);
+    at = put_cmdu(at, a.fragment.version, a.fragment.message_type, (uint16_t)a.key, a.fragment.number, a.fragment.last);
+    memcpy(at, payload, n);
+    return written(38 + n);
+}
+
+/* a number of the file's own */
+static uint32_t own(const uint8_t *at, bool high_first) {
+    uint32_t n;
+    memcpy(&n, at, 4);
+    return high_first ? __builtin_bswap32(n) : n;
+}
+
+/* what refuses the file header, 0 where nothing does, and its byte order */
+static uint8_t order(const uint8_t *file, size_t n, bool *high_first) {
+    static const uint8_t high[8] = {0xA1, 0xB2, 0xC3, 0xD4, 0, 2, 0, 4}, low[8] = {0xD4, 0xC3, 0xB2, 0xA1, 2, 0, 4, 0};
+    if (n < 24) return 2;
+    *high_first = !memcmp(file, high, 8);
+    if (!*high_first && memcmp(file, low, 8)) return 22;
+    return own(file + 20, *high_first) == 1 ? 0 : 22;
+}
+
+static AshlarReached no_record(uint8_t number, size_t shortfall) { return (AshlarReached){.shortfall = shortfall, .refusal = number}; }
+
+static AshlarReached record(const uint8_t *file, size_t n, size_t at, bool high_first) {
+    if (n <= at) return (AshlarReached){.answer = ASHLAR_FILE_END};
+    const uint8_t *r = file + at, *f = r + 16;
+    if (n - at < 16) return no_record(2, 16 - (n - at));
+    uint32_t stored = own(r + 8, high_first);
+    if (stored != own(r + 12, high_first)) return no_record(23, 0);
+    if (n - at - 16 < stored) return no_record(2, stored - (n - at - 16));
+    AshlarReached reached = {.next = at + 16 + stored, .answer = ASHLAR_OTHER_FRAME};
+    if (stored < 22 || f[12] != 0x89 || f[13] != 0x3A) return reached;
+    reached.answer = ASHLAR_1905_FRAME;
+    reached.frame.seconds = own(r, high_first), reached.frame.microseconds = own(r + 4, high_first);
+    memcpy(&reached.frame.sender, f + 6, 6);
+    reached.frame.cmdu = (AshlarCmdu){f[14], f[15], (uint16_t)(f[16] << 8 | f[17]), (uint16_t)(f[18] << 8 | f[19]), f[20], f[21], f[21] & 0x80};
+    reached.frame.offset = at + 38, reached.frame.length = stored - 22;
+    return reached;
+}
+
+AshlarReached plain_capture_step(const uint8_t *file, size_t n, size_t at) {
+    bool high_first;
+    uint8_t number = order(file, n, &high_first);
+    return number ? no_record(number, number == 2 ? 24 - n : 0) : record(file, n, at, high_first);
+}
+
+/* One pass checks, and one fills, where there is a list. */
+static AshlarCapture capture(AshlarFrame *list, const uint8_t *file, size_t n) {
+    AshlarCapture c = {0};
+    bool high_first;
+    c.refusal = order(file, n, &high_first);
+    if (c.refusal) return (AshlarCapture){.shortfall = c.refusal == 2 ? 24 - n : 0, .refusal = c.refusal};
+    for (size_t at = 24; at < n;) {
+        AshlarReached r = record(file, n, at, high_first);
+        if (r.refusal) return (AshlarCapture){.shortfall = r.shortfall, .refusal = r.refusal};
+        if (r.answer == ASHLAR_OTHER_FRAME) c.others++;
+        else if (list) list[c.frames++] = r.frame;
+        else c.frames++;
+        at = r.next;
+    }
+    return c;
+}
+
+AshlarCapture plain_capture_check(const uint8_t *file, size_t n) { return capture(NULL, file, n); }
+
+AshlarCapture plain_capture_frames(AshlarFrame *list, size_t room, const uint8_t *file, size_t n) {
+    AshlarCapture c = capture(NULL, file, n);
+    if (c.refusal) return c;
+    if (room < c.frames) return (AshlarCapture){.refusal = 14};
+    return capture(list, file, n);
+}
+
+AshlarArrival plain_capture_arrival(AshlarFrame f) {
+    uint64_t key = 0;
+    for (int i = 0; i < 6; i++) key = key << 8 | f.sender.bytes[i];
+    return (AshlarArrival){key << 16 | f.cmdu.message_id, f.seconds * 1000ull + f.microseconds / 1000, {f.cmdu.message_type, f.cmdu.version, f.cmdu.number, f.cmdu.last}};
+}

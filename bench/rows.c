@@ -233,6 +233,44 @@ static void check(int turns) {
     printf("%d %d\n", c.accepted, c.refusal);
 }
 
+/* a CMDU header, a frame of so many bytes of payload, and a capture of such frames, checked and listed */
+static uint8_t capture[ASHLAR_FILE_HEADER + 100 * (ASHLAR_FRAME + 46)];
+static AshlarFrame frames[100];
+
+static void write_header(int turns) {
+    AshlarWritten w = {0};
+    AshlarFields f = {0, 2, 0x1234, 1, true};
+    for (int i = 0; i < turns; i++) w = CALL(write_header)(f, out, sizeof out);
+    printf("%zu, %d, %lu\n", w.length, w.refusal, sum(out, 8));
+}
+
+static void write_frame(int turns, size_t n) {
+    AshlarWritten w = {0};
+    for (int i = 0; i < turns; i++) w = CALL(capture_frame)(piece(5, 1, true), payload, n, out, sizeof out);
+    printf("%zu, %d, %lu\n", w.length, w.refusal, sum(out, w.length));
+}
+
+static size_t captured(void) {
+    size_t end = CALL(capture_header)(capture, sizeof capture).length;
+    for (int i = 0; i < 100; i++) end += CALL(capture_frame)(piece(i, 1, i % 2), payload, 46, capture + end, sizeof capture - end).length;
+    return end;
+}
+
+static void check_capture(int turns) {
+    AshlarCapture c = {0};
+    size_t end = captured();
+    for (int i = 0; i < turns; i++) c = CALL(capture_check)(capture, end);
+    printf("%zu %zu, %d\n", c.frames, c.others, c.refusal);
+}
+
+static void list_capture(int turns) {
+    AshlarCapture c = {0};
+    size_t end = captured(), all = 0;
+    for (int i = 0; i < turns; i++) c = CALL(capture_frames)(frames, 100, capture, end);
+    for (int i = 0; i < 100; i++) all += frames[i].offset * frames[i].cmdu.message_id + frames[i].length;
+    printf("%zu %zu, %d, %zu\n", c.frames, c.others, c.refusal, all);
+}
+
 int main(int argc, char **argv) {
     if (argc < 3) return 2;
     const char *row = argv[1];
@@ -269,6 +307,11 @@ int main(int argc, char **argv) {
     else if (!strcmp(row, "check-36")) tlvs(36, 1, 370, 370), check(turns);
     else if (!strcmp(row, "report-1024")) pairs(1024), link_report(turns);
     else if (!strcmp(row, "merge")) pairs(1024), link_merge(turns);
+    else if (!strcmp(row, "write-header")) write_header(turns);
+    else if (!strcmp(row, "frame-46")) write_frame(turns, 46);
+    else if (!strcmp(row, "frame-1492")) write_frame(turns, 1492);
+    else if (!strcmp(row, "capture-check")) check_capture(turns);
+    else if (!strcmp(row, "capture-list")) list_capture(turns);
     else return 2;
     return 0;
 }

@@ -45,6 +45,20 @@ static void headings(void) {
     check("ashlar_read_header: with as many bytes more as were missing it reads", good);
 }
 
+static void written_headings(void) {
+    uint8_t room[9];
+    AshlarFields f = {.version = 0x11, .message_type = 0x3344, .message_id = 0x5566, .number = 0x77, .last = true};
+    memset(room, 0xEE, sizeof room);
+    AshlarWritten w = ashlar_write_header(f, room, ASHLAR_CMDU_HEADER - 1);
+    check("ashlar_write_header: 7, and the room stays", w.refusal == ASHLAR_NO_ROOM && w.length == 0 && room[0] == 0xEE && room[6] == 0xEE);
+    refusals |= 1u << w.refusal;
+    w = ashlar_write_header(f, room, 9);
+    check("ashlar_write_header: eight bytes", w.refusal == ASHLAR_OK && w.length == ASHLAR_CMDU_HEADER);
+    check("AshlarFields: each where it is read, the reserved byte and the other flags 0", !memcmp(room, (uint8_t[]){0x11, 0, 0x33, 0x44, 0x55, 0x66, 0x77, 0x80, 0xEE}, 9));
+    f.last = false;
+    check("AshlarFields: last", ashlar_write_header(f, room, 8).length == 8 && room[7] == 0);
+}
+
 /* ---- Walking ---- */
 
 /* TLVs at 0, 5 and 8, the last with a length of two bytes, and one that begins at 267 and lacks its nine bytes */
@@ -698,10 +712,102 @@ static void merges(void) {
     check("ashlar_link_merge: the highest totals, and a refusal that isn't looked at", (r.refusal = ASHLAR_OK, same_report(most, r)));
 }
 
+/* ---- Captures ---- */
+
+static uint8_t capture[ASHLAR_FILE_HEADER + 3 * (ASHLAR_FRAME + ASHLAR_PAYLOAD)];
+
+static const AshlarArrival arrived = {0x0A0B0C0D0E0F1234, 1700000000123, {0x5678, 0x9A, 0xBC, true}};
+
+/* a file header, and so many frames of the same fragment */
+static size_t captured(size_t frames, size_t n) {
+    size_t size = ashlar_capture_header(capture, sizeof capture).length;
+    for (size_t i = 0; i < frames; i++) size += ashlar_capture_frame(arrived, payload, n, capture + size, sizeof capture - size).length;
+    return size;
+}
+
+static void unwritten(const char *name, AshlarWritten w, uint8_t refusal) {
+    refusals |= 1u << w.refusal;
+    check(name, w.length == 0 && w.refusal == refusal && capture[0] == 0xEE && capture[45] == 0xEE);
+}
+
+static void written_captures(void) {
+    static const uint8_t header[24] = {0xD4, 0xC3, 0xB2, 0xA1, 2, 0, 4, 0, [16] = 0xFF, 0xFF, [20] = 1};
+    static const uint8_t frame[45] = {0x00, 0xF1, 0x53, 0x65, 0x78, 0xE0, 0x01, 0x00, 0x1D, 0, 0, 0, 0x1D, 0, 0, 0, 0x01, 0x80, 0xC2, 0, 0, 0x13, 0x0A, 0x0B, 0x0C, 0x0D, 0x0E, 0x0F, 0x89, 0x3A,
+                                      0x9A, 0, 0x56, 0x78, 0x12, 0x34, 0xBC, 0x80, 1, 2, 3, 4, 5, 6, 7};
+    memset(capture, 0xEE, sizeof capture);
+    unwritten("ashlar_capture_header: 7, and the room stays", ashlar_capture_header(capture, ASHLAR_FILE_HEADER - 1), ASHLAR_NO_ROOM);
+    unwritten("ashlar_capture_frame: 7, and the room stays", ashlar_capture_frame(arrived, payload, 7, capture, ASHLAR_FRAME + 6), ASHLAR_NO_ROOM);
+    AshlarArrival late = arrived;
+    late.time = 4294967296000;
+    unwritten("ashlar_capture_frame: 23 before 7", ashlar_capture_frame(late, payload, 7, capture, 0), ASHLAR_BAD_FRAME);
+    unwritten("ashlar_capture_frame: 12 before 23", ashlar_capture_frame(late, payload, ASHLAR_PAYLOAD + 1, capture, 0), ASHLAR_PAYLOAD_TOO_LONG);
+    AshlarWritten w = ashlar_capture_header(capture, sizeof capture);
+    check("ashlar_capture_header: 24 bytes, and no other", w.refusal == ASHLAR_OK && w.length == 24 && !memcmp(capture, header, 24) && capture[24] == 0xEE);
+    w = ashlar_capture_frame(arrived, payload, 7, capture, sizeof capture);
+    check("ashlar_capture_frame: the bytes of a frame, and no other", w.refusal == ASHLAR_OK && w.length == 45 && !memcmp(capture, frame, 45) && capture[45] == 0xEE);
+    late.time--;
+    w = ashlar_capture_frame(late, payload, ASHLAR_PAYLOAD, capture, ASHLAR_FRAME + ASHLAR_PAYLOAD);
+    check("ashlar_capture_frame: the latest time, and the longest payload", w.refusal == ASHLAR_OK && w.length == ASHLAR_FRAME + ASHLAR_PAYLOAD && !memcmp(capture, "\xFF\xFF\xFF\xFF\x58\x3E\x0F", 8));
+}
+
+static bool is_pushed(AshlarFrame f, size_t offset) {
+    bool times = f.seconds == 1700000000 && f.microseconds == 123000;
+    bool sender = !memcmp(f.sender.bytes, "\x0A\x0B\x0C\x0D\x0E\x0F", 6);
+    bool fields = f.cmdu.version == 0x9A && f.cmdu.reserved == 0 && f.cmdu.message_type == 0x5678 && f.cmdu.message_id == 0x1234 && f.cmdu.number == 0xBC;
+    return times && sender && fields && f.cmdu.flags == 0x80 && f.cmdu.last && f.offset == offset && f.length == 7;
+}
+
+static bool is_no_frame(AshlarFrame f) {
+    static const AshlarFrame none;
+    AshlarCmdu c = f.cmdu;
+    return !(f.seconds || f.microseconds || f.offset || f.length || c.version || c.reserved || c.message_type || c.message_id || c.number || c.flags || c.last) && !memcmp(&f.sender, &none.sender, 6);
+}
+
+static void refused_capture(const char *name, AshlarCapture c, size_t shortfall, uint8_t refusal) {
+    refusals |= 1u << c.refusal;
+    check(name, c.frames == 0 && c.others == 0 && c.shortfall == shortfall && c.refusal == refusal);
+}
+
+static void read_captures(void) {
+    AshlarFrame list[4];
+    size_t size = captured(3, 7), second = ASHLAR_FILE_HEADER + 45, third = second + 45;
+    capture[second + 28] ^= 1; /* another EtherType */
+    AshlarCapture c = ashlar_capture_check(capture, size);
+    check("ashlar_capture_check: frames, others", c.frames == 2 && c.others == 1 && c.shortfall == 0 && c.refusal == ASHLAR_OK);
+    memset(list, 0xEE, sizeof list);
+    c = ashlar_capture_frames(list, 1, capture, size);
+    refused_capture("ashlar_capture_frames: 14", c, 0, ASHLAR_LIST_TOO_SHORT);
+    check("ashlar_capture_frames: a refusal leaves the list", list[0].seconds == 0xEEEEEEEE && list[0].offset == (size_t)0xEEEEEEEEEEEEEEEE);
+    c = ashlar_capture_frames(list, 4, capture, size);
+    check("ashlar_capture_frames: frames, others", c.frames == 2 && c.others == 1 && c.shortfall == 0 && c.refusal == ASHLAR_OK);
+    check("AshlarFrame: each of its fields", sizeof(AshlarFrame) == 40 && is_pushed(list[0], 24 + 38) && is_pushed(list[1], third + 38));
+    check("ashlar_capture_frames: what is past the frames stays", list[2].seconds == 0xEEEEEEEE && list[3].length == (size_t)0xEEEEEEEEEEEEEEEE);
+    c = ashlar_capture_frames(list, 2, capture, size);
+    check("ashlar_capture_frames: a list of as many elements", c.frames == 2 && c.refusal == ASHLAR_OK);
+    refused_capture("ashlar_capture_frames: 2 of the last frame before 14, and its shortfall", ashlar_capture_frames(list, 0, capture, size - 3), 3, ASHLAR_RUNS_PAST_END);
+    refused_capture("ashlar_capture_check: 2 of a file header", ashlar_capture_check(capture, 21), 3, ASHLAR_RUNS_PAST_END);
+    refused_capture("ashlar_capture_check: 2 of a record header", ashlar_capture_check(capture, third + 11), 5, ASHLAR_RUNS_PAST_END);
+    AshlarReached r = ashlar_capture_step(capture, size, ASHLAR_FILE_HEADER);
+    check("AshlarReached: a 1905 frame", is_pushed(r.frame, 24 + 38) && r.next == second && r.shortfall == 0 && r.answer == ASHLAR_1905_FRAME && r.refusal == ASHLAR_OK);
+    r = ashlar_capture_step(capture, size, second);
+    check("AshlarReached: another frame", is_no_frame(r.frame) && r.next == third && r.shortfall == 0 && r.answer == ASHLAR_OTHER_FRAME && r.refusal == ASHLAR_OK);
+    r = ashlar_capture_step(capture, size, size);
+    check("AshlarReached: the end", is_no_frame(r.frame) && r.next == 0 && r.shortfall == 0 && r.answer == ASHLAR_FILE_END && r.refusal == ASHLAR_OK);
+    r = ashlar_capture_step(capture, size - 9, third);
+    check("AshlarReached: a refusal, and its shortfall", is_no_frame(r.frame) && r.next == 0 && r.shortfall == 9 && r.answer == ASHLAR_REFUSED && r.refusal == ASHLAR_RUNS_PAST_END);
+    AshlarArrival a = ashlar_capture_arrival(list[0]);
+    check("ashlar_capture_arrival: key, time", a.key == arrived.key && a.time == arrived.time);
+    check("ashlar_capture_arrival: the fragment", a.fragment.message_type == 0x5678 && a.fragment.version == 0x9A && a.fragment.number == 0xBC && a.fragment.last);
+    capture[third + 12]++;
+    refused_capture("ashlar_capture_check: 23", ashlar_capture_check(capture, size), 0, ASHLAR_BAD_FRAME);
+    capture[22] = 1;
+    refused_capture("ashlar_capture_check: 22, by the upper half of the link type", ashlar_capture_check(capture, size), 0, ASHLAR_NOT_A_CAPTURE);
+}
+
 int main(void) {
     for (size_t i = 0; i < sizeof payload; i++) payload[i] = (uint8_t)(i + 1);
-    headings(), walks(), paddings(), reads(), texts(), finds(), fields(), duplicates(), pushes(), limits(), sweeps(), cuts(), proposals(), moves(), values(), crowd(), link_reports(), merges();
-    check("every refusal that a call can give came: 1 to 7 and 10 to 21", (refusals & ~1u) == 0x3FFCFE);
+    headings(), written_headings(), walks(), paddings(), reads(), texts(), finds(), fields(), duplicates(), pushes(), limits(), sweeps(), cuts(), proposals(), moves(), values(), crowd(), link_reports(), merges(), written_captures(), read_captures();
+    check("every refusal that a call can give came: 1 to 7 and 10 to 23", (refusals & ~1u) == 0xFFFCFE);
     check("every answer of push came: 0 to 7", answers == 0xFF);
     check("every answer of an event came: 0 to 5", events == 0x3F);
     return failed != 0;

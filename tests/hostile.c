@@ -8,10 +8,14 @@
 #include <string.h>
 #include <sys/mman.h>
 
-enum { PAGE = 4096, READ_HEADER = 0, WALK, WALK_INTO, READ_KIND, FIND, TEXT, RADIO, RADIO_TEXT, PUSH, SHOW, SWEEP, CHECK, CUT, STATION_EVENT, STATION_EVENT_FROM, STATION_AT, STATION_COUNT, STATION_ROW, LINK_REPORT_TX, LINK_REPORT_RX, LINK_MERGE, KINDS };
+enum {
+    PAGE = 4096, READ_HEADER = 0, WALK, WALK_INTO, READ_KIND, FIND, TEXT, RADIO, RADIO_TEXT, PUSH, SHOW, SWEEP, CHECK, CUT, STATION_EVENT, STATION_EVENT_FROM, STATION_AT, STATION_COUNT, STATION_ROW, LINK_REPORT_TX, LINK_REPORT_RX, LINK_MERGE,
+    WRITE_HEADER, CAPTURE_HEADER, CAPTURE_FRAME, CAPTURE_CHECK, CAPTURE_STEP, CAPTURE_FRAMES, CAPTURE_ARRIVAL, KINDS
+};
 
 static const char *const names[KINDS] = {
-    "read_header", "walk", "walk_into", "read_kind", "find", "text", "radio", "radio_text", "push", "show", "sweep", "check", "cut", "station_event", "station_event_from", "station_at", "station_count", "station_row", "link_report_tx", "link_report_rx", "link_merge"};
+    "read_header", "walk", "walk_into", "read_kind", "find", "text", "radio", "radio_text", "push", "show", "sweep", "check", "cut", "station_event", "station_event_from", "station_at", "station_count", "station_row", "link_report_tx", "link_report_rx", "link_merge",
+    "write_header", "capture_header", "capture_frame", "capture_check", "capture_step", "capture_frames", "capture_arrival"};
 /* which numbers each call may give by rules N1 and N2, a bit for each; 0 is no refusal */
 static const unsigned numbers[KINDS] = {
     1u << 0 | 1u << 1,
@@ -35,9 +39,16 @@ static const unsigned numbers[KINDS] = {
     1u << 0 | 1u << 3 | 1u << 4 | 1u << 19,
     1u << 0 | 1u << 3 | 1u << 4 | 1u << 19,
     1u << 0 | 1u << 19,
+    1u << 0 | 1u << 7,
+    1u << 0 | 1u << 7,
+    1u << 0 | 1u << 7 | 1u << 12 | 1u << 23,
+    1u << 0 | 1u << 2 | 1u << 22 | 1u << 23,
+    1u << 0 | 1u << 2 | 1u << 22 | 1u << 23,
+    1u << 0 | 1u << 2 | 1u << 14 | 1u << 22 | 1u << 23,
+    1u << 0,
 };
 static unsigned long calls[KINDS], wrong[KINDS];
-static unsigned seen[KINDS], answers, events;
+static unsigned seen[KINDS], answers, events, records;
 static uint64_t state;
 
 static uint64_t any(void) {
@@ -64,7 +75,7 @@ static Room room(size_t most) {
 
 static void told(int call, unsigned number, bool same) {
     calls[call]++;
-    if (number > 21 || !(numbers[call] >> number & 1) || !same) wrong[call]++;
+    if (number > 23 || !(numbers[call] >> number & 1) || !same) wrong[call]++;
     else seen[call] |= 1u << number;
 }
 
@@ -509,6 +520,107 @@ static void link_merge(void) {
     told(LINK_MERGE, r.refusal, same_report(r, plain_link_merge(a, b)));
 }
 
+/* ---- Captures ---- */
+
+/* the writers: the answer, and the whole room, of which what is written is a part */
+static void write_room(void) {
+    size_t n = below(8) ? below(60) : below(1600), space = below(3) ? below(120) : below(2000);
+    uint8_t *p = bytes(n), *out[2];
+    for (int i = 0; i < 2; i++) out[i] = outs[i].end - space;
+    for (size_t i = 0; i < space; i++) out[0][i] = out[1][i] = (uint8_t)any();
+    AshlarFields f = {(uint8_t)any(), (uint16_t)any(), (uint16_t)any(), (uint8_t)any(), below(2)};
+    uint64_t time = below(4) ? any() % 4294967296000 : below(2) ? 4294967295990 + below(20) : any() << below(17);
+    AshlarArrival a = {any() << 16 | below(65536), time, {(uint16_t)any(), (uint8_t)any(), (uint8_t)any(), below(2)}};
+    AshlarWritten x, y;
+    int call = WRITE_HEADER + (int)below(3);
+    if (call == WRITE_HEADER) x = ashlar_write_header(f, out[0], space), y = plain_write_header(f, out[1], space);
+    else if (call == CAPTURE_HEADER) x = ashlar_capture_header(out[0], space), y = plain_capture_header(out[1], space);
+    else x = ashlar_capture_frame(a, p, n, out[0], space), y = plain_capture_frame(a, p, n, out[1], space);
+    told(call, x.refusal, x.length == y.length && x.refusal == y.refusal && !memcmp(out[0], out[1], space));
+}
+
+static void put_number(uint8_t *at, uint32_t n, bool high_first) {
+    for (int i = 0; i < 4; i++) at[i] = (uint8_t)(n >> 8 * (high_first ? 3 - i : i));
+}
+
+/* a file header and records in either byte order, many of 1905, few with a fault; now and then cut, or another file */
+static uint8_t *file(size_t *n) {
+    static uint8_t made[8 * PAGE];
+    static const uint8_t headers[2][8] = {{0xD4, 0xC3, 0xB2, 0xA1, 2, 0, 4, 0}, {0xA1, 0xB2, 0xC3, 0xD4, 0, 2, 0, 4}};
+    bool high_first = below(2);
+    size_t size = 24, most = below(2) ? 400 : 6000;
+    for (int i = 0; i < 24; i++) made[i] = (uint8_t)any();
+    memcpy(made, headers[high_first], 8);
+    put_number(made + 20, below(12) ? 1 : below(2) ? 0x10001 : (uint32_t)any(), high_first);
+    if (!below(12)) made[below(8)] ^= (uint8_t)(1u << below(8));
+    for (size_t records = below(12); records && size < most; records--) {
+        size_t stored = below(8) ? 22 + below(30) : below(60);
+        for (size_t i = 0; i < 16 + stored; i++) made[size + i] = (uint8_t)any();
+        put_number(made + size + 8, (uint32_t)stored, high_first), put_number(made + size + 12, (uint32_t)stored, high_first);
+        if (stored > 13 && below(5)) made[size + 28] = 0x89, made[size + 29] = 0x3A;
+        if (!below(50)) put_number(made + size + 8 + 4 * below(2), (uint32_t)(stored + 1), high_first);
+        if (!below(80)) put_number(made + size + 8, 0xFFFFFFFF, high_first), put_number(made + size + 12, 0xFFFFFFFF, high_first);
+        size += 16 + stored;
+    }
+    *n = below(6) ? size : below(size + 1);
+    return memcpy(payloads.end - *n, made, *n);
+}
+
+static bool same_frame(AshlarFrame a, AshlarFrame b) {
+    AshlarCmdu c = a.cmdu, d = b.cmdu;
+    return a.seconds == b.seconds && a.microseconds == b.microseconds && same_address(a.sender, b.sender) && c.version == d.version && c.reserved == d.reserved && c.message_type == d.message_type &&
+           c.message_id == d.message_id && c.number == d.number && c.flags == d.flags && c.last == d.last && a.offset == b.offset && a.length == b.length;
+}
+
+static bool same_capture(AshlarCapture a, AshlarCapture b) { return a.frames == b.frames && a.others == b.others && a.shortfall == b.shortfall && a.refusal == b.refusal; }
+
+static bool same_reached(AshlarReached a, AshlarReached b) {
+    records |= 1u << (a.answer & 7);
+    return same_frame(a.frame, b.frame) && a.next == b.next && a.shortfall == b.shortfall && a.answer == b.answer && a.refusal == b.refusal && (a.answer == ASHLAR_REFUSED) == (a.refusal != 0);
+}
+
+/* a frame of the file as it is pushed; its mark may not be that of its flags */
+static void arrival(AshlarFrame f) {
+    if (below(2)) f.cmdu.last = !f.cmdu.last;
+    AshlarArrival a = ashlar_capture_arrival(f), b = plain_capture_arrival(f);
+    bool same = a.fragment.message_type == b.fragment.message_type && a.fragment.version == b.fragment.version && a.fragment.number == b.fragment.number && a.fragment.last == b.fragment.last;
+    told(CAPTURE_ARRIVAL, 0, same && a.key == b.key && a.time == b.time);
+}
+
+/* the check, and the steps to the end of the file or to its fault, and one anywhere; no step refuses where the check
+   doesn't */
+static void read_capture(void) {
+    size_t n, at = ASHLAR_FILE_HEADER;
+    uint8_t *p = file(&n);
+    AshlarCapture c = ashlar_capture_check(p, n);
+    told(CAPTURE_CHECK, c.refusal, same_capture(c, plain_capture_check(p, n)));
+    for (;;) {
+        AshlarReached r = ashlar_capture_step(p, n, at);
+        told(CAPTURE_STEP, r.refusal, same_reached(r, plain_capture_step(p, n, at)) && (!r.refusal || c.refusal));
+        if (r.answer == ASHLAR_1905_FRAME) arrival(r.frame);
+        if (r.answer != ASHLAR_1905_FRAME && r.answer != ASHLAR_OTHER_FRAME) break;
+        at = r.next;
+    }
+    at = below(2) ? below(n + 20) : (size_t)any() << below(48);
+    AshlarReached r = ashlar_capture_step(p, n, at);
+    told(CAPTURE_STEP, r.refusal, same_reached(r, plain_capture_step(p, n, at)));
+}
+
+static void list_capture(void) {
+    size_t n, many = below(14);
+    uint8_t *p = file(&n);
+    AshlarFrame *list = (AshlarFrame *)(lists.end - many * sizeof(AshlarFrame)), *other = (AshlarFrame *)(expected.end - many * sizeof(AshlarFrame));
+    for (size_t i = 0; i < many; i++) {
+        memset(&list[i], (int)below(256), sizeof(AshlarFrame));
+        list[i].cmdu.last = below(2);
+    }
+    memcpy(other, list, many * sizeof(AshlarFrame));
+    AshlarCapture a = ashlar_capture_frames(list, many, p, n), b = plain_capture_frames(other, many, p, n);
+    bool same = same_capture(a, b);
+    for (size_t i = 0; i < many; i++) same &= same_frame(list[i], other[i]);
+    told(CAPTURE_FRAMES, a.refusal, same);
+}
+
 int main(int argc, char **argv) {
     unsigned long many = argc > 1 ? strtoul(argv[1], 0, 10) : 20000, seed = argc > 2 ? strtoul(argv[2], 0, 10) : 1;
     state = seed * 0x9E3779B97F4A7C15ull | 1;
@@ -530,7 +642,9 @@ int main(int argc, char **argv) {
         else if (which < 80) cut();
         else if (which < 93) of_stations();
         else if (which < 95) link_report();
-        else if (which < 98) link_merge();
+        else if (which < 96) link_merge();
+        else if (which < 97) write_room();
+        else if (which < 98) below(2) ? read_capture() : list_capture();
         else if (below(200)) sweep();
         else fresh();
     }
@@ -538,12 +652,12 @@ int main(int argc, char **argv) {
     for (int k = 0; k < KINDS; k++) {
         failed += wrong[k] != 0;
         printf("%s ashlar_%s, %lu calls, %lu wrong, numbers", wrong[k] ? "FAILED" : "ok", names[k], calls[k], wrong[k]);
-        for (int n = 0; n <= 21; n++)
+        for (int n = 0; n <= 23; n++)
             if (seen[k] >> n & 1) printf(" %d", n);
         printf("\n");
     }
-    bool all = answers == 0xff && events == 0x3f && verdicts == 3;
+    bool all = answers == 0xff && events == 0x3f && verdicts == 3 && records == 0xf;
     for (int k = 0; k < KINDS; k++) all &= seen[k] == numbers[k];
-    printf("%s every number that a call can give came, every answer of push and of an event, and both of a check\n", all ? "ok" : "FAILED");
+    printf("%s every number that a call can give came, every answer of push, of an event and of a step, and both of a check\n", all ? "ok" : "FAILED");
     return failed || !all;
 }
