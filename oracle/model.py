@@ -6,11 +6,12 @@ LEVEL is the last request that counts for the kinds that there are, 8 without it
 on 9 and 10. All other rules hold at any level.
 
 The model tries out the driver and the command language. It is a second opinion beside the proved library on the
-numbers, which the original doesn't have, and on the stations, which it doesn't have either. The generator takes its
-layouts from here.
+numbers, which the original doesn't have, and on the stations and the captures, which it doesn't have either. The
+generator takes its layouts from here.
 """
 import collections
 import itertools
+import struct
 import sys
 
 STORE_PLACES, STORE_KEYS, PLACE = 32, 16, 1492
@@ -668,6 +669,86 @@ def check_command(message, fragments):
     return "q %d %s %s" % (len(message), ",".join(pieces) or "-", text(data))
 
 
+# --- captures (rules G1 to G9) ---
+
+MAGIC, ETHER_TYPE, MULTICAST = 0xa1b2c3d4, b"\x89\x3a", bytes.fromhex("0180c2000013")
+# Of the command language: frames of a lent list, at most.
+MOST_FRAMES = 40
+
+
+def fitting(data, room):
+    if len(data) > room:
+        raise Refused(7)
+    return data
+
+
+def file_header(order="<", version=(2, 4), zone=0, accuracy=0, snap=65535, link=1, magic=MAGIC):
+    """The numbers are in one of the two byte orders of the module struct."""
+    return struct.pack(order + "IHHIIII", magic, *version, zone, accuracy, snap, link)
+
+
+def record_of(frame, seconds, micros, order="<", original=None):
+    return struct.pack(order + "IIII", seconds, micros, len(frame), len(frame) if original is None else original) + frame
+
+
+def frame_of(sender, ident, version, kind, number, flags, payload, reserved=0, target=MULTICAST):
+    return target + sender + ETHER_TYPE + struct.pack(">BBHHBB", version, reserved, kind, ident, number, flags) + payload
+
+
+def frame_written(sender, ident, version, kind, number, last, now, payload, room):
+    if len(payload) > PLACE:
+        raise Refused(12)
+    if now // 1000 >= 1 << 32:
+        raise Refused(23)
+    frame = frame_of(bytes.fromhex(sender), ident, version, kind, number, 128 * last, payload)
+    return fitting(record_of(frame, now // 1000, now % 1000 * 1000), room)
+
+
+def order_of(data):
+    """The byte order of a file, by its header."""
+    if len(data) < 24:
+        raise Refused(2, 24 - len(data))
+    for order in "<>":
+        magic, major, minor, link = struct.unpack(order + "IHH12xI", data[:24])
+        if magic == MAGIC and (major, minor, link) == (2, 4, 1):
+            return order
+    raise Refused(22)
+
+
+def capture(data, room):
+    """Each 1905 frame with its times, and how many others there are."""
+    order, at, frames, others = order_of(data), 24, [], 0
+    while at < len(data):
+        there = len(data) - at
+        if there < 16:
+            raise Refused(2, 16 - there)
+        seconds, micros, stored, original = struct.unpack_from(order + "IIII", data, at)
+        if stored != original:
+            raise Refused(23)
+        if there - 16 < stored:
+            raise Refused(2, stored - (there - 16))
+        frame = data[at + 16:at + 16 + stored]
+        at += 16 + stored
+        if len(frame) >= 22 and frame[12:14] == ETHER_TYPE:
+            frames.append((seconds, micros, frame))
+        else:
+            others += 1
+    if len(frames) > room:
+        raise Refused(14)
+    return frames, others
+
+
+def frame_text(seconds, micros, frame):
+    version, _, kind, ident, number, flags, last = header(frame[14:])
+    at = "%s/%d@%d:%d" % (frame[6:12].hex(), ident, seconds, micros)
+    return "%s %d:%d:%d:%d:%s" % (at, number, version, kind, last, shown(frame[22:]))
+
+
+def captured(data, room):
+    frames, others = capture(data, min(room, MOST_FRAMES))
+    return " ".join(["ok %d %d" % (len(frames), others)] + [frame_text(*frame) for frame in frames])
+
+
 # --- commands ---
 
 def listed(tlvs, size):
@@ -702,6 +783,12 @@ def answer(table, stations, line):
         return "ok " + shown(write_tlv(kind, value_of_fields(kind, words[3:]), int(words[2])))
     if command == "M":
         return reported(merged(report_in(words[1:7]), report_in(words[7:13])))
+    if command == "H":
+        return "ok " + shown(fitting(file_header(), int(words[1])))
+    if command == "F":
+        ident, version, kind, number, flags, now = map(int, words[2:8])
+        written = frame_written(words[1], ident, version, kind, number, flags >> 7, now, to_bytes(words[8]), int(last))
+        return "ok " + shown(written)
     data = to_bytes(last)
     if command == "t":
         kind, length, used = read_tlv(data)
@@ -723,6 +810,8 @@ def answer(table, stations, line):
         return listed(tlvs, len(data))
     if command == "U":
         return "ok " + shown(radio_text_at(data, int(words[1])))
+    if command == "R":
+        return captured(data, int(words[1]))
     kind = int(words[1])
     if command == "u":
         return "ok " + shown(text_at(kind, data, int(words[2])))
