@@ -26,6 +26,12 @@
    ashlar_link_report_tx and ashlar_link_report_rx add up the pairs of a value, and ashlar_link_merge makes
    one report of two.
 
+   What was pushed can be kept for an analyser such as Wireshark: ashlar_capture_header begins a capture, a
+   file of the classic pcap form, and ashlar_capture_frame writes a fragment after it. Such files are read,
+   too: ashlar_capture_check looks at the whole file, ashlar_capture_frames lists its 1905 frames, and
+   ashlar_capture_step goes over them one by one. ashlar_capture_arrival makes of a frame what ashlar_push
+   takes. A daemon that answers writes the header of a CMDU by ashlar_write_header.
+
    Where bytes arrive piece by piece: a header or a payload that ends too early is refused with the number of
    bytes that are missing. A receive loop waits for that many more and calls again.
 
@@ -74,6 +80,9 @@ extern "C" {
 #define ASHLAR_STATIONS 128             /* stations that a station table holds, at most (rule P1) */
 #define ASHLAR_STATION_TABLE 2048       /* bytes of an AshlarStations */
 #define ASHLAR_PAIRS 1024               /* pairs that a report is over, at most (rule Q4) */
+#define ASHLAR_CMDU_HEADER 8            /* bytes of a CMDU header (rule B6) */
+#define ASHLAR_FILE_HEADER 24           /* bytes of a capture's file header (rule G1) */
+#define ASHLAR_FRAME 38                 /* bytes of a capture's frame besides its payload (rule G5) */
 #define ASHLAR_OLD 3000                 /* milliseconds after which ashlar_sweep drops a message (rule S1) */
 /* TLVs of a payload of `size` bytes, at most: ashlar_walk_into never refuses a list of that length with 14.
    Both are proved, and that a payload of that size has as many (rule W7). */
@@ -92,7 +101,8 @@ typedef enum {
     ASHLAR_TOO_FEW_BYTES = 1,
     /* A TLV declares a longer value than there are bytes left; `at` says where. `shortfall` says how many
        bytes of the value are missing: wait for that many more. If no more come, the payload is cut or is no
-       row of TLVs: give it up. */
+       row of TLVs: give it up. Or a capture ends inside its file header, a record header or a frame, of
+       which `shortfall` bytes are missing. */
     ASHLAR_RUNS_PAST_END = 2,
     /* A value ends inside its kind's layout, as where a count promises more entries than there are: skip the
        TLV. */
@@ -105,8 +115,8 @@ typedef enum {
     ASHLAR_BAD_VALUE = 5,
     /* A value has no text or radio with this number. */
     ASHLAR_NO_ENTRY = 6,
-    /* The message needs more fragments than `ends` has elements: call again with ASHLAR_FRAGMENTS elements,
-       which is always enough. */
+    /* What is to be written has more bytes than the room. Or the message needs more fragments than `ends` has
+       elements: call again with ASHLAR_FRAGMENTS elements, which is always enough. */
     ASHLAR_NO_ROOM = 7,
     /* A value to be written has more than 65,535 bytes. Not given to C. */
     ASHLAR_VALUE_TOO_LONG = 8,
@@ -117,13 +127,14 @@ typedef enum {
     ASHLAR_TABLE_FULL = 10,
     /* The store has fewer than ASHLAR_STORE bytes: a mistake of the caller. */
     ASHLAR_STORE_TOO_SMALL = 11,
-    /* A fragment's payload has more than ASHLAR_PAYLOAD bytes: drop the fragment. */
+    /* A fragment's payload has more than ASHLAR_PAYLOAD bytes: drop the fragment, or don't write it. */
     ASHLAR_PAYLOAD_TOO_LONG = 12,
     /* The message is whole but longer than the output. `length` says how long it is: push the same fragment
        again with an output of that many bytes. */
     ASHLAR_OUTPUT_TOO_SMALL = 13,
     /* The payload has more TLVs than the list has elements. `at` is the offset of the first TLV that has
-       none: call again with a longer list. */
+       none: call again with a longer list. Or a capture has more 1905 frames: ashlar_capture_check says how
+       many. */
     ASHLAR_LIST_TOO_SHORT = 14,
     /* The list has no readable TLV of this kind after its first `from` TLVs. `looked` is the list's
        length. */
@@ -145,7 +156,12 @@ typedef enum {
     /* No fragments can carry the message: a TLV has more than ASHLAR_PAYLOAD bytes with its first three, or
        more than ASHLAR_FRAGMENTS fragments would be needed, however the message is cut. Send its TLVs in
        several messages; a TLV that is too long can't be sent at all. */
-    ASHLAR_NO_CUTTING = 21
+    ASHLAR_NO_CUTTING = 21,
+    /* A file has another magic, version or link type than a capture: it is not read. */
+    ASHLAR_NOT_A_CAPTURE = 22,
+    /* A frame of a capture was stored in part: the file is not read. Or the time of a frame to be written is
+       2 to the 32 seconds or more. */
+    ASHLAR_BAD_FRAME = 23
 } AshlarRefusal;
 
 /* ---- Kinds ---- */
@@ -405,11 +421,76 @@ typedef struct {
     uint8_t refusal;  /* an AshlarRefusal */
 } AshlarReport;
 
+/* What a CMDU header that is written says (rule B7). */
+typedef struct {
+    uint8_t version;       /* the message version */
+    uint16_t message_type;
+    uint16_t message_id;
+    uint8_t number;        /* the fragment's number, from 0 */
+    bool last;             /* whether the fragment is marked last */
+} AshlarFields;
+
+/* What a writer answers. */
+typedef struct {
+    size_t length;   /* how many bytes were written, from the first of the room on; 0 where refused */
+    uint8_t refusal; /* an AshlarRefusal */
+} AshlarWritten;
+
+/* The CMDU header of a frame, its fields as they stand there (rule B6). */
+typedef struct {
+    uint8_t version;       /* the message version */
+    uint8_t reserved;
+    uint16_t message_type;
+    uint16_t message_id;
+    uint8_t number;        /* the fragment's number, from 0 */
+    uint8_t flags;         /* the whole byte */
+    bool last;             /* whether the fragment is marked last: bit 7 of `flags`, the highest */
+} AshlarCmdu;
+
+/* A 1905 frame of a capture (rules G4 and G9). Its payload is the `length` bytes that start at file + offset,
+   padding included. */
+typedef struct {
+    uint32_t seconds;      /* when it was seen, as the file says */
+    uint32_t microseconds; /* the file may say more than 999,999 */
+    AshlarAddress sender;
+    AshlarCmdu cmdu;
+    size_t offset;
+    size_t length;
+} AshlarFrame;
+
+/* What a field `answer` of an AshlarReached says (rule G7); 0 is ASHLAR_REFUSED. */
+typedef enum {
+    ASHLAR_FILE_END = 1,    /* no byte is left */
+    ASHLAR_1905_FRAME = 2,  /* `frame` */
+    ASHLAR_OTHER_FRAME = 3  /* a frame that is none of 1905: it is passed over */
+} AshlarRecordAnswer;
+
+/* What a step goes over. Where there is no 1905 frame, `frame` is all zeros. */
+typedef struct {
+    AshlarFrame frame;
+    size_t next;      /* for 2 and 3, where the next step starts; else 0 */
+    size_t shortfall; /* for refusal 2, how many bytes are missing; else 0 */
+    uint8_t answer;   /* an AshlarRecordAnswer, or ASHLAR_REFUSED: see `refusal` */
+    uint8_t refusal;  /* an AshlarRefusal */
+} AshlarReached;
+
+/* What a capture holds. Where refused, everything but `shortfall` and `refusal` is 0. */
+typedef struct {
+    size_t frames;    /* how many 1905 frames */
+    size_t others;    /* how many others, which are passed over */
+    size_t shortfall; /* for refusal 2, how many bytes are missing; else 0 */
+    uint8_t refusal;  /* an AshlarRefusal */
+} AshlarCapture;
+
 /* ---- Calls ---- */
 
 /* Reads the header of a CMDU, the first eight of the bytes. What follows these is not looked at (rule B6).
    Refusals: 1. */
 AshlarHeader ashlar_read_header(const uint8_t *bytes, size_t bytes_length);
+
+/* Writes the header of a CMDU to the first eight bytes of `out`, with the reserved byte and the other flags
+   0. Bytes of `out` past these stay as they are (rule B7). Refusals: 7. */
+AshlarWritten ashlar_write_header(AshlarFields fields, uint8_t *out, size_t out_length);
 
 /* Counts the TLVs of a payload up to its end marker, and the bytes of padding after it (rules W1 to W4).
    Refusals: 1, 2. */
@@ -520,6 +601,35 @@ AshlarReport ashlar_link_report_rx(const uint8_t *value, size_t value_length);
    has totals that so many pairs can't have, a kind that is neither 9 nor 10, or a lowest other than 0 without
    its flag. One that was refused is among them, for its kind is 0. `refusal` is not looked at. */
 AshlarReport ashlar_link_merge(AshlarReport one, AshlarReport other);
+
+/* Writes the file header of a capture, ASHLAR_FILE_HEADER bytes, to the start of `out`. Bytes of `out` past
+   these stay as they are, here and in the next call (rule G5). Refusals: 7. */
+AshlarWritten ashlar_capture_header(uint8_t *out, size_t out_length);
+
+/* Writes a fragment as a frame of a capture, ASHLAR_FRAME bytes and the payload, to the start of `out`.
+   Arrival and payload are those of ashlar_push (rule G5). Refusals: 12, then 23 for a time of 2 to the 32
+   seconds or more, then 7. */
+AshlarWritten ashlar_capture_frame(AshlarArrival arrival, const uint8_t *payload, size_t payload_length,
+                                   uint8_t *out, size_t out_length);
+
+/* Checks a whole capture, with its numbers in either byte order, and counts its frames (rule G6). Refusals: 2
+   or 22 for the file header; then record by record 2 for a cut record header, 23, 2 for a cut frame. */
+AshlarCapture ashlar_capture_check(const uint8_t *file, size_t file_length);
+
+/* Goes over the record at the offset `at` of a capture: at ASHLAR_FILE_HEADER for the first, at an answer's
+   `next` for those after it. It looks at the file header and at this record alone. Where ashlar_capture_check
+   refuses nothing, no such step does (rule G7). Refusals: those of ashlar_capture_check. */
+AshlarReached ashlar_capture_step(const uint8_t *file, size_t file_length, size_t at);
+
+/* Checks a whole capture as ashlar_capture_check does, and lists its 1905 frames in the first elements of
+   `list`, in the file's order. The others stay as they are; where it refuses, all do (rule G8). Refusals:
+   those of ashlar_capture_check, then 14. */
+AshlarCapture ashlar_capture_frames(AshlarFrame *list, size_t list_length, const uint8_t *file,
+                                    size_t file_length);
+
+/* Returns what ashlar_push takes of a frame, but for its payload. The time is in milliseconds, rounded down
+   (rules G3 and G9). */
+AshlarArrival ashlar_capture_arrival(AshlarFrame frame);
 
 #ifdef __cplusplus
 }
