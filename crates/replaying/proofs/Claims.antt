@@ -14,6 +14,7 @@ use Rattle.orders.proofs.Claims as orders
 use Rattle.replaying.specs.Claims.{arrivedOf, fileFor, AnsweredAgain, Claims}
 use Rattle.replaying.proofs.SameCalls.{same-calls}
 use Rattle.replaying.proofs.SameTable.{same-store}
+use Rattle.replaying.proofs.Taken.{taken-is-writable}
 
 answered-again : AnsweredAgain
 answered-again store calls z happened writable capture accepted store′ long calls′ z′ happened′ again =
@@ -26,4 +27,4 @@ answered-again store calls z happened writable capture accepted store′ long ca
     ∙ orders.claims .is-run store calls z happened .replies
 
 pub claims : Claims
-claims = record { answered-again = answered-again }
+claims = record { taken-is-writable = taken-is-writable; answered-again = answered-again }

@@ -1,3 +1,4 @@
 pub mod SameCalls
 pub mod SameTable
+pub mod Taken
 pub mod Claims

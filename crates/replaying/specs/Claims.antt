@@ -2,10 +2,11 @@
 -- the end, which proofs/Claims.antt proves.
 use mathlib.Core.Path.{_≡_}
 use mathlib.Core.List.{List, [], _∷_, map}
-use Prim.Native.Nat.{ℕ}
+use Prim.Native.Nat.{ℕ, _<_}
 use lib.ListN.{length}
 use Rattle.numbers.specs.Numbers.{gives}
 use Rattle.machines.specs.Happened.{Happened}
+use Rattle.captures.specs.Writing.{frameSize}
 use Rattle.captures.specs.Reading.{Capture, captureIn}
 use Rattle.captures.specs.HandedBack.{Arrived, fileOf, arrivedIn}
 use Rattle.captures.specs.Claims.{Each, Writable}
@@ -47,6 +48,12 @@ AnsweredAgain = (store : List ℕ) (calls : List TableCall) (z : State) → Happ
     → Replays capture calls calls′
     → map (λ c. replyOf (gotBy c)) calls′ ≡ map (λ c. replyOf (gotBy c)) calls
 
+-- Rule G5: what the writer takes, whatever the room, is what `Writable` says; a key has 64 bits and a message type 16.
+abbrev pub TakenIsWritable : Type 0
+TakenIsWritable = (p : Arrived) → p .arrival .key < 18446744073709551616 → p .arrival .fragment .«message_type» < 65536
+    → (room size : ℕ) → frameSize (p .arrival .time) (length (p .payload)) room ≡ gives size → Writable p
+
 -- everything that is claimed here
 pub record Claims : Type 0 where
+  pub taken-is-writable : TakenIsWritable
   pub answered-again : AnsweredAgain
