@@ -524,7 +524,7 @@ static void link_merge(void) {
 
 /* the writers: the answer, and the whole room, of which what is written is a part */
 static void write_room(void) {
-    size_t n = below(8) ? below(60) : below(1600), space = below(3) ? below(120) : below(2000);
+    size_t n = below(4) ? below(60) : 1480 + below(30), space = below(3) ? below(120) : below(2000);
     uint8_t *p = bytes(n), *out[2];
     for (int i = 0; i < 2; i++) out[i] = outs[i].end - space;
     for (size_t i = 0; i < space; i++) out[0][i] = out[1][i] = (uint8_t)any();
@@ -622,7 +622,7 @@ static void list_capture(void) {
 }
 
 int main(int argc, char **argv) {
-    unsigned long many = argc > 1 ? strtoul(argv[1], 0, 10) : 20000, seed = argc > 2 ? strtoul(argv[2], 0, 10) : 1;
+    unsigned long many = argc > 1 ? strtoul(argv[1], 0, 10) : 60000, seed = argc > 2 ? strtoul(argv[2], 0, 10) : 1;
     state = seed * 0x9E3779B97F4A7C15ull | 1;
     payloads = room(8 * PAGE), lists = room(1100 * sizeof(AshlarTlv)), expected = room(1100 * sizeof(AshlarTlv));
     proposals = room(MOST_PROPOSED * sizeof(AshlarProposed)), parts = room(24000);
@@ -640,10 +640,10 @@ int main(int argc, char **argv) {
         else if (which < 78) push();
         else if (which < 79) check();
         else if (which < 80) cut();
-        else if (which < 93) of_stations();
-        else if (which < 95) link_report();
-        else if (which < 96) link_merge();
-        else if (which < 97) write_room();
+        else if (which < 91) of_stations();
+        else if (which < 93) link_report();
+        else if (which < 95) link_merge();
+        else if (which < 96) write_room();
         else if (which < 98) below(2) ? read_capture() : list_capture();
         else if (below(200)) sweep();
         else fresh();
