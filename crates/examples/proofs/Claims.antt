@@ -33,10 +33,12 @@ use Rattle.links.specs.Pairs.{pairsIn}
 use Rattle.links.specs.Reports.{reportOver, reportIfFew, reportOf, merged}
 use Rattle.cutting.specs.Cuts.{tlvsOf, isTlvs, isFragment, isCutting, checkOf}
 use Rattle.cutting.specs.Greedy.{endsFrom, endsOver, endsOf, cutInto}
+use Rattle.captures.specs.Writing.{frameSize}
+use Rattle.captures.specs.Reading.{fileOrder, recordAt, captureIn}
 use Rattle.c_answers.specs.Numbers.{shownIn}
 use Rattle.c_links.specs.Numbers.{reportFrom}
 use Rattle.orders.proofs.Examples.{stays-at-2999, goes-at-3000, zero-then-last-one, last-one-alone}
-use Rattle.examples.specs.Claims.{Claims, OfFraming, OfWalks, OfKinds, OfTexts, OfFinding, OfTheTable, OfStations, OfLinks, OfCutting, OfC}
+use Rattle.examples.specs.Claims.{Claims, OfFraming, OfWalks, OfKinds, OfTexts, OfFinding, OfTheTable, OfStations, OfLinks, OfCutting, OfCaptures, OfC}
 
 of-framing : OfFraming
 unfolding readTlv readHeader writeSize
@@ -360,6 +362,31 @@ of-c = record {
   c-no-flag = refl;
 }
 
+of-captures : OfCaptures
+unfolding frameSize fileOrder recordAt walkFrom captureIn
+of-captures = record {
+  file-header-written = refl;
+  frame-written = refl;
+  latest-time = refl;
+  too-late = refl;
+  too-long-before-too-late = refl;
+  frame-room = refl;
+  no-frames = refl;
+  low-capture = refl;
+  high-capture = refl;
+  its-payload = refl;
+  its-arrival = refl;
+  of-22-bytes = refl;
+  of-21-bytes = refl;
+  empty-file = refl;
+  cut-file-header = refl;
+  cut-record-header = refl;
+  cut-frame = refl;
+  other-magic = refl;
+  other-link-type = refl;
+  stored-in-part = refl;
+}
+
 pub claims : Claims
 claims = record {
   framing = of-framing;
@@ -371,5 +398,6 @@ claims = record {
   stations = of-stations;
   links = of-links;
   cutting = of-cutting;
+  captures = of-captures;
   c = of-c;
 }

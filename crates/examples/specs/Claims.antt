@@ -5,7 +5,7 @@ use mathlib.Core.Path.{_≡_}
 use mathlib.Core.Bool.{true, false}
 use mathlib.Core.List.{List, [], _∷_, _++_}
 use Prim.Native.Nat.{ℕ, _+_}
-use lib.ListN.{length, drop, replicate}
+use lib.ListN.{length, take, drop, replicate}
 use lib.IntN.{pos, negsuc}
 use Rattle.numbers.specs.Numbers.{gives, refuses}
 use Rattle.machines.specs.Machine.{those}
@@ -35,6 +35,10 @@ use Rattle.stations.specs.declared.Where.{Where}
 use Rattle.stations.specs.declared.Listed.{Listed}
 use Rattle.stations.specs.Rows.{freshStations, answerTo, tableAfter, heldRow, countOf}
 use Rattle.stations.specs.Events.{answerFrom, tableFrom}
+use Rattle.captures.specs.Form.{is1905}
+use Rattle.captures.specs.Writing.{ourHeader, frameRecord, frameSize}
+use Rattle.captures.specs.Reading.{captureIn, framePayload, arrivalOf}
+use Rattle.examples.specs.Captured.{low-header, high-header, an-arrival, a-frame, low-record, high-record, as-read}
 use Rattle.c_answers.specs.Numbers.{headerNumbers, walkNumbers, kindNumbers, foundNumbers, partNumbers, pushNumbers, shownIn, checkNumbers, cutNumbers}
 use Rattle.links.specs.declared.LinkKind.the-variants.{Tx, Rx}
 use Rattle.links.specs.declared.Lowest.the-variants.{Absent, Signal}
@@ -413,6 +417,30 @@ pub record OfC : Type 0 where
   pub c-no-kind : reportFrom (record { errors = 3; packets = 4; sum = pos 0; count = 2; kind = 8; low = pos 0; «has_low» = false; refusal = 0 }) ≡ refuses 19 []
   pub c-no-flag : reportFrom (record { errors = 3; packets = 4; sum = pos 0; count = 2; kind = 9; low = pos 1; «has_low» = false; refusal = 0 }) ≡ refuses 19 []
 
+-- Captures (part G): what is written, byte for byte, what is read, and each refusal.
+pub record OfCaptures : Type 0 where
+  pub file-header-written : ourHeader ≡ low-header
+  pub frame-written : frameRecord an-arrival (0xA0 ∷ 0xA1 ∷ []) ≡ low-record
+  pub latest-time : frameSize 4294967295999 1492 1530 ≡ gives 1530
+  pub too-late : frameSize 4294967296000 1492 1530 ≡ refuses 23 []
+  pub too-long-before-too-late : frameSize 4294967296000 1493 0 ≡ refuses 12 []
+  pub frame-room : frameSize 0 1492 1529 ≡ refuses 7 []
+  pub no-frames : captureIn low-header ≡ gives (record { frames = []; others = 0 })
+  pub low-capture : captureIn (low-header ++ low-record) ≡ gives (record { frames = as-read ∷ []; others = 0 })
+  pub high-capture : captureIn (high-header ++ high-record) ≡ gives (record { frames = as-read ∷ []; others = 0 })
+  pub its-payload : framePayload (low-header ++ low-record) as-read ≡ 0xA0 ∷ 0xA1 ∷ []
+  pub its-arrival : arrivalOf as-read ≡ an-arrival
+  -- a frame of 22 bytes is 1905's, and one of 21 is passed over
+  pub of-22-bytes : is1905 (take 22 a-frame) ≡ true
+  pub of-21-bytes : is1905 (take 21 a-frame) ≡ false
+  pub empty-file : captureIn [] ≡ refuses 2 (24 ∷ [])
+  pub cut-file-header : captureIn (take 23 low-header) ≡ refuses 2 (1 ∷ [])
+  pub cut-record-header : captureIn (low-header ++ take 15 low-record) ≡ refuses 2 (1 ∷ [])
+  pub cut-frame : captureIn (low-header ++ take 39 low-record) ≡ refuses 2 (1 ∷ [])
+  pub other-magic : captureIn (0x4D ∷ 0x3C ∷ drop 2 low-header) ≡ refuses 22 []
+  pub other-link-type : captureIn (take 22 low-header ++ (0x01 ∷ 0x00 ∷ [])) ≡ refuses 22 []
+  pub stored-in-part : captureIn (low-header ++ (take 12 low-record ++ (0x19 ∷ drop 13 low-record))) ≡ refuses 23 []
+
 -- everything that is claimed of this crate
 pub record Claims : Type 0 where
   pub framing : OfFraming
@@ -424,4 +452,5 @@ pub record Claims : Type 0 where
   pub stations : OfStations
   pub links : OfLinks
   pub cutting : OfCutting
+  pub captures : OfCaptures
   pub c : OfC
