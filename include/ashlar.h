@@ -42,9 +42,9 @@
    Every call takes any bytes, lengths and numbers, and answers or refuses with a number of AshlarRefusal. A
    call that refuses leaves everything it was lent as it was (rules A1 to A3). The following can't be checked
    by the calls and is expected of the caller (rule C2):
-   - A slice is passed as two parameters: a pointer, and the number of elements there (bytes, TLVs of a list,
-     fragments, or ends). The elements exist while the call runs. An empty slice may have any pointer that is
-     not null.
+   - A slice is passed as two parameters: a pointer, and the number of elements there (bytes, TLVs or frames
+     of a list, fragments, or ends). The elements exist while the call runs. An empty slice may have any
+     pointer that is not null.
    - What is lent to be written (list, table, store, out, ends) overlaps nothing else that is lent to the same
      call.
    - Pointers are aligned as their types require, and a bool is 0 or 1.
