@@ -1,0 +1,6 @@
+pub mod Taking
+pub mod Arriving
+pub mod Firm
+pub mod Story
+pub mod Filtered
+pub mod Claims
