@@ -413,6 +413,8 @@ class Table:
 
     def __init__(self):
         self.keys = {}
+        # the payloads of the message that became whole last (rule T10), for story.py
+        self.finished = []
 
     def places(self):
         return sum(len(key[1]) for key in self.keys.values())
@@ -452,8 +454,8 @@ class Table:
             return "MissingFragments"
         if not kept[max(kept)][2]:
             return "MissingLastFragment"
-        joined = b"".join(kept[n][3] for n in sorted(kept))
-        return "complete %s %s" % ("single" if len(kept) == 1 else "joined", shown(joined))
+        self.finished = [kept[n][3] for n in sorted(kept)]
+        return "complete %s %s" % ("single" if len(kept) == 1 else "joined", shown(b"".join(self.finished)))
 
     def sweep(self, now):
         dropped = 0
