@@ -8,13 +8,13 @@ failed=0
 # Runs a built program as rt does: it is compiled for x86-64, so on another processor the kit's emulator runs it. A
 # check sets the seconds that it may take: one that goes on for ever is to fail.
 seconds=
-program() { # NAME
+program() { # NAME ARGUMENTS..
     local home tools emulator
     home=$(dirname "$(dirname "$(rt doc)")")
     tools=$home/on/$(uname -m)/toolchain
     emulator=$tools/bin/qemu-x86_64
     [ -x "$emulator" ] || emulator=
-    ${seconds:+timeout "$seconds"} ${emulator:+"$emulator"} "$tools/lib/ld-linux-x86-64.so.2" --library-path "$tools/lib" "./target/bin/$1"
+    ${seconds:+timeout "$seconds"} ${emulator:+"$emulator"} "$tools/lib/ld-linux-x86-64.so.2" --library-path "$tools/lib" "./target/bin/$1" "${@:2}"
 }
 
 # The bytes of an annotated hex file: pairs of hex digits, `#` to the line's end is a remark.
