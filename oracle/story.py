@@ -157,13 +157,13 @@ class Story:
         self.rows.settle(self.table.keys)
         self.places.settle([(name, number) for name, (_, kept) in self.table.keys.items() for number in kept])
 
-    def told(self, now, name, kind, said):
+    def say(self, now, name, kind, said):
         sender, ident = name
         self.lines.append("%s %s %s, id %d%s" % (time_of_day(now), address(sender), message_name(kind), ident, said))
 
     def loss(self, now, name, kind, why):
         self.losses += 1
-        self.told(now, name, kind, ": " + why)
+        self.say(now, name, kind, ": " + why)
 
     def kind_of(self, name, kept):
         """The message type of the fragment that lies in the lowest of a key's places."""
@@ -203,7 +203,7 @@ class Story:
             return self.loss(now, name, kind, "lost, a TLV is cut at %d, %s" % (offset, are_missing(short)))
         self.messages += 1
         names = ", ".join(tlv_name(code) for code, _, _ in tlvs) or "nothing"
-        self.told(now, name, kind, ", %s: %s" % (fragments(len(self.table.finished)), names))
+        self.say(now, name, kind, ", %s: %s" % (fragments(len(self.table.finished)), names))
         values = [(code, data[at + 3:at + 3 + length]) for code, at, length in tlvs]
         if self.verbose:
             self.lines += [fields_line(*tlv) for tlv in values]
