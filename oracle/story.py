@@ -13,6 +13,8 @@ sys.dont_write_bytecode = True
 sys.path.insert(0, str(Path(__file__).resolve().parent))
 import model  # noqa: E402
 
+# type 30 has a name here, and is no kind
+model.use_level(13)
 PCAPNG = b"\x0a\x0d\x0d\x0a"
 ASSOCIATION = 0x92
 
@@ -92,12 +94,67 @@ def tlv_name(kind):
     return TLV_NAMES.get(kind, "TLV 0x%02x" % kind)
 
 
+# --- what -v says of a TLV ---
+
+def quoted(data):
+    """A text or a network's name. A name may be any bytes: those that a terminal doesn't show as they are, in hex."""
+    return '"%s"' % "".join(chr(b) if 0x20 <= b < 0x7f and chr(b) not in '"\\' else "\\x%02x" % b for b in data)
+
+
+def networks(kind, value):
+    """Each radio, and then each network of it with its name."""
+    fixed, at = model.COUNTED[kind][1], 1
+    for _ in range(value[0]):
+        yield "radio " + address(value[at:at + 6])
+        count, at = value[at + 6], at + 7
+        for _ in range(count):
+            name, end = at + fixed + 1, at + fixed + 1 + value[at + fixed]
+            yield "BSS %s %s" % (address(value[at:at + 6]), quoted(value[name:end]))
+            at = end
+
+
+def links(kind, value):
+    """Who reports on the links to whom, and then of each link its figures."""
+    yield "%s to %s" % (address(value[:6]), address(value[6:12]))
+    (front, size), at = model.PAIRS[kind], model.ERRORS_AT[kind]
+    for pair in (value[start:start + size] for start in range(front, len(value), size)):
+        yield "link %s to %s" % (address(pair[:6]), address(pair[6:12]))
+        form, names = ((">IIHHH", "errors packets throughput availability rate") if kind == 9 else
+                       (">IIb", "errors packets signal"))
+        yield from map("%s %d".__mod__, zip(names.split(), struct.unpack(form, pair[at:])))
+
+
+def texts(kind, value):
+    found, radios, ends, _ = model.texts_of(kind, value)
+    names = {21: "name maker model", 22: "URL", 0xd4: "serial software environment"}[kind].split()
+    yield from ("%s %s" % (name, quoted(said)) for name, said in zip(names, found))
+    for start, said in zip([radios and radios + 1] + ends, found[3:]):
+        yield "radio %s %s" % (address(value[start:start + 6]), quoted(said))
+
+
+def fields(kind, value):
+    """Addresses, names and figures, of the kinds that have such."""
+    if kind in (1, 2):
+        return [address(value[:6])]
+    if kind in (6, 7):
+        front, size = model.TO_THE_END[kind]
+        return ["at " + address(value[:6])] + [address(value[at:at + 6]) for at in range(front, len(value), size)]
+    if kind == ASSOCIATION:
+        way = "joined" if value[12] else "left"
+        return ["station %s %s %s" % (address(value[:6]), way, address(value[6:12]))]
+    for some, read in (((0x83, 0xb7), networks), (model.PAIRS, links), (model.TEXTS, texts)):
+        if kind in some:
+            return read(kind, value)
+    return [counted(len(value), "byte", "bytes")]
+
+
 def fields_line(kind, value):
-    """What -v says of a TLV."""
-    if kind in (1, 2) and len(value) >= 6:
-        said = address(value[:6])
-    else:
-        said = counted(len(value), "byte", "bytes")
+    try:
+        if kind in model.KINDS:
+            model.consumed(kind, value)
+        said = ", ".join(fields(kind, value)) or "nothing"
+    except model.Refused as refused:
+        said = "not readable (%d)" % refused.args[0]
     return "    %s: %s" % (tlv_name(kind), said)
 
 

@@ -254,9 +254,39 @@ def names(r):
     return tape.file()
 
 
+def short(text):
+    return bytes([len(text)]) + text
+
+
+def values(r):
+    """Values that -v shows the fields of, without entries, with one and with two, and texts of all sorts of bytes."""
+    texts = (b"", b"The Old Lighthouse Keepers House", b'\\ "\x1b[0m" ~\x7f', "caf\u00e9".encode(), bytes(3))
+    counts = b"\0" * 4 + b"\xff" * 4
+    found = [tlv(kind, numbered(5, 1) + b"\2\0\0\0\0\7"[:size] * many)
+             for kind, size in ((1, 0), (2, 0), (6, 6)) for many in (0, 1, 2)]
+    for many in (0, 1, 2):
+        found.append(tlv(7, numbered(5, 1) + (numbered(5, 2) + b"\x80") * many))
+        for kind, figures in ((9, b"\1" + counts + b"\1\2\3\4\5\6"), (10, counts + b"\x80"), (10, counts + b"\x7f")):
+            pair = numbered(6, 1) + numbered(6, 2) + b"\1\5" + figures
+            found.append(tlv(kind, numbered(5, 1) + numbered(5, 2) + pair * many))
+        for text in texts:
+            for kind, flags in ((0x83, b""), (0xb7, b"\x80\0")):
+                network = numbered(6, 3) + flags + short(text)
+                found.append(tlv(kind, bytes([many]) + (numbered(6, 4) + bytes([many]) + network * many) * many))
+            radios = bytes([many]) + (numbered(6, 5) + short(text)) * many
+            found.append(tlv(0xd4, short(b"1") + short(text) + short(b"3") + radios))
+    for text in texts:
+        found += [tlv(22, text), tlv(21, text.ljust(64, b"\0") + b"x" * 64 + bytes(64))]
+    tape = Tape(r)
+    for n, value in enumerate(found):
+        tape.push(numbered(1, 1), n, 3, 0, True, value)
+    return tape.file()
+
+
 def fixed(r):
-    """The least files, all names, and the longest message."""
+    """The least files, all names, all values, and the longest message."""
     yield names(r)
+    yield values(r)
     yield model.file_header("<")
     yield model.file_header(">")
     for order in "<>":
