@@ -1,15 +1,14 @@
 -- What the loop over a message's TLVs keeps, and how a turn goes on or ends: the events of the TLVs from `at` on are not
 -- taken yet.
 use mathlib.Core.Path.{_≡_, refl, sym, ap, _∙_}
-use mathlib.Core.Bool.{Bool, true, false, cond}
+use mathlib.Core.Bool.{Bool, true, false, cond, true≢false}
 use mathlib.Core.List.{List, [], _∷_, _++_, map}
 use Prim.Native.Nat.{ℕ, _+_, _-_, _≤_}
 use native.Mathlib.Omega.{arith}
 use lib.Dec.{eqb}
 use lib.ListN.{length, take, drop}
 use borrow.Author.Tests.{eq-eqb, ne-eqb, eqb-true}
-use Rattle.numbers.specs.Numbers.{Answer, gives, refuses, mapped}
-use Rattle.numbers.proofs.Firm.{never}
+use Rattle.numbers.specs.Numbers.{Answer, gives, refuses, mapped, isGiven}
 use Rattle.machines.specs.Machine.{those, run}
 use Rattle.walking.specs.Steps.{ended, passed, last}
 use Rattle.walking.specs.declared.Tlv.{Tlv}
@@ -97,19 +96,27 @@ module _ (m : List ℕ) (t₀ : Stations) where
         }
 
 -- a message that walks to its end, and one that doesn't
-module _ (t : Stations) (m : List ℕ) where
-  pub walked : (c : WalkCount) → gives c ≡ counted (walkOf m) → run tableFrom t (eventValues m (walkOf m .items)) ≡ afterMessage t m
-  unfolding eventsIn
-  walked c = by-end (walkOf m .end) refl
+module _ (m : List ℕ) where
+  pub is-walked : (x : Answer WalkCount) → x ≡ counted (walkOf m) → isGiven x ≡ isGiven (walkOf m .end)
+  is-walked x e = ap isGiven e ∙ by-end (walkOf m .end)
     where
-      by-end : (x : Answer ℕ) → x ≡ walkOf m .end → gives c ≡ mapped (λ padding. record { count = length (walkOf m .items); padding = padding }) x → run tableFrom t (eventValues m (walkOf m .items)) ≡ run tableFrom t (eventsBy (walkOf m .end) (eventValues m (walkOf m .items)))
-      by-end (gives padding) e is = rw (← e) refl
-      by-end (refuses n vs) e is = never _ _ _ is
+      by-end : (y : Answer ℕ) → isGiven (mapped {B = WalkCount} (λ padding. record { count = length (walkOf m .items); padding = padding }) y) ≡ isGiven y
+      by-end (gives padding) = refl
+      by-end (refuses n vs) = refl
 
-  pub not-walked : (n : ℕ) (vs : List ℕ) → refuses n vs ≡ counted (walkOf m) → t ≡ afterMessage t m
-  unfolding eventsIn run
-  not-walked n vs = by-end (walkOf m .end) refl
-    where
-      by-end : (x : Answer ℕ) → x ≡ walkOf m .end → refuses n vs ≡ mapped {A = ℕ} {B = WalkCount} (λ padding. record { count = length (walkOf m .items); padding = padding }) x → t ≡ run tableFrom t (eventsBy (walkOf m .end) (eventValues m (walkOf m .items)))
-      by-end (gives padding) e is = let back : _≡_ {A = Answer WalkCount} (gives (record { count = length (walkOf m .items); padding = padding })) (refuses n vs) = sym is in never _ _ _ back
-      by-end (refuses k us) e is = rw (← e) refl
+  module _ (t : Stations) where
+    pub walked : true ≡ isGiven (walkOf m .end) → run tableFrom t (eventValues m (walkOf m .items)) ≡ afterMessage t m
+    unfolding eventsIn
+    walked = by-end (walkOf m .end)
+      where
+        by-end : (x : Answer ℕ) → true ≡ isGiven x → run tableFrom t (eventValues m (walkOf m .items)) ≡ run tableFrom t (eventsBy x (eventValues m (walkOf m .items)))
+        by-end (gives padding) e = refl
+        by-end (refuses n vs) e = absurd (true≢false e)
+
+    pub not-walked : false ≡ isGiven (walkOf m .end) → t ≡ afterMessage t m
+    unfolding eventsIn run
+    not-walked = by-end (walkOf m .end)
+      where
+        by-end : (x : Answer ℕ) → false ≡ isGiven x → t ≡ run tableFrom t (eventsBy x (eventValues m (walkOf m .items)))
+        by-end (gives padding) e = absurd (true≢false (sym e))
+        by-end (refuses n vs) e = refl

@@ -2,9 +2,11 @@
 use mathlib.Core.Path.{_≡_}
 use mathlib.Core.Bool.{Bool, true}
 use mathlib.Core.List.{List, map}
-use Prim.Native.Nat.{ℕ}
+use Prim.Native.Nat.{ℕ, _+_, _≤_}
 use lib.ListN.{length}
+use Rattle.numbers.specs.Numbers.{gives}
 use Rattle.numbers.specs.Firmness.{Firm}
+use Rattle.walking.specs.Steps.{passed}
 use Rattle.machines.specs.Machine.{those, run, remaining, gathered}
 use Rattle.machines.specs.Happened.{Asks, asks-for}
 use Rattle.table.specs.declared.Table.{Table}
@@ -21,6 +23,7 @@ use Rattle.captures.specs.HandedBack.{Arrived, arrivedIn}
 use Rattle.house.specs.declared.AfterRecord.{AfterRecord}
 use Rattle.house.specs.House.{House, houseOf, freshHouse, afterArrival, broughtOf, broughtBy, afterBrought, answerToBrought, outputAfter}
 use Rattle.house.specs.Story.{afterAll, afterOne, afterRecords, isHeard, messagesIn, eventsOfAll, callsFor, arrivedAs, repliesLeft}
+use Rattle.house.specs.Windows.{windowOf, fileAround, onwards}
 
 -- Rule A4: any two outcomes that the contract allows are one, in the answers, the tables, and every byte of the store and
 -- of the output.
@@ -64,9 +67,15 @@ pub record OwnFrames (out : ℕ → Bool) (room key : ℕ) (store store′ : Lis
   pub holds : holding key (record { table = afterAll room (freshHouse store) (map arrivedAs ps) .table; store = afterAll room (freshHouse store) (map arrivedAs ps) .store })
       ≡ holding key (ends (start store′) (mine key (crossed out (start store) (callsFor ps))))
 
+-- Rule H10: what a step finds in a window, it finds in the file, so many bytes further on, and it brings the same.
+pub record InWindow (header before part later : List ℕ) (at : ℕ) (c : Captured) (next : ℕ) : Type 0 where
+  pub same-step : fileStep (fileAround header before part later) (length before + at) ≡ gives (passed (onwards (length before) c) (length before + next))
+  pub same-brought : broughtOf (fileAround header before part later) (onwards (length before) c) ≡ broughtOf (windowOf header part) c
+
 -- everything that is claimed of this crate
 pub record Claims : Type 1 where
   pub firmness : Firmness
   pub the-story : (room : ℕ) (store : List ℕ) (xs : List Arrived) → TheStory room store xs
   pub filtered : (room : ℕ) (s : List ℕ) (z : House) (cs : List Captured) → Filtered room s z cs
   pub own-frames : (out : ℕ → Bool) → CoversRoom out → (room key : ℕ) (store store′ : List ℕ) → length store′ ≡ length store → (ps : List Push) → Each (LendsAll store room) ps → OwnFrames out room key store store′ ps
+  pub in-window : (header before part later : List ℕ) → length header ≡ 24 → (at : ℕ) → 24 ≤ at → (c : Captured) (next : ℕ) → fileStep (windowOf header part) at ≡ gives (passed c next) → InWindow header before part later at c next

@@ -1,3 +1,4 @@
 pub mod House
 pub mod Story
+pub mod Windows
 pub mod Claims

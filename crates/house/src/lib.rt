@@ -13,6 +13,7 @@ ghost use mathlib.Core.Path.{_≡_};
 ghost use mathlib.Core.List.{[], _∷_};
 ghost use Prim.Native.Nat.{_+_, _≤_, _<_};
 ghost use lib.ListN.{length};
+ghost use Rattle.numbers.specs.Numbers.{isGiven};
 ghost use Rattle.machines.specs.Machine.{run};
 ghost use Rattle.walking.specs.Walk.{walkOf};
 ghost use Rattle.stations.specs.Events.{tableFrom};
@@ -66,14 +67,24 @@ fn take_events(held: &mut Stations, message: &[u8])
     }
 }
 
+// Rule H3: whether a message walks to its end.
+fn walks(message: &[u8]) -> bool
+    ensures { λ r. ⌜ r ≡ isGiven (walkOf (now (message .entry)) .end) ⌝ }
+{
+    match walking::walk(message) {
+        Walked::Count {
+            count: _,
+            padding: _,
+        } => true,
+        Walked::Refused { refusal: _, at: _ } => false,
+    }
+}
+
 // Rule H3: the events of a message, if it walks to its end.
 fn take_message(held: &mut Stations, message: &[u8])
     ensures { λ _. ⌜ now (held .exit) ≡ afterMessage (now (held .entry)) (now (message .entry)) ⌝ }
 {
-    if let Walked::Count {
-        count: _,
-        padding: _,
-    } = walking::walk(message) {
+    if walks(message) {
         take_events(held, message);
     }
 }
