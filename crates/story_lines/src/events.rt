@@ -120,7 +120,7 @@ fn put_event(
     }
 }
 
-// The events of a message, told by stations that take them as the house's own did.
+// What the events of a message do, by stations that take them as the house's own did.
 pub(crate) fn put_events(
     text: &mut Answers,
     before: usize,
@@ -220,12 +220,14 @@ fn put_row(text: &mut Answers, before: usize, row: Listed) -> usize {
     }
 }
 
-pub(crate) fn put_stations(text: &mut Answers, before: usize, held: &Stations) -> usize {
+pub(crate) fn put_stations(text: &mut Answers, before: usize, held: &Stations) -> usize
+    ensures { λ r. ⌜ r ≤ 65536 ⌝ }
+{
     let mut used = before;
     let mut n: usize = 0;
     while n < STATIONS {
         used = put_row(text, used, stations::row(held, n));
         n += 1;
     }
-    used
+    answer_lines::with_room(text, used)
 }

@@ -17,8 +17,10 @@ use stations::Stations;
 use table::Table;
 use walking::Stepped;
 use walking::Walked;
+ghost use mathlib.Core.Path.{_≡_};
+ghost use Prim.Native.Nat.{_+_, _≤_};
 
-// What was written: where the text then ends, and how many messages and losses the lines tell (rule H9).
+// What was written: where the text then ends, and how many messages and losses the lines say (rule H9).
 pub struct Said {
     pub used: usize,
     pub messages: u64,
@@ -41,7 +43,9 @@ pub(crate) struct Heading {
     pub message_id: u16,
 }
 
-fn said_lost(used: usize) -> Said {
+fn said_lost(used: usize) -> Said
+    ensures { λ r. ⌜ (r .messages ≡ 0) × (r .losses ≡ 1) ⌝ }
+{
     Said {
         used,
         messages: 0,
@@ -75,7 +79,9 @@ pub(crate) fn put_heading(text: &mut Answers, before: usize, h: Heading) -> usiz
 }
 
 // A message that was lost, and why.
-fn put_lost(text: &mut Answers, used: usize, h: Heading, why: &[u8]) -> Said {
+fn put_lost(text: &mut Answers, used: usize, h: Heading, why: &[u8]) -> Said
+    ensures { λ r. ⌜ (r .messages ≡ 0) × (r .losses ≡ 1) ⌝ }
+{
     let a = put_heading(text, used, h);
     let b = answer_lines::put(text, a, b": lost, ");
     let c = answer_lines::put(text, b, why);
@@ -92,7 +98,9 @@ fn put_reason(text: &mut Answers, used: usize, refusal: Refusal) -> usize {
     }
 }
 
-fn put_refused(text: &mut Answers, used: usize, h: Heading, number: u8, refusal: Refusal) -> Said {
+fn put_refused(text: &mut Answers, used: usize, h: Heading, number: u8, refusal: Refusal) -> Said
+    ensures { λ r. ⌜ (r .messages ≡ 0) × (r .losses ≡ 1) ⌝ }
+{
     let a = put_heading(text, used, h);
     let b = answer_lines::put(text, a, b": fragment");
     let c = answer_lines::put_next(text, b, number as u64);
@@ -102,7 +110,9 @@ fn put_refused(text: &mut Answers, used: usize, h: Heading, number: u8, refusal:
 }
 
 // A message that is whole, and doesn't walk to its end.
-fn put_cut(text: &mut Answers, used: usize, h: Heading, refusal: Refusal, at: usize) -> Said {
+fn put_cut(text: &mut Answers, used: usize, h: Heading, refusal: Refusal, at: usize) -> Said
+    ensures { λ r. ⌜ (r .messages ≡ 0) × (r .losses ≡ 1) ⌝ }
+{
     let a = put_heading(text, used, h);
     let b = answer_lines::put(text, a, b": lost, a TLV is cut at");
     let c = answer_lines::put_next(text, b, at as u64);
@@ -174,7 +184,9 @@ fn put_whole(
     message: &[u8],
     seats: Stations,
     verbose: bool,
-) -> Said {
+) -> Said
+    ensures { λ r. ⌜ r .messages + r .losses ≡ 1 ⌝ }
+{
     match walking::walk(message) {
         Walked::Count {
             count: _,
@@ -193,7 +205,8 @@ fn put_whole(
     }
 }
 
-// What push answered to a frame (rule H7). The message is what it made whole, and the stations are as they were before.
+// What push answered to a frame (rule H7): at most one message is whole or lost. The message is what it made whole, and
+// the stations are as they were before.
 pub fn put_answer(
     text: &mut Answers,
     used: usize,
@@ -202,7 +215,9 @@ pub fn put_answer(
     message: &[u8],
     seats: Stations,
     verbose: bool,
-) -> Said {
+) -> Said
+    ensures { λ r. ⌜ r .messages + r .losses ≤ 1 ⌝ }
+{
     let h = heading_of(frame);
     let cmdu = frame.cmdu;
     let number = cmdu.fragment;
@@ -231,18 +246,24 @@ pub fn put_answer(
 }
 
 // The keys that a sweep at a frame's time drops, by their rows (rule H7), seen in the table before it.
-pub fn put_swept(text: &mut Answers, used: usize, t: Table, frame: Frame) -> Said {
+pub fn put_swept(text: &mut Answers, used: usize, t: Table, frame: Frame) -> Said
+    ensures { λ r. ⌜ r .messages ≡ 0 ⌝ }
+{
     let a = captures::arrival_of(frame);
     open::put_swept(text, used, t, a.time)
 }
 
 // The keys that are still open at the end, by their rows (rule H8).
-pub fn put_open(text: &mut Answers, used: usize, t: Table) -> Said {
+pub fn put_open(text: &mut Answers, used: usize, t: Table) -> Said
+    ensures { λ r. ⌜ r .messages ≡ 0 ⌝ }
+{
     open::put_open(text, used, t)
 }
 
 // What was counted (rule H9).
-pub fn put_counts(text: &mut Answers, before: usize, n: Counts) -> usize {
+pub fn put_counts(text: &mut Answers, before: usize, n: Counts) -> usize
+    ensures { λ r. ⌜ r ≤ 65536 ⌝ }
+{
     let used = answer_lines::with_room(text, before);
     let a = words::put_first_counted(text, used, n.frames, b"frame");
     let b = answer_lines::put(text, a, b",");
@@ -255,11 +276,15 @@ pub fn put_counts(text: &mut Answers, before: usize, n: Counts) -> usize {
 }
 
 // How many bytes are missing, after a blank.
-pub fn put_missing(text: &mut Answers, used: usize, n: u64) -> usize {
+pub fn put_missing(text: &mut Answers, used: usize, n: u64) -> usize
+    ensures { λ r. ⌜ r ≤ 65536 ⌝ }
+{
     words::put_missing(text, used, n)
 }
 
 // Where each station is, by its row (rule H9).
-pub fn put_stations(text: &mut Answers, used: usize, held: &Stations) -> usize {
+pub fn put_stations(text: &mut Answers, used: usize, held: &Stations) -> usize
+    ensures { λ r. ⌜ r ≤ 65536 ⌝ }
+{
     events::put_stations(text, used, held)
 }

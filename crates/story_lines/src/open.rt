@@ -8,6 +8,7 @@ use records::MacAddr;
 use table::KEYS;
 use table::PLACES;
 use table::Table;
+ghost use mathlib.Core.Path.{_≡_};
 
 // The fragments of an owner, 1 more than the row of a key: how many places they take, and the message type in the
 // lowest of these.
@@ -75,7 +76,9 @@ fn is_used(used: &[bool; KEYS], row: usize) -> bool {
 }
 
 // The keys that a sweep at this time drops.
-pub(crate) fn put_swept(text: &mut Answers, before: usize, t: Table, time: u64) -> Said {
+pub(crate) fn put_swept(text: &mut Answers, before: usize, t: Table, time: u64) -> Said
+    ensures { λ r. ⌜ r .messages ≡ 0 ⌝ }
+{
     let swept = sweeping::sweep_step(t, time);
     let after = swept.table;
     let mut used = before;
@@ -105,7 +108,9 @@ pub(crate) fn put_swept(text: &mut Answers, before: usize, t: Table, time: u64) 
 }
 
 // The keys that the table holds.
-pub(crate) fn put_open(text: &mut Answers, before: usize, t: Table) -> Said {
+pub(crate) fn put_open(text: &mut Answers, before: usize, t: Table) -> Said
+    ensures { λ r. ⌜ r .messages ≡ 0 ⌝ }
+{
     let mut used = before;
     let mut losses: u64 = 0;
     let mut row: usize = 0;

@@ -1,6 +1,7 @@
 // Times, addresses and counts as words.
 use answer_lines::Answers;
 use records::MacAddr;
+ghost use Prim.Native.Nat.{_≤_};
 
 // A number in two decimal digits.
 fn put_two(text: &mut Answers, used: usize, n: u64) -> usize {
@@ -63,7 +64,9 @@ pub(crate) fn put_first_counted(text: &mut Answers, used: usize, n: u64, what: &
 }
 
 // How many bytes are missing, after a blank.
-pub(crate) fn put_missing(text: &mut Answers, used: usize, n: u64) -> usize {
+pub(crate) fn put_missing(text: &mut Answers, used: usize, n: u64) -> usize
+    ensures { λ r. ⌜ r ≤ 65536 ⌝ }
+{
     let a = put_counted(text, used, n, b"byte");
     if n == 1 {
         return answer_lines::put(text, a, b" is missing");

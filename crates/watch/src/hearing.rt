@@ -1,4 +1,4 @@
-// The records of a window, heard and told, or only looked at.
+// The records of a window, heard and printed, or only looked at.
 use answer_lines::Answers;
 use captures::Frame;
 use captures::Reached;
@@ -28,7 +28,7 @@ pub(crate) struct Watch {
     pub verbose: bool,
 }
 
-// After a record: what is told, and what the step over the record went over.
+// After a record: what is printed, and what the step over the record went over.
 struct Heard {
     watch: Watch,
     reached: Reached,
@@ -63,7 +63,7 @@ fn with_other(n: Counts) -> Counts {
     }
 }
 
-// What is told: the counts, and where the text ends.
+// What is printed: the counts, and where the text ends.
 struct Lines {
     counts: Counts,
     used: usize,
@@ -124,7 +124,7 @@ fn put_record<'a>(
     }
 }
 
-// The record at `at` of a window, heard and told.
+// The record at `at` of a window, heard and printed.
 fn told_record(
     w: Watch,
     window: &[u8],
@@ -155,13 +155,13 @@ fn told_record(
     Heard { watch, reached }
 }
 
-// What is told after the records of a window, and where these stop.
+// What is printed after the records of a window, and where these stop.
 pub(crate) struct Told {
     pub watch: Watch,
     pub stopped: Stopped,
 }
 
-// The records of a window from `from` on, heard and told.
+// The records of a window from `from` on, heard and printed.
 pub(crate) fn told_window(
     w: Watch,
     window: &[u8],

@@ -21,7 +21,7 @@ use window::WINDOW;
 use window::Window;
 ghost use Rattle.pushing.specs.Made.{Made};
 
-// What is told so far, where the window stands, and whether the file has ended.
+// What is printed so far, where the window stands, and whether the file has ended.
 struct Turned {
     watch: Watch,
     window: Window,
@@ -77,7 +77,7 @@ fn turn_long(
     }
 }
 
-// The records of the window are told, and the window goes on. The file has no fault: the first pass saw to it.
+// The records of the window are printed, and the window goes on. The file has no fault: the first pass saw to it.
 fn turn(
     t: Turned,
     room: &mut Room,
@@ -116,7 +116,7 @@ fn turn(
     }
 }
 
-// The whole file is told. A proved loop has to end, and nothing says that a file does: so it counts its turns.
+// The whole file is printed. A proved loop has to end, and nothing says that a file does: so it counts its turns.
 fn told_file(
     verbose: bool,
     room: &mut Room,
@@ -143,7 +143,7 @@ fn told_file(
     t.watch
 }
 
-// What is told at the end (rules H8 and H9).
+// What is printed at the end (rules H8 and H9).
 fn put_end(w: Watch, held: &Stations, text: &mut Answers) {
     let table = w.table;
     let n = w.counts;

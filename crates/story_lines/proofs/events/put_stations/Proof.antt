@@ -1,6 +1,7 @@
 -- `put_stations` is safe and ends.
 use borrow.Author.Needs.{needs}
 use Prim.Native.Nat.{_-_}
+use native.Mathlib.Omega.{arith}
 use Rattle.story_lines.proofs.events.put_stations.Statement.{statement}
 use Rattle.story_lines.proofs.events.put_stations.Tie as tie
 
@@ -22,4 +23,5 @@ put-stations-spec =
     (λ c. search needs)
     (λ c. search needs)
     (λ c. search needs)
-    (λ c. search needs))
+    (λ c. search needs)
+    (λ c. omega (arith, c .with-room .ensures)))
