@@ -1,6 +1,5 @@
 // What the events of a message do (rule H7), and where each station is (rule H9).
 use crate::tlv_names;
-use crate::words;
 use answer_lines::Answers;
 use records::MacAddr;
 use stations::Applied;
@@ -11,8 +10,7 @@ use stations::Stations;
 use stations::Where;
 use walking::Stepped;
 use walking::Tlv;
-ghost use Prim.Native.Nat.{_+_, _≤_};
-ghost use lib.ListN.{length};
+ghost use Prim.Native.Nat.{_≤_};
 
 // The TLV type of an event (rule P6).
 const EVENT: u8 = 0x92;
@@ -27,41 +25,17 @@ fn part(s: &[u8], start: usize, end: usize) -> &[u8] {
     &s[..0]
 }
 
-// The address in the six bytes from `at` on; zeros where they aren't there.
-fn address_at(s: &[u8], at: usize) -> MacAddr
-    requires { ⌜ at ≤ 64 ⌝ }
-{
-    if s.len() < at + 6 {
-        return MacAddr {
-            b0: 0,
-            b1: 0,
-            b2: 0,
-            b3: 0,
-            b4: 0,
-            b5: 0,
-        };
-    }
-    MacAddr {
-        b0: s[at],
-        b1: s[at + 1],
-        b2: s[at + 2],
-        b3: s[at + 3],
-        b4: s[at + 4],
-        b5: s[at + 5],
-    }
-}
-
 // The words, an address, and the line's end.
 fn put_place(text: &mut Answers, used: usize, words_before: &[u8], point: MacAddr) -> usize {
     let a = answer_lines::put(text, used, words_before);
-    let b = words::put_address(text, a, point);
+    let b = field_lines::put_address(text, a, point);
     answer_lines::put(text, b, b"\n")
 }
 
 // A stale leave, and where the station is if it is held.
 fn put_stale(text: &mut Answers, used: usize, point: MacAddr, seat: Where) -> usize {
     let a = answer_lines::put(text, used, b" stale leave from ");
-    let b = words::put_address(text, a, point);
+    let b = field_lines::put_address(text, a, point);
     match seat {
         Where::At(held) => put_place(text, b, b", it is at ", held),
         Where::Nowhere => answer_lines::put(text, b, b"\n"),
@@ -74,12 +48,12 @@ fn put_done(text: &mut Answers, used: usize, heard: Heard, point: MacAddr, seat:
         Heard::New => put_place(text, used, b" placed at ", point),
         Heard::Moved { from } => {
             let a = answer_lines::put(text, used, b" moved from ");
-            let b = words::put_address(text, a, from);
+            let b = field_lines::put_address(text, a, from);
             put_place(text, b, b" to ", point)
         }
         Heard::There => {
             let a = answer_lines::put(text, used, b" at ");
-            let b = words::put_address(text, a, point);
+            let b = field_lines::put_address(text, a, point);
             answer_lines::put(text, b, b" already\n")
         }
         Heard::Removed => put_place(text, used, b" removed from ", point),
@@ -91,9 +65,9 @@ fn put_done(text: &mut Answers, used: usize, heard: Heard, point: MacAddr, seat:
 fn put_refused(text: &mut Answers, used: usize, value: &[u8], number: u8) -> usize {
     if number == 17 {
         let a = answer_lines::put(text, used, b"  station ");
-        let b = words::put_address(text, a, address_at(value, 0));
+        let b = field_lines::put_address(text, a, field_lines::first_address(value));
         let c = answer_lines::put(text, b, b" refused at ");
-        let d = words::put_address(text, c, address_at(value, 6));
+        let d = field_lines::put_address(text, c, field_lines::second_address(value));
         return answer_lines::put(text, d, b": 128 stations are held (17)\n");
     }
     let a = answer_lines::put(text, used, b"  an event that is not readable (");
@@ -113,8 +87,8 @@ fn put_event(
     match applied {
         Applied::Heard { heard, consumed: _ } => {
             let a = answer_lines::put(text, used, b"  station ");
-            let b = words::put_address(text, a, address_at(value, 0));
-            put_done(text, b, heard, address_at(value, 6), seat)
+            let b = field_lines::put_address(text, a, field_lines::first_address(value));
+            put_done(text, b, heard, field_lines::second_address(value), seat)
         }
         Applied::Refused(refusal) => { put_refused(text, used, value, numbers::number_of(refusal)) }
     }
@@ -136,7 +110,7 @@ pub(crate) fn put_events(
                 if tlv.tlv_type == EVENT {
                     let value = part(message, value_start(tlv), next);
                     let applied = stations::event_from(&mut held, value);
-                    let seat = stations::where_is(&held, address_at(value, 0));
+                    let seat = stations::where_is(&held, field_lines::first_address(value));
                     used = put_event(text, used, value, applied, seat);
                 }
                 at = next;
@@ -165,16 +139,7 @@ fn put_field(text: &mut Answers, before: usize, tlv_type: u8, value: &[u8]) -> u
     let a = answer_lines::put(text, used, b"    ");
     let b = tlv_names::put_tlv_name(text, a, tlv_type);
     let c = answer_lines::put(text, b, b":");
-    if 6 <= value.len() {
-        if tlv_type == 1 {
-            return put_place(text, c, b" ", address_at(value, 0));
-        }
-        if tlv_type == 2 {
-            return put_place(text, c, b" ", address_at(value, 0));
-        }
-    }
-    let d = words::put_counted(text, c, value.len() as u64, b"byte");
-    answer_lines::put(text, d, b"\n")
+    field_lines::put_said(text, c, tlv_type, value)
 }
 
 // The fields of each TLV of a message, if they are wanted.
@@ -213,7 +178,7 @@ fn put_row(text: &mut Answers, before: usize, row: Listed) -> usize {
     let used = answer_lines::with_room(text, before);
     match row {
         Listed::Occupied { station, point } => {
-            let a = words::put_address(text, used, station);
+            let a = field_lines::put_address(text, used, station);
             put_place(text, a, b" is at ", point)
         }
         Listed::Free => used,

@@ -6,7 +6,6 @@ mod events;
 mod message_names;
 mod open;
 mod tlv_names;
-mod words;
 
 use answer_lines::Answers;
 use captures::Frame;
@@ -69,9 +68,9 @@ fn heading_of(frame: Frame) -> Heading {
 pub(crate) fn put_heading(text: &mut Answers, before: usize, h: Heading) -> usize {
     let used = answer_lines::with_room(text, before);
     let sender = h.sender;
-    let a = words::put_time(text, used, h.time);
+    let a = field_lines::put_time(text, used, h.time);
     let b = answer_lines::put(text, a, b" ");
-    let c = words::put_address(text, b, sender);
+    let c = field_lines::put_address(text, b, sender);
     let d = answer_lines::put(text, c, b" ");
     let e = message_names::put_message_name(text, d, h.message_type);
     let f = answer_lines::put(text, e, b", id");
@@ -117,7 +116,7 @@ fn put_cut(text: &mut Answers, used: usize, h: Heading, refusal: Refusal, at: us
     let b = answer_lines::put(text, a, b": lost, a TLV is cut at");
     let c = answer_lines::put_next(text, b, at as u64);
     let d = answer_lines::put(text, c, b",");
-    let e = words::put_missing(text, d, numbers::carried_by(refusal) as u64);
+    let e = field_lines::put_missing(text, d, numbers::carried_by(refusal) as u64);
     said_lost(answer_lines::put(text, e, b"\n"))
 }
 
@@ -164,7 +163,7 @@ fn put_message(
 ) -> usize {
     let a = put_heading(text, used, h);
     let b = answer_lines::put(text, a, b",");
-    let c = words::put_counted(text, b, fragments, b"fragment");
+    let c = field_lines::put_counted(text, b, fragments, b"fragment");
     let d = answer_lines::put(text, c, b": ");
     let e = if message.len() == 0 {
         answer_lines::put(text, d, b"nothing")
@@ -265,21 +264,14 @@ pub fn put_counts(text: &mut Answers, before: usize, n: Counts) -> usize
     ensures { λ r. ⌜ r ≤ 65536 ⌝ }
 {
     let used = answer_lines::with_room(text, before);
-    let a = words::put_first_counted(text, used, n.frames, b"frame");
+    let a = field_lines::put_first_counted(text, used, n.frames, b"frame");
     let b = answer_lines::put(text, a, b",");
-    let c = words::put_counted(text, b, n.others, b"other");
+    let c = field_lines::put_counted(text, b, n.others, b"other");
     let d = answer_lines::put(text, c, b" passed over,");
-    let e = words::put_counted(text, d, n.messages, b"message");
+    let e = field_lines::put_counted(text, d, n.messages, b"message");
     let f = answer_lines::put(text, e, b",");
     let g = answer_lines::put_next(text, f, n.losses);
     answer_lines::put(text, g, b" lost\n")
-}
-
-// How many bytes are missing, after a blank.
-pub fn put_missing(text: &mut Answers, used: usize, n: u64) -> usize
-    ensures { λ r. ⌜ r ≤ 65536 ⌝ }
-{
-    words::put_missing(text, used, n)
 }
 
 // Where each station is, by its row (rule H9).

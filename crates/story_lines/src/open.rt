@@ -2,7 +2,6 @@
 use crate::Heading;
 use crate::Said;
 use crate::put_heading;
-use crate::words;
 use answer_lines::Answers;
 use records::MacAddr;
 use table::KEYS;
@@ -64,7 +63,7 @@ fn put_row(text: &mut Answers, used: usize, t: Table, row: usize, time: u64, why
     };
     let a = put_heading(text, used, h);
     let b = answer_lines::put(text, a, why);
-    let c = words::put_counted(text, b, kept.count, b"fragment");
+    let c = field_lines::put_counted(text, b, kept.count, b"fragment");
     answer_lines::put(text, c, b"\n")
 }
 

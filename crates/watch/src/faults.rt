@@ -22,7 +22,7 @@ pub(crate) fn is_fault(fault: Fault) -> bool {
 // How many bytes are missing, and the number of the refusal.
 fn put_cut(text: &mut Answers, used: usize, missing: u64) -> usize {
     let a = answer_lines::put(text, used, b" is cut,");
-    let b = story_lines::put_missing(text, a, missing);
+    let b = field_lines::put_missing(text, a, missing);
     answer_lines::put(text, b, b" (2)\n")
 }
 
