@@ -87,7 +87,7 @@ fn places_filled(answer: Cutting) -> usize
 }
 
 // Walks the message once. At every step `ends` has the ends of the fragments that are full, and then where the open one
-// ends so far.
+// ends so far. Its arms change `ends` or leave the loop with it, so they stand here together, in 46 lines.
 pub(crate) fn plan(message: &[u8], room: usize) -> Planned
     ensures { λ r. ⌜ Plans (now (message .entry)) room (r .count) (r .ends) (cuttingOf (r .answer)) ⌝ }
 {
