@@ -1,6 +1,8 @@
 // The hot calls for C (rule C1): each is a thin shell over the layer's own call. Its answer crosses in numbers, as
 // `c_answers`, `c_stations`, `c_records`, `c_links`, `c_captures` or `c_entries` says, or is such a struct from the
 // start, as an entry's fields are.
+#![tactic(auto)]
+
 use c_answers::{
     AshlarChecked, AshlarCutting, AshlarFound, AshlarHeader, AshlarKind, AshlarPart, AshlarPushed,
     AshlarShown, AshlarStep, AshlarWalk,

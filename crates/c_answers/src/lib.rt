@@ -1,5 +1,7 @@
 // What the calls about TLVs, kinds and fragments answer, as it crosses to C (rule C1): plain structs, in the numbers of
 // part N. `refusal` is 0 where nothing is refused.
+#![tactic(auto)]
+
 ghost use Rattle.std.specs.Prelude.{◌≡◌, ◌∷◌};
 ghost use Rattle.numbers.specs.Numbers.{refuses, told, number, values};
 ghost use Rattle.framing.specs.Cmdu.{header_of_lem};
@@ -24,7 +26,7 @@ use walking::{Stepped, Tlv, Walked};
 // The header of a CMDU (rule B6). Its fields stand in their order, after the shortfall: how many bytes are missing
 // where it is refused. `last` is bit 7 of `flags`.
 #[repr(C)]
-#[derive(Drop)]
+#[derive(Clone, Copy)]
 pub struct AshlarHeader {
     pub shortfall: usize,
     pub version: u8,
@@ -40,7 +42,7 @@ pub struct AshlarHeader {
 // How many TLVs a payload has, and how many bytes of padding follow them (rule W3). Where the walk refuses, the offset
 // of the TLV, and how many bytes are missing (rule W4).
 #[repr(C)]
-#[derive(Drop)]
+#[derive(Clone, Copy)]
 pub struct AshlarWalk {
     pub count: usize,
     pub padding: usize,
@@ -53,7 +55,7 @@ pub struct AshlarWalk {
 // and where the padding starts; 0 where it is refused. Then the TLV's offset is where it stands, and so many bytes are
 // missing.
 #[repr(C)]
-#[derive(Drop)]
+#[derive(Clone, Copy)]
 pub struct AshlarStep {
     pub tlv: Tlv,
     pub next: usize,
@@ -65,7 +67,7 @@ pub struct AshlarStep {
 // How many entries the value's own list has, if its kind is a list kind or holds text (rule K1); the radios are the
 // list of such a value. A record kind has fields and no entries.
 #[repr(C)]
-#[derive(Drop)]
+#[derive(Clone, Copy)]
 pub struct AshlarKind {
     pub entries: usize,
     pub consumed: usize,
@@ -77,7 +79,7 @@ pub struct AshlarKind {
 // How many records were looked at (rule F1): the place of the one that was found, counted from 1, or the list's length
 // for 15. What its value reads as is for `ashlar_read_kind` to say, so that this answer fits two registers.
 #[repr(C)]
-#[derive(Drop)]
+#[derive(Clone, Copy)]
 pub struct AshlarFound {
     pub looked: usize,
     pub refusal: u8,
@@ -85,7 +87,7 @@ pub struct AshlarFound {
 
 // Where a part of a value lies, a text or a radio (rules E7 and E8): `length` bytes from `start` on.
 #[repr(C)]
-#[derive(Drop)]
+#[derive(Clone, Copy)]
 pub struct AshlarPart {
     pub start: usize,
     pub length: usize,
@@ -96,7 +98,7 @@ pub struct AshlarPart {
 // message that is the payload itself, 7 a message in the output; 0 where it is refused. `length` is the message's, or
 // the one that refusal 13 carries.
 #[repr(C)]
-#[derive(Drop)]
+#[derive(Clone, Copy)]
 pub struct AshlarPushed {
     pub length: usize,
     pub answer: u8,
@@ -105,7 +107,7 @@ pub struct AshlarPushed {
 
 // Where a message lies (rule T10): in the output, or in the payload that was pushed. It is the first `length` bytes.
 #[repr(C)]
-#[derive(Drop)]
+#[derive(Clone, Copy)]
 pub struct AshlarShown {
     pub length: usize,
     pub in_output: bool,
@@ -114,7 +116,7 @@ pub struct AshlarShown {
 // Whether fragments are a cutting of a message (rule M4). Where the message is refused they aren't, and the offset and
 // the shortfall are the walk's.
 #[repr(C)]
-#[derive(Drop)]
+#[derive(Clone, Copy)]
 pub struct AshlarChecked {
     pub at: usize,
     pub shortfall: usize,
@@ -125,7 +127,7 @@ pub struct AshlarChecked {
 // Into how many fragments a message is cut (rule M5). Where the walk refuses the message, the offset and the shortfall
 // are the walk's.
 #[repr(C)]
-#[derive(Drop)]
+#[derive(Clone, Copy)]
 pub struct AshlarCutting {
     pub count: usize,
     pub at: usize,

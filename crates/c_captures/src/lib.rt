@@ -1,5 +1,7 @@
 // What the calls about captures answer (part G), as it crosses to C (rule C5): plain structs, in numbers. A frame crosses
 // as it is.
+#![tactic(auto)]
+
 ghost use Rattle.std.specs.Prelude.{◌≡◌};
 ghost use Rattle.framing.specs.Tlv.{written_of};
 ghost use Rattle.captures.specs.Reading.{reached_of, file_checked_of};
@@ -10,7 +12,7 @@ use framing::Written;
 
 // How many bytes were written (rules B7 and G5).
 #[repr(C)]
-#[derive(Drop)]
+#[derive(Clone, Copy)]
 pub struct AshlarWritten {
     pub length: usize,
     pub refusal: u8,
@@ -19,7 +21,7 @@ pub struct AshlarWritten {
 // What a step goes over (rule G7): 1 no byte is left, 2 a 1905 frame, 3 another; 0 where it is refused. The next step
 // starts at `next`. For refusal 2 the shortfall is how many bytes are missing.
 #[repr(C)]
-#[derive(Drop)]
+#[derive(Clone, Copy)]
 pub struct AshlarReached {
     pub frame: Frame,
     pub next: usize,
@@ -30,7 +32,7 @@ pub struct AshlarReached {
 
 // How many 1905 frames a capture holds, and how many others (rule G6). For refusal 2, how many bytes are missing.
 #[repr(C)]
-#[derive(Drop)]
+#[derive(Clone, Copy)]
 pub struct AshlarCapture {
     pub frames: usize,
     pub others: usize,

@@ -1,5 +1,7 @@
 // What the calls about entries answer (rules E3 and E9), as it crosses to C (rule C1): plain structs, in numbers. A
 // cursor crosses as it is.
+#![tactic(auto)]
+
 ghost use Rattle.std.specs.Prelude.{◌≡◌};
 ghost use Rattle.layouts.specs.Access.{counted_of};
 ghost use Rattle.entries.specs.Entries.{begun_of, gone_on_lem, went_of};
@@ -11,7 +13,7 @@ use layouts::Counted;
 // The entries of a value begun (rule E9): the cursor at the first one, how many entries the outermost list has, and how
 // many bytes were consumed and follow these. Where it is refused, nothing is left to the cursor.
 #[repr(C)]
-#[derive(Drop)]
+#[derive(Clone, Copy)]
 pub struct AshlarBegun {
     pub cursor: Cursor,
     pub entries: usize,
@@ -23,7 +25,7 @@ pub struct AshlarBegun {
 // What going on gives (rule E9): 1 no entry is left, 2 an entry; 0 where it is refused. The entry starts at `start`,
 // its own list has `entries` entries, and its level counts from 1.
 #[repr(C)]
-#[derive(Drop)]
+#[derive(Clone, Copy)]
 pub struct AshlarEntry {
     pub start: usize,
     pub entries: usize,
@@ -33,7 +35,7 @@ pub struct AshlarEntry {
 }
 
 // The same with the cursor after it. It doesn't cross: C's own cursor is altered.
-#[derive(Drop)]
+#[derive(Clone, Copy)]
 pub struct AfterStep {
     pub cursor: Cursor,
     pub entry: AshlarEntry,
@@ -41,7 +43,7 @@ pub struct AfterStep {
 
 // How many entries a list has (rule E3).
 #[repr(C)]
-#[derive(Drop)]
+#[derive(Clone, Copy)]
 pub struct AshlarCount {
     pub entries: usize,
     pub refusal: u8,

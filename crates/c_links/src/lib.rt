@@ -1,5 +1,7 @@
 // What the calls about link reports answer (part Q), as it crosses to C (rule C4): a plain struct, in numbers. Two such
 // structs come back to be made into one.
+#![tactic(auto)]
+
 ghost use Rattle.std.specs.Prelude.{◌≡◌};
 ghost use Rattle.links.specs.Pairs.{link_code};
 ghost use Rattle.links.specs.Reports.{reported_of};
@@ -11,7 +13,7 @@ use numbers::Refusal;
 // A report over `count` pairs of kind 9 or 10 (rule Q4). The lowest signal strength is `low` where `has_low` says that
 // there is one, and 0 otherwise; in C the two are called `lowest` and `has_lowest`.
 #[repr(C)]
-#[derive(Drop)]
+#[derive(Clone, Copy)]
 pub struct AshlarReport {
     pub errors: u64,
     pub packets: u64,

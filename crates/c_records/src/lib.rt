@@ -1,6 +1,8 @@
 // The record kinds (rule K2) as they cross to C, by their fields (rule C6): plain structs of five shapes, as they are
 // read and as they are to be written. `refusal` is 0 where nothing is refused; otherwise every other field is 0 or
 // false.
+#![tactic(auto)]
+
 use numbers::Refusal;
 use records::{MacAddr, Record};
 
@@ -17,7 +19,7 @@ pub use writing::{
 
 // A query for link metrics. `neighbor` is there only if `has_neighbor` says so, and 0 otherwise.
 #[repr(C)]
-#[derive(Drop)]
+#[derive(Clone, Copy)]
 pub struct AshlarQuery {
     pub neighbor: MacAddr,
     pub neighbor_type: u8,
@@ -27,7 +29,7 @@ pub struct AshlarQuery {
 
 // A station joined an access point, or left it (rule K5).
 #[repr(C)]
-#[derive(Drop)]
+#[derive(Clone, Copy)]
 pub struct AshlarAssociation {
     pub station: MacAddr,
     pub point: MacAddr,
@@ -36,7 +38,7 @@ pub struct AshlarAssociation {
 
 // A capability, with its reserved byte and bits (rule K6). The units are 0 bytes, 1 KiB, 2 MiB, 3 reserved.
 #[repr(C)]
-#[derive(Drop)]
+#[derive(Clone, Copy)]
 pub struct AshlarCapability {
     pub max_prioritization_rules: u8,
     pub reserved: u8,
@@ -50,7 +52,7 @@ pub struct AshlarCapability {
 
 // A value of kind 1 or 2, as it was read.
 #[repr(C)]
-#[derive(Drop)]
+#[derive(Clone, Copy)]
 pub struct AshlarAddressRead {
     pub consumed: usize,
     pub rest: usize,
@@ -60,7 +62,7 @@ pub struct AshlarAddressRead {
 
 // A value of kind 12, 13, 15, 16, 26 or 0xB3, as it was read. `reserved`: the byte has no name (rule K5).
 #[repr(C)]
-#[derive(Drop)]
+#[derive(Clone, Copy)]
 pub struct AshlarByteRead {
     pub consumed: usize,
     pub rest: usize,
@@ -71,7 +73,7 @@ pub struct AshlarByteRead {
 
 // A value of kind 8, as it was read.
 #[repr(C)]
-#[derive(Drop)]
+#[derive(Clone, Copy)]
 pub struct AshlarQueryRead {
     pub consumed: usize,
     pub rest: usize,
@@ -81,7 +83,7 @@ pub struct AshlarQueryRead {
 
 // A value of kind 0x92, as it was read, with the byte that says joined or left.
 #[repr(C)]
-#[derive(Drop)]
+#[derive(Clone, Copy)]
 pub struct AshlarAssociationRead {
     pub consumed: usize,
     pub rest: usize,
@@ -92,7 +94,7 @@ pub struct AshlarAssociationRead {
 
 // A value of kind 0xB4, as it was read, with the byte that holds units, flags and reserved bits.
 #[repr(C)]
-#[derive(Drop)]
+#[derive(Clone, Copy)]
 pub struct AshlarCapabilityRead {
     pub consumed: usize,
     pub rest: usize,
@@ -103,7 +105,7 @@ pub struct AshlarCapabilityRead {
 
 // What a record holds for C: the fields of one of the five shapes, with the raw byte beside a named value. The end
 // marker holds nothing.
-#[derive(Drop)]
+#[derive(Clone, Copy)]
 pub(crate) enum Shape {
     Nothing,
     Address(MacAddr),
@@ -123,7 +125,7 @@ pub(crate) enum Shape {
 }
 
 // The record that a C caller's fields mean, or why they mean none.
-#[derive(Drop)]
+#[derive(Clone, Copy)]
 pub enum Meant {
     Record(Record),
     Refused(Refusal),

@@ -1,5 +1,7 @@
 // What the calls of the station table answer (part P), as it crosses to C (rule C1): plain structs, in numbers. An
 // address crosses as it is: in C it is an array of its six bytes.
+#![tactic(auto)]
+
 ghost use Rattle.std.specs.Prelude.{◌≡◌};
 ghost use Rattle.stations.specs.Events.{answered_of, applied_of};
 ghost use Rattle.c_stations.specs.Numbers.{association_with_lem, no_address_lem, heard_as_lem, heard_numbers_lem, refused_as_lem, event_numbers_lem, applied_numbers_lem, where_numbers_lem, row_numbers_lem};
@@ -10,7 +12,7 @@ use stations::{Applied, EventAnswer, Heard, Listed, Where};
 // What an event did (rules P2 and P3): 1 placed, 2 moved, 3 the same, 4 removed, 5 stale; 0 where it is refused. With 2
 // comes the access point where the station was.
 #[repr(C)]
-#[derive(Drop)]
+#[derive(Clone, Copy)]
 pub struct AshlarHeard {
     pub from: MacAddr,
     pub answer: u8,
@@ -19,7 +21,7 @@ pub struct AshlarHeard {
 
 // The same for an event that was read from a value (rule P6): how many bytes the event took, and how many follow.
 #[repr(C)]
-#[derive(Drop)]
+#[derive(Clone, Copy)]
 pub struct AshlarApplied {
     pub consumed: usize,
     pub rest: usize,
@@ -28,7 +30,7 @@ pub struct AshlarApplied {
 
 // The access point at which a station is, if it is held (rule P7).
 #[repr(C)]
-#[derive(Drop)]
+#[derive(Clone, Copy)]
 pub struct AshlarAt {
     pub point: MacAddr,
     pub held: bool,
@@ -36,7 +38,7 @@ pub struct AshlarAt {
 
 // A row of the table, if it holds a station (rule P7).
 #[repr(C)]
-#[derive(Drop)]
+#[derive(Clone, Copy)]
 pub struct AshlarRow {
     pub station: MacAddr,
     pub point: MacAddr,

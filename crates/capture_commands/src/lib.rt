@@ -1,4 +1,6 @@
 // The commands of captures (part G of docs/RULES.md): H and F, which write, and R, which reads.
+#![tactic(auto)]
+
 mod listing;
 
 ghost use Rattle.std.specs.Prelude.{◌≤◌};

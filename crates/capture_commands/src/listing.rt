@@ -5,7 +5,7 @@ ghost use Rattle.captures.specs.Reading.{file_checked_of, frames_counted, captur
 use captures::{FileChecked, Frame};
 
 // What a list holds after a capture was read into it, and the answer.
-#[derive(Drop)]
+#[derive(Clone, Copy)]
 pub(crate) struct ListedFrames {
     pub(crate) frames: [Frame; 40],
     pub(crate) checked: FileChecked,

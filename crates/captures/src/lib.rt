@@ -1,5 +1,6 @@
 // Captures in the classic pcap file form, which an analyser opens (rules G1 to G10): pushed fragments written as frames
 // of a capture, and the 1905 frames of a capture read.
+#![tactic(auto)]
 
 mod reading;
 mod writing;
@@ -24,7 +25,7 @@ const SECONDS_END: u64 = 4294967296;
 // A 1905 frame of a capture (rules G4 and G7): when it was seen, as the file says; who sent it; its CMDU header; and
 // where its payload lies in the file.
 #[repr(C)]
-#[derive(Drop)]
+#[derive(Clone, Copy)]
 pub struct Frame {
     pub seconds: u32,
     pub microseconds: u32,
@@ -36,7 +37,7 @@ pub struct Frame {
 
 // What a step goes over (rule G7): nothing, as no byte is left; a 1905 frame, or another one, which is passed over, and
 // where the next step starts.
-#[derive(Drop)]
+#[derive(Clone, Copy)]
 pub enum Reached {
     FileEnd,
     Ours { frame: Frame, next: usize },
@@ -45,7 +46,7 @@ pub enum Reached {
 }
 
 // What a capture holds (rule G6): how many 1905 frames, and how many others, which are passed over.
-#[derive(Drop)]
+#[derive(Clone, Copy)]
 pub enum FileChecked {
     Capture { frames: usize, others: usize },
     Refused(Refusal),
@@ -125,7 +126,7 @@ pub fn check(file: &[u8]) -> FileChecked
 }
 
 // A frame that is handed back, and where the next step starts.
-#[derive(Drop)]
+#[derive(Clone, Copy)]
 struct Handed {
     frame: Frame,
     next: usize,
@@ -190,7 +191,7 @@ fn next_frame(file: &[u8], from: usize) -> Handed
 }
 
 // What is answered with a list of `room` elements, and how many elements are filled (rule G8).
-#[derive(Drop)]
+#[derive(Clone, Copy)]
 struct Planned {
     count: usize,
     answer: FileChecked,

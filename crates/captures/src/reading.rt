@@ -18,7 +18,7 @@ const MAGIC: usize = 0xA1B2C3D4;
 const ETHER_TYPE: usize = 0x893A;
 
 // The byte order of a capture: highest byte first, or lowest.
-#[derive(Drop)]
+#[derive(Clone, Copy)]
 pub(crate) enum Ordered {
     Is(bool),
     Refused(Refusal),

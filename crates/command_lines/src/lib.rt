@@ -1,6 +1,8 @@
 // Reading a command: its fields, numbers, and bytes written as hex pairs and repeats. A line that is too long, or has
 // too many bytes, counts as an empty one, which is no command. Any other line that is no command gets some answer. No
 // such line is ever generated.
+#![tactic(auto)]
+
 ghost use Rattle.std.specs.Prelude.{◌≡◌, ◌+◌, ◌-◌, ◌%◌, ◌<◌, ◌≤◌, min, length, drop, pos, neg_ℤ, slice_index, slice_range};
 ghost use Rattle.command_lines.specs.Decimal.{with_digit_lem, number_of, signed_of, nearest};
 ghost use Rattle.command_lines.specs.Fields.{field_in, past_first};

@@ -14,7 +14,7 @@ pub(crate) const MOST_FRAGMENTS: usize = 9;
 
 // The open fragment: how many bytes it holds, and how many fragments stand before it. `fits` says whether there was a
 // fragment for every TLV so far. Where there was none, the rest is not to be used.
-#[derive(Drop)]
+#[derive(Clone, Copy)]
 pub(crate) struct Open {
     used: usize,
     before: usize,
@@ -72,7 +72,7 @@ fn answer_for(current: Open, padding: usize, room: usize) -> Cutting
 }
 
 // What the cutter answers, and how many of the ends that were found go into the list.
-#[derive(Drop)]
+#[derive(Clone, Copy)]
 pub(crate) struct Planned {
     pub(crate) count: usize,
     pub(crate) ends: [usize; MOST_FRAGMENTS],

@@ -11,7 +11,7 @@ use numbers::Refusal;
 use walking::Walked;
 
 // What is said of a message alone (rule M1): it is whole TLVs, the walk refuses it, or bytes follow the marker.
-#[derive(Drop)]
+#[derive(Clone, Copy)]
 pub(crate) enum Own {
     Whole,
     Unwalked { refusal: Refusal, at: usize },
@@ -180,7 +180,7 @@ fn is_count(count: usize) -> bool
 
 // How far the fragments go so far: what is said of the message alone, how many fragments there are, how many were
 // followed, where the next one begins in the message, the first of them, and whether all were sound.
-#[derive(Drop)]
+#[derive(Clone, Copy)]
 pub(crate) struct Reached {
     own: Own,
     count: usize,

@@ -1,4 +1,5 @@
 // How a message is cut into fragments (rules M1 to M5): a checker of what others cut, and a cutter.
+#![tactic(auto)]
 
 mod filling;
 mod following;
@@ -15,7 +16,7 @@ use numbers::Refusal;
 // A fragment that is proposed (rule M2). Its payload is the part of the lent payloads that begins at `start` and has
 // `length` bytes.
 #[repr(C)]
-#[derive(Drop)]
+#[derive(Clone, Copy)]
 pub struct Proposed {
     pub version: u8,
     pub message_type: u16,
@@ -28,7 +29,7 @@ pub struct Proposed {
 
 // Whether the fragments are a cutting of the message (rule M4), or why the message itself is refused. A walk's refusal
 // comes with the offset of the TLV that failed.
-#[derive(Drop)]
+#[derive(Clone, Copy)]
 pub enum Checked {
     Accepted,
     NotAccepted,
@@ -37,7 +38,7 @@ pub enum Checked {
 }
 
 // Into how many fragments the message is cut (rule M5), or why it isn't.
-#[derive(Drop)]
+#[derive(Clone, Copy)]
 pub enum Cutting {
     Into(usize),
     Unwalked { refusal: Refusal, at: usize },

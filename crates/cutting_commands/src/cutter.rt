@@ -10,7 +10,7 @@ use cutting::Cutting;
 const MOST: usize = 16;
 
 // What the cutter answers, and what the list then holds.
-#[derive(Drop)]
+#[derive(Clone, Copy)]
 struct Ends {
     ends: [usize; MOST],
     answer: Cutting,

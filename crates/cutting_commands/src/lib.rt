@@ -1,4 +1,6 @@
 // The commands of how a message is cut (part M of docs/RULES.md): q, which checks what others cut, and Q, which cuts.
+#![tactic(auto)]
+
 mod cutter;
 mod proposals;
 

@@ -1,6 +1,8 @@
 // The entries of a value in order, one call for each (rule E9): an entry comes before those of its own list. The first
 // call reads the value whole. The others read the entry alone, where asking by number reads the value again each time.
 // Going on gives what asking by number gives (rule E10).
+#![tactic(auto)]
+
 ghost use Rattle.std.specs.Prelude.{◌≡◌, ◌<◌};
 ghost use Rattle.layouts.specs.Reading.{listing_of};
 ghost use Rattle.entries.specs.Entries.{entries_in_lem, first_cursor_lem, begun_of, beginning, pass_radio_lem, pass_in_lem, entered, next_level_lem, standing, moved, went_of, gone_on_lem};
@@ -12,7 +14,7 @@ use texts::DEVICE_INVENTORY;
 
 // Where a caller stands among the entries of a value. It crosses to C as it is.
 #[repr(C)]
-#[derive(Drop)]
+#[derive(Clone, Copy)]
 pub struct Cursor {
     // where the next entry starts
     pub at: usize,
@@ -27,7 +29,7 @@ pub struct Cursor {
 }
 
 // An entry: where it starts, how many entries its own list has (0 where it has none), and its level, from 1.
-#[derive(Drop)]
+#[derive(Clone, Copy)]
 pub struct EntryAt {
     pub start: usize,
     pub entries: usize,
@@ -36,7 +38,7 @@ pub struct EntryAt {
 
 // The entries of a value begun: the cursor at the first one, how many entries the outermost list has, and how many bytes
 // were consumed and follow these (rule K1).
-#[derive(Drop)]
+#[derive(Clone, Copy)]
 pub enum Begun {
     At {
         cursor: Cursor,
@@ -48,7 +50,7 @@ pub enum Begun {
 }
 
 // What going on gives: the next entry with the cursor after it, or that there is none left.
-#[derive(Drop)]
+#[derive(Clone, Copy)]
 pub enum Went {
     Next { entry: EntryAt, cursor: Cursor },
     NoMore,

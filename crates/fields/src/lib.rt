@@ -5,6 +5,8 @@
 // field where the call refuses.
 //
 // The same fields are written by the calls `put_..` (rule O5).
+#![tactic(auto)]
+
 mod parts;
 mod putting;
 mod sizes;
@@ -27,7 +29,7 @@ pub use writing::{
 // What stands before the list of a value of kind 6 or 7, the address of the local interface; of kind 9 or 10, the AL
 // addresses of the device that reports and of its neighbour.
 #[repr(C)]
-#[derive(Drop)]
+#[derive(Clone, Copy)]
 pub struct AshlarFront {
     pub local: MacAddr,
     pub neighbour: MacAddr,
@@ -36,7 +38,7 @@ pub struct AshlarFront {
 
 // A neighbour of kind 6, or of kind 7, which has flags: bit 7 says that a bridge stands between.
 #[repr(C)]
-#[derive(Drop)]
+#[derive(Clone, Copy)]
 pub struct AshlarNeighbour {
     pub address: MacAddr,
     pub flags: u8,
@@ -45,7 +47,7 @@ pub struct AshlarNeighbour {
 
 // An interface of kind 4 or 23, or of kind 24, which has a link-local address.
 #[repr(C)]
-#[derive(Drop)]
+#[derive(Clone, Copy)]
 pub struct AshlarInterface {
     pub address: MacAddr,
     pub link_local: [u8; 16],
@@ -54,7 +56,7 @@ pub struct AshlarInterface {
 
 // An address of an interface of kind 23.
 #[repr(C)]
-#[derive(Drop)]
+#[derive(Clone, Copy)]
 pub struct AshlarIpv4 {
     pub address: [u8; 4],
     pub dhcp_server: [u8; 4],
@@ -64,7 +66,7 @@ pub struct AshlarIpv4 {
 
 // An address of an interface of kind 24.
 #[repr(C)]
-#[derive(Drop)]
+#[derive(Clone, Copy)]
 pub struct AshlarIpv6 {
     pub address: [u8; 16],
     pub origin: [u8; 16],
@@ -74,7 +76,7 @@ pub struct AshlarIpv6 {
 
 // A service of kind 0x80, or a byte of a name of kind 0x83 or 0xB7.
 #[repr(C)]
-#[derive(Drop)]
+#[derive(Clone, Copy)]
 pub struct AshlarByte {
     pub byte: u8,
     pub refusal: u8,
@@ -83,7 +85,7 @@ pub struct AshlarByte {
 // A radio of kind 0x83 or 0xB7, or of kind 0xD4, which has a text: `text_length` bytes from `text_start` on in the
 // value.
 #[repr(C)]
-#[derive(Drop)]
+#[derive(Clone, Copy)]
 pub struct AshlarRadio {
     pub text_start: usize,
     pub text_length: usize,
@@ -94,7 +96,7 @@ pub struct AshlarRadio {
 // A BSS of kind 0x83, or of kind 0xB7, which has flags and a reserved byte. Its name is `name_length` bytes from
 // `name_start` on in the value.
 #[repr(C)]
-#[derive(Drop)]
+#[derive(Clone, Copy)]
 pub struct AshlarBss {
     pub name_start: usize,
     pub name_length: usize,

@@ -9,7 +9,7 @@ use numbers::wide;
 
 // What stands somewhere: how many bytes its own fields have, and where the text after them lies; or why it isn't there,
 // and no bytes.
-#[derive(Drop)]
+#[derive(Clone, Copy)]
 pub(crate) struct Outline {
     pub own: usize,
     pub start: usize,

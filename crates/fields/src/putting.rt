@@ -9,7 +9,7 @@ use framing::Written;
 use numbers::Refusal;
 
 // How many bytes the own fields of an entry have, 0 where a kind has no such entry, and whether a text follows them.
-#[derive(Drop)]
+#[derive(Clone, Copy)]
 pub(crate) struct Shape {
     pub size: usize,
     pub has_text: bool,

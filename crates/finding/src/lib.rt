@@ -1,4 +1,6 @@
 // Finding (rules F1 to F5): the first readable record of a kind, in a lent list of TLV records or in a payload.
+#![tactic(auto)]
+
 ghost use Rattle.std.specs.Prelude.{◌≡◌, cond, false, ltb, ℕ, ◌+◌, ◌≤◌, length};
 ghost use Rattle.numbers.specs.Numbers.{gives, told, mapped};
 ghost use Rattle.walking.specs.Walk.{walk_on};
@@ -13,7 +15,7 @@ use walking::{Stepped, Tlv, Walked};
 // How many records were looked at, the one that was found included: that is its place in the list counted from 1, and
 // where a search for the next one starts. Then the record, and what its value reads as: a record, or a number of
 // entries (rule F1).
-#[derive(Drop)]
+#[derive(Clone, Copy)]
 pub enum Found {
     Record {
         looked: usize,
@@ -33,7 +35,7 @@ pub enum Found {
 }
 
 // The number of records looked at, alone: the place of what was found, counted from 1.
-#[derive(Drop)]
+#[derive(Clone, Copy)]
 pub enum Placed {
     At(usize),
     Refused(Refusal),
@@ -42,7 +44,7 @@ pub enum Placed {
 // The same for a payload's TLVs (rules F4 and F5). `next` is the offset of the TLV after the one that was found, or the
 // payload's end after a marker. Where the walk or a step refuses the payload, its refusal is returned with the offset
 // of the TLV that failed.
-#[derive(Drop)]
+#[derive(Clone, Copy)]
 pub enum Searched {
     Record {
         looked: usize,
@@ -69,7 +71,7 @@ pub enum Searched {
 
 // Where a search through a payload ends: at a readable TLV of the kind, after so many TLVs without one, or where a TLV
 // can't be read.
-#[derive(Drop)]
+#[derive(Clone, Copy)]
 pub(crate) enum Spot {
     At {
         looked: usize,

@@ -1,5 +1,7 @@
 // Framing, the lowest layer of the protocol: a TLV and the CMDU header, each read and written (rules B2 to B7).
 // The walk over a payload's TLVs is the crate `walking`.
+#![tactic(auto)]
+
 ghost use Rattle.std.specs.Prelude.{◌≡◌, ◌++◌, ◌≤◌, length, drop};
 ghost use Rattle.numbers.specs.Parts.{behind};
 ghost use Rattle.framing.specs.Tlv.{read_of, read_tlv_lem, value_in_lem, value_from, written_of, write_size, header, tlv_bytes, leaves};
@@ -12,7 +14,7 @@ const LONGEST_VALUE: usize = 65535;
 
 // What reading a TLV finds (rule B3): its type, the length of its value, and the bytes consumed. The value follows the
 // first three bytes.
-#[derive(Drop)]
+#[derive(Clone, Copy)]
 pub enum Read {
     Whole {
         tlv_type: u8,
@@ -23,7 +25,7 @@ pub enum Read {
 }
 
 // How many bytes were written, at the start of the room (rule B5).
-#[derive(Drop)]
+#[derive(Clone, Copy)]
 pub enum Written {
     Bytes(usize),
     Refused(Refusal),
@@ -31,7 +33,7 @@ pub enum Written {
 
 // The header of a CMDU, every field as it stands there (rule B6). `last_fragment` is bit 7 of `flags`.
 #[repr(C)]
-#[derive(Drop)]
+#[derive(Clone, Copy)]
 pub struct CmduHeader {
     pub message_version: u8,
     pub reserved: u8,
@@ -44,7 +46,7 @@ pub struct CmduHeader {
 
 // What a header that is written says (rule B7). Its reserved byte and the other bits of its flags are 0.
 #[repr(C)]
-#[derive(Drop)]
+#[derive(Clone, Copy)]
 pub struct CmduFields {
     pub message_version: u8,
     pub message_type: u16,
@@ -53,7 +55,7 @@ pub struct CmduFields {
     pub last_fragment: bool,
 }
 
-#[derive(Drop)]
+#[derive(Clone, Copy)]
 pub enum HeaderRead {
     Header(CmduHeader),
     Refused(Refusal),

@@ -1,5 +1,7 @@
 // The house (rules H1 to H4): what one record of a capture does to a fragment table with its store and to a station
 // table.
+#![tactic(auto)]
+
 ghost use Rattle.std.specs.Prelude.{◌≡◌, [], ◌∷◌, ◌+◌, ◌≤◌, ◌<◌, length};
 ghost use Rattle.numbers.specs.Numbers.{is_given};
 ghost use Rattle.machines.specs.Machine.{run};
@@ -20,7 +22,7 @@ use walking::{Stepped, Tlv, Walked};
 const EVENT: u8 = 0x92;
 
 // The table after a record of a capture, what the step over it went over, and what push answered.
-#[derive(Drop)]
+#[derive(Clone, Copy)]
 pub struct AfterRecord {
     pub table: Table,
     pub reached: Reached,

@@ -1,4 +1,5 @@
 // Keys (rule T2): a sender and a message id as one number. Each fragment of a message is pushed under its key.
+#![tactic(auto)]
 
 ghost use Rattle.std.specs.Prelude.{◌≡◌, [], ◌∷◌};
 ghost use Rattle.keys.specs.Keys.{key_of, sender_of_lem};

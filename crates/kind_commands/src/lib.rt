@@ -1,4 +1,6 @@
 // The commands about one TLV, header or value: t, h, r, e, a, u and U, which read, and w, s and f, which write.
+#![tactic(auto)]
+
 mod framed;
 mod typed;
 mod written;

@@ -1,5 +1,7 @@
 // The 25 kinds by their codes (rule K2). A value is read as a list, as text or as a record. Its entries and texts are
 // asked for. The bytes of a value that reads are written as a TLV.
+#![tactic(auto)]
+
 ghost use Rattle.std.specs.Prelude.{◌≡◌, ℕ, length};
 ghost use Rattle.numbers.specs.Numbers.{told, mapped};
 ghost use Rattle.framing.specs.Tlv.{written_of, leaves};
@@ -17,7 +19,7 @@ use records::{Record, RecordAnswer};
 
 // What reading a typed value finds (rule K1): a record, or how many entries a list kind's own list or a value that
 // holds text has. The bytes consumed and the number of bytes after them come with it.
-#[derive(Drop)]
+#[derive(Clone, Copy)]
 pub enum KindRead {
     Record {
         record: Record,
@@ -33,7 +35,7 @@ pub enum KindRead {
 }
 
 // The families of kinds: what the value of a code is read as.
-#[derive(Drop)]
+#[derive(Clone, Copy)]
 pub(crate) enum Family {
     List,
     Text,

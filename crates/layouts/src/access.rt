@@ -11,7 +11,7 @@ use crate::{Counted, Ending, LayoutRow, Listing, Located, Path, Reading, list_at
 use numbers::Refusal;
 
 // An entry that was found: its row, and where it starts.
-#[derive(Drop)]
+#[derive(Clone, Copy)]
 pub(crate) enum Level {
     Of { row: LayoutRow, at: usize },
     Refused(Refusal),

@@ -1,6 +1,8 @@
 // The list kinds (rules K2 to K4): values that hold a list of entries, which may hold lists themselves. There is one
 // table of rows. A list reader and an entry reader call each other. Numbers lead to an entry (rule E1).
 // These calls know the list kinds alone, and refuse any other code by 16. The crate `kinds` knows every kind.
+#![tactic(auto)]
+
 mod access;
 mod lists;
 mod passing;
@@ -19,7 +21,7 @@ use rows::ListKindRow;
 // A layout as a row of numbers (rule K3). An entry has h0 bytes and then, if `levels` is not 0, a list: after its count
 // if `has_count`, otherwise to the end. An entry of that list has h1 bytes and then, if levels are left, a list after
 // its count, and so on. A value is an entry too.
-#[derive(Drop)]
+#[derive(Clone, Copy)]
 pub struct LayoutRow {
     pub levels: u8,
     pub has_count: bool,
@@ -30,14 +32,14 @@ pub struct LayoutRow {
 }
 
 // How many entries a list has, and where the first one starts.
-#[derive(Drop)]
+#[derive(Clone, Copy)]
 pub enum Listing {
     Of { n: usize, first: usize },
     Refused(Refusal),
 }
 
 // Where a part ends.
-#[derive(Drop)]
+#[derive(Clone, Copy)]
 pub enum Ending {
     At(usize),
     Refused(Refusal),
@@ -45,7 +47,7 @@ pub enum Ending {
 
 // What reading a value finds (rule K1): how many bytes were consumed, how many follow these, and how many entries the
 // outermost list has.
-#[derive(Drop)]
+#[derive(Clone, Copy)]
 pub enum Reading {
     Value {
         consumed: usize,
@@ -58,7 +60,7 @@ pub enum Reading {
 // The numbers of an entry, `depth` of them (rule E1): i0 in the outermost list, i1 in that entry's list, i2 in the
 // next. It crosses to C as it is.
 #[repr(C)]
-#[derive(Drop)]
+#[derive(Clone, Copy)]
 pub struct Path {
     pub depth: usize,
     pub i0: usize,
@@ -67,14 +69,14 @@ pub struct Path {
 }
 
 // Where an entry's own part of the value starts, and where it ends (rule E1).
-#[derive(Drop)]
+#[derive(Clone, Copy)]
 pub enum Located {
     Entry { start: usize, end: usize },
     Refused(Refusal),
 }
 
 // How many entries a list has (rule E3).
-#[derive(Drop)]
+#[derive(Clone, Copy)]
 pub enum Counted {
     Entries(usize),
     Refused(Refusal),

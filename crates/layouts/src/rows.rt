@@ -8,7 +8,7 @@ use crate::LayoutRow;
 use numbers::Refusal;
 
 // A row of the table.
-#[derive(Drop)]
+#[derive(Clone, Copy)]
 pub(crate) enum ListKindRow {
     List(LayoutRow),
     Refused(Refusal),

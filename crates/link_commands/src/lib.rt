@@ -1,4 +1,6 @@
 // The commands of link quality (part Q of docs/RULES.md): m and M.
+#![tactic(auto)]
+
 ghost use Rattle.std.specs.Prelude.{◌≤◌};
 
 use answer_lines::Answers;

@@ -1,5 +1,7 @@
 // Link quality in exact figures (rules Q1 to Q7): the pairs of a link metric by their fields, a report over all of
 // them, and one report made from two.
+#![tactic(auto)]
+
 mod numbered;
 mod pairs;
 mod totals;
@@ -16,21 +18,21 @@ use records::MacAddr;
 pub use writing::{put_rx_pair, put_tx_pair};
 
 // The two link metrics (rule Q1): what was sent (LinkMetricTx, 9) and what was received (LinkMetricRx, 10).
-#[derive(Drop)]
+#[derive(Clone, Copy)]
 pub enum LinkKind {
     Tx,
     Rx,
 }
 
 // The lowest signal strength of a report, where there is one (rule Q4).
-#[derive(Drop)]
+#[derive(Clone, Copy)]
 pub enum Lowest {
     Absent,
     Signal(i8),
 }
 
 // What is said over the pairs of a value (rule Q4).
-#[derive(Drop)]
+#[derive(Clone, Copy)]
 pub struct LinkReport {
     pub kind: LinkKind,
     pub pairs: u16,
@@ -40,7 +42,7 @@ pub struct LinkReport {
     pub sum: i32,
 }
 
-#[derive(Drop)]
+#[derive(Clone, Copy)]
 pub enum Reported {
     Over(LinkReport),
     Refused(Refusal),
@@ -48,7 +50,7 @@ pub enum Reported {
 
 // A pair of LinkMetricTx (rule Q1): two addresses, of the interface itself and of the neighbour's, and so on in the
 // order of its bytes.
-#[derive(Drop)]
+#[derive(Clone, Copy)]
 pub struct TxPair {
     pub own: MacAddr,
     pub neighbour: MacAddr,
@@ -62,7 +64,7 @@ pub struct TxPair {
 }
 
 // A pair of LinkMetricRx (rule Q1).
-#[derive(Drop)]
+#[derive(Clone, Copy)]
 pub struct RxPair {
     pub own: MacAddr,
     pub neighbour: MacAddr,
@@ -74,7 +76,7 @@ pub struct RxPair {
 
 // A pair as it crosses to C (rule C1).
 #[repr(C)]
-#[derive(Drop)]
+#[derive(Clone, Copy)]
 pub struct AshlarTxPair {
     pub errors: u32,
     pub packets: u32,
@@ -89,7 +91,7 @@ pub struct AshlarTxPair {
 }
 
 #[repr(C)]
-#[derive(Drop)]
+#[derive(Clone, Copy)]
 pub struct AshlarRxPair {
     pub errors: u32,
     pub packets: u32,
@@ -100,13 +102,13 @@ pub struct AshlarRxPair {
     pub refusal: u8,
 }
 
-#[derive(Drop)]
+#[derive(Clone, Copy)]
 pub enum TxPairRead {
     Pair(TxPair),
     Refused(Refusal),
 }
 
-#[derive(Drop)]
+#[derive(Clone, Copy)]
 pub enum RxPairRead {
     Pair(RxPair),
     Refused(Refusal),

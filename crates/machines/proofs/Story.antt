@@ -2,7 +2,7 @@
 -- calls do to it and what is gathered of them.
 use mathlib.Core.Path.{◌≡◌, refl, sym, ap, ◌∙◌}
 use mathlib.Core.List.{List, [], ◌∷◌}
-use mathlib.Core.Bool.{Bool, true, false, ◌&&◌, false≢true, and_false}
+use mathlib.Core.Bool.{Bool, true, false, ◌&&◌, false≢true, and-false}
 use Prim.Native.Nat.{ℕ}
 use Rattle.machines.specs.Machine.{those, run, gathered, every}
 use Rattle.machines.specs.Story.{Machine, concerns_key, hers, story, view_after, said_along, answers, ActsByKey, Echo}
@@ -73,7 +73,7 @@ module _ {S E A Vw : Type 0} (m : Machine S E A Vw) (passes : S → E → Bool) 
 
       gathered_crossed : (s : S) (e : E) (es : List E) → passes s e ≡ false → gather s (e ∷ es) ≡ gather (m.step s e) es
       unfolding gathered
-      gathered_crossed s e es p = rw (p, and_false (asks e))
+      gathered_crossed s e es p = rw (p, and-false (asks e))
 
       pub gathered_by : (es : List E) (s : S) → Good s → gather s es ≡ said_along m asks says' (m.view c s) (told s es)
       unfolding gathered said_along those

@@ -6,3 +6,4 @@
 // specs/Claims: what is claimed. proofs/Claims proves it: proofs/Story, one key's story told alone; proofs/TwoRuns, the
 // same for two runs, and calls in another order; proofs/Happened, that calls that happened are a run; proofs/Both, that
 // each of two machines goes as it would alone; proofs/Lists, laws of their lists.
+#![tactic(auto)]

@@ -4,4 +4,4 @@ use Rattle.std.specs.Borrow.{Bor}
 
 -- the place n bytes after the start of a slice of bytes: its block, and the byte in it
 abbrev pub behind : {X : Type 0} → ℕ → Bor X → ℕ × ℕ
-behind n s = (s.ptr.0, n + s.ptr.1)
+behind n s = (s.ref_ptr.0, n + s.ref_ptr.1)

@@ -1,11 +1,13 @@
 // The refusals, one enum for all layers (rule N1), and numbers in bytes, highest byte first (rule B1).
+#![tactic(auto)]
+
 ghost use Rattle.std.specs.Prelude.{◌≡◌, [], ◌∷◌, ◌<◌};
 ghost use Rattle.numbers.specs.Numbers.{number, carried};
 ghost use Rattle.numbers.specs.Bytes.{big_endian};
 
 // Why a call refused: a case for each line of rule N1, with what it carries. A caller passes on the refusal of a layer
 // below under this name. It never makes it anew, so that a case can carry more later.
-#[derive(Drop)]
+#[derive(Clone, Copy)]
 pub enum Refusal {
     // 1: a TLV or a CMDU header is cut, with the shortfall (rules B3 and B6)
     TooFewBytes(usize),

@@ -7,7 +7,7 @@ use native.Mathlib.Omega.{arith}
 use lib.Dec.{eqb, ltb, leb}
 use lib.ListN.{length, get_or, set, length-set}
 use lib.Seq.{get_or-set_same}
-use borrow.Author.Tests.{leb-true, leb-false, eq-eqb, ne_eqb, ltb-true, not_true}
+use borrow.Author.Tests.{leb-true, leb-false, eq-eqb, ne_eqb, ltb-true, not-true}
 use Rattle.keys.specs.Keys.{sender_of_lem}
 use Rattle.table.specs.declared.Table.{Table}
 use Rattle.table.specs.declared.Totals.{Totals}
@@ -99,7 +99,7 @@ module _ (m : Message) (long : ℕ) (store : 47744 ≤ long) (bring : ℕ → Pu
   due_next : (done : ℕ → Bool) (k : ℕ) (ks : List ℕ) → Due done (k ∷ ks) → Due (λ j. done j || eqb k j) ks
   unfolding is_in distinct
   due_next done k ks d =
-      let out : is_in k ks ≡ false = not_true (is_in k ks) (left_true (not (is_in k ks)) _ d.once) in
+      let out : is_in k ks ≡ false = not-true (is_in k ks) (left_true (not (is_in k ks)) _ d.once) in
       record {
         once = right_true (not (is_in k ks)) _ d.once;
         new = λ j h.
@@ -218,7 +218,7 @@ module _ (out : ℕ → Bool) (covers : CoversRoom out) (long key : ℕ) where
   unfolding said_along view_after those
   calm_in z (push p) es h s calm = let own : is_own key (push p) ≡ true = sym (or-false (is_own key (push p))) ∙ h in (rw own (rw (own, calm.0)), rw own calm.1)
   calm_in z (sweep time) es h s calm =
-      let spared = not_true (due time (holding key z).first) s in
+      let spared = not-true (due time (holding key z).first) s in
       let same : Calm (holding key z) es = rw spared at calm in
       (rw spared same.0, rw spared same.1)
 

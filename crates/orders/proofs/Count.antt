@@ -6,7 +6,7 @@ use Prim.Native.Nat.{ℕ, zero, suc, ◌+◌, ◌≤◌, ◌<◌}
 use native.Mathlib.Omega.{arith}
 use lib.Dec.{eqb}
 use lib.ListN.{length}
-use borrow.Author.Tests.{eq-eqb, ne_eqb, not_true}
+use borrow.Author.Tests.{eq-eqb, ne_eqb, not-true}
 use Rattle.searching.specs.Count.{how_many}
 use Rattle.searching.proofs.Count.{count_none, count_le, count_more}
 use Rattle.machines.proofs.Lists.{left_true, right_true}
@@ -27,7 +27,7 @@ count_in_lem : (n : ℕ) (ks : List ℕ) → distinct ks ≡ true → ((k : ℕ)
 unfolding is_in distinct
 count_in_lem n [] d below = sym (count_none (λ k. false) n (λ k h. refl))
 count_in_lem n (x ∷ ks) d below =
-    let out : is_in x ks ≡ false = not_true (is_in x ks) (left_true (not (is_in x ks)) _ d) in
+    let out : is_in x ks ≡ false = not-true (is_in x ks) (left_true (not (is_in x ks)) _ d) in
     let rest = count_in_lem n ks (right_true (not (is_in x ks)) _ d) (λ k h. below k (rw (h, or-true (eqb x k)))) in
     let more = count_more (λ k. is_in k ks) (λ k. eqb x k || is_in k ks) x (λ k ne. sym (rw (ne_eqb x k (λ e. ne (sym e))))) n (below x (rw (eq-eqb x x refl))) out (rw (eq-eqb x x refl)) in
     omega arith

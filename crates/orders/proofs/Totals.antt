@@ -5,7 +5,7 @@ use mathlib.Core.Bool.{Bool, true, false, not, ◌||◌, false≢true, true≢fa
 use Prim.Native.Nat.{ℕ, ◌+◌}
 use native.Mathlib.Omega.{arith}
 use lib.Dec.{eqb}
-use borrow.Author.Tests.{eqb-true, eqb-false, eq-eqb, not_true}
+use borrow.Author.Tests.{eqb-true, eqb-false, eq-eqb, not-true}
 use Rattle.orders.specs.Shares.{total, is_in, distinct}
 use Rattle.machines.proofs.Lists.{left_true, right_true}
 
@@ -47,6 +47,6 @@ module _ (f g : ℕ → ℕ) (c : ℕ) (others : (k : ℕ) → (k ≡ c → ⊥)
       by_key : (b : Bool) → eqb k c ≡ b → (b || is_in c ks) ≡ true → (is_in c ks ≡ true → total g ks ≡ total f ks + g c) → total g ks + g k ≡ total f ks + f k + g c
       by_key true e q ih =
           let same : k ≡ c = eqb-true k c e in
-          let out : is_in c ks ≡ false = ap (λ (j : ℕ). is_in j ks) (sym same) ∙ not_true (is_in k ks) (left_true (not (is_in k ks)) _ d) in
+          let out : is_in c ks ≡ false = ap (λ (j : ℕ). is_in j ks) (sym same) ∙ not-true (is_in k ks) (left_true (not (is_in k ks)) _ d) in
           omega (arith, not_there ks out, ap g same, ap f same, none)
       by_key false e q ih = omega (arith, ih q, others k (eqb-false k c e))

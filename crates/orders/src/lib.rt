@@ -12,3 +12,4 @@
 // sweep do to a key's holding, from the table's laws); Count and Found (how many places a row has); Totals and Counting
 // (what a sweep counts); Locality (the table is such a machine); Alone (a table that is given one key alone has the
 // room that the key had among others).
+#![tactic(auto)]

@@ -7,7 +7,7 @@ use numbers::Refusal;
 
 // A found TLV: how many were looked at, where the consumed bytes of its value start and end, and where the next TLV
 // stands.
-#[derive(Drop)]
+#[derive(Clone, Copy)]
 pub(crate) enum Hit {
     At {
         looked: usize,

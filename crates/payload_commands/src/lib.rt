@@ -1,4 +1,6 @@
 // The commands over the TLVs of a payload: k, g and L, which walk, and d, D and l, which find.
+#![tactic(auto)]
+
 mod found;
 mod given;
 mod listing;

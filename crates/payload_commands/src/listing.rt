@@ -8,7 +8,7 @@ use finding::Found;
 use walking::{Tlv, Walked};
 
 // What a list holds after a walk, the walk's answer, and what was then found in it.
-#[derive(Drop)]
+#[derive(Clone, Copy)]
 pub(crate) struct WalkedList {
     pub(crate) tlvs: [Tlv; 498],
     pub(crate) walked: Walked,

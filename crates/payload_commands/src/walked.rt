@@ -7,7 +7,7 @@ use walking::{Tlv, Walked};
 
 // At most 498 TLVs of a payload, one after the other, and where the next one stands. If there is none, that is the
 // payload's end, after the padding.
-#[derive(Drop)]
+#[derive(Clone, Copy)]
 struct Part {
     tlvs: [Tlv; 498],
     count: usize,

@@ -7,7 +7,7 @@ use native.Mathlib.Omega.{arith}
 use lib.Dec.{ltb}
 use lib.ListN.{length, get_or}
 use lib.Seq.{paste, get_or-set_other}
-use borrow.Author.Tests.{eqb-true, ltb-true, ltb-false, not_true}
+use borrow.Author.Tests.{eqb-true, ltb-true, ltb-false, not-true}
 use Rattle.table.specs.declared.Table.{Table}
 use Rattle.pushing.specs.declared.Arrival.{Arrival}
 use Rattle.table.specs.Rows.{place_at, row_of, is_spare, place_of, is_free, lowest_free, with_key, with_place, without}
@@ -77,7 +77,7 @@ module _ (t : Table) (s : Sound t) (store : List ℕ) (a : Arrival) (payload : L
       (put_same t s store payload (row_of t key) i p h h₁ h₂ (λ f. omega arith) (λ f. apart k (omega arith)))
   push_apart (went_open i row h₁ h₂ h₃ l e h k e₂ h₄ share share₂) =
       let free = free_owner i e h in
-      let spare : get_or t.used row false ≡ false = ap (λ (r : ℕ). get_or t.used r false) e₂ ∙ not_true _ (lowest_holds (is_spare t) 16 (omega arith)) in
+      let spare : get_or t.used row false ≡ false = ap (λ (r : ℕ). get_or t.used r false) e₂ ∙ not-true _ (lowest_holds (is_spare t) 16 (omega arith)) in
       let ne : row_of t key ≡ row → ⊥ = λ same. false≢true (sym spare ∙ ap (λ (r : ℕ). get_or t.used r false) (sym same) ∙ (row_holds t key (omega arith)).0) in
       let p = place_for row a.fragment (length payload) in
       let same = put_same t s store payload (row_of t key) i p h h₁ h₂ (λ f. omega arith) (λ f. ne (omega arith)) in

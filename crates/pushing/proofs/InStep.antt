@@ -6,7 +6,7 @@ use mathlib.Core.Logic.{◌⊎◌, inl, inr}
 use Prim.Native.Nat.{ℕ, ◌+◌, ◌≤◌, ◌<◌}
 use native.Mathlib.Omega.{arith}
 use lib.ListN.{length, get_or}
-use borrow.Author.Tests.{eqb-true, eq-eqb, not_true}
+use borrow.Author.Tests.{eqb-true, eq-eqb, not-true}
 use Rattle.keys.specs.Keys.{sender_of_lem}
 use Rattle.table.specs.declared.Table.{Table}
 use Rattle.table.specs.declared.Totals.{Totals}
@@ -43,7 +43,7 @@ push_good t s good store a payload room (went_keep i h₁ h₂ h₃ l e h k shar
     (omega (arith, ap (λ (z : Totals). z.keys) (good.0.as_counted (sender_of_lem a.key)))) (omega arith)
 push_good t s good store a payload room (went_open i row h₁ h₂ h₃ l e h k e₂ h₄ share share₂) =
     let free : (place_at t i).owner ≡ 0 = eqb-true _ _ (ap (λ (j : ℕ). is_free (place_at t j)) e ∙ lowest_holds (λ j. is_free (place_at t j)) 32 (omega arith)) in
-    let spare : get_or t.used row false ≡ false = ap (λ (r : ℕ). get_or t.used r false) e₂ ∙ not_true _ (lowest_holds (is_spare t) 16 (omega arith)) in
+    let spare : get_or t.used row false ≡ false = ap (λ (r : ℕ). get_or t.used r false) e₂ ∙ not-true _ (lowest_holds (is_spare t) 16 (omega arith)) in
     changed t _ (sender_of_lem a.key) _ good (opened_changes t s good.0 row a.key a.time i h₄ h (place_for row a.fragment (length payload)) refl free spare) (omega arith) (omega arith)
 push_good t s good store a payload room (went_end heard bytes h₁ h₂ h₃ l e) = by_row (get_or t.used (row_of t a.key) false) refl
   where

@@ -7,7 +7,7 @@ use native.Mathlib.Omega.{arith}
 use lib.Dec.{eqb, ltb}
 use lib.ListN.{length, get_or, take, drop}
 use lib.Seq.{paste, drop_at, take_at, take-length, length-take-le, get_or-set_other, get_or-set_same}
-use borrow.Author.Tests.{eqb-true, eqb-false, eq-eqb, ne_eqb, ltb-true, ltb-false, lt-ltb, le-ltb, not_true}
+use borrow.Author.Tests.{eqb-true, eqb-false, eq-eqb, ne_eqb, ltb-true, ltb-false, lt-ltb, le-ltb, not-true}
 use Rattle.table.specs.declared.Table.{Table}
 use Rattle.pushing.specs.declared.Fragment.{Fragment}
 use Rattle.pushing.specs.declared.Arrival.{Arrival}
@@ -168,7 +168,7 @@ module _ (t : Table) (s : Sound t) (store : List ℕ) (a : Arrival) (payload : L
       (put_held t s store payload own i a.fragment h h₁ h₂ l (not_held t s own number h₃) (λ f. omega arith), refl)
   told_by (went_open i row h₁ h₂ h₃ l e h k e₂ h₄ share share₂) =
       let free : (place_at t i).owner ≡ 0 = eqb-true _ _ (ap (λ (j : ℕ). is_free (place_at t j)) e ∙ lowest_holds (λ j. is_free (place_at t j)) 32 (omega arith)) in
-      let spare : get_or t.used row false ≡ false = ap (λ (r : ℕ). get_or t.used r false) e₂ ∙ not_true _ (lowest_holds (is_spare t) 16 (omega arith)) in
+      let spare : get_or t.used row false ≡ false = ap (λ (r : ℕ). get_or t.used r false) e₂ ∙ not-true _ (lowest_holds (is_spare t) 16 (omega arith)) in
       let t₁ = with_key t row a.key a.time in
       let s₁ = open_sound t s row a.key a.time h₄ k in
       let is_row = opened_row t s row a.key a.time h₄ k in

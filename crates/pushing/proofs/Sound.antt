@@ -6,7 +6,7 @@ use Prim.Native.Nat.{ℕ, ◌<◌}
 use native.Mathlib.Omega.{arith}
 use lib.ListN.{length, get_or}
 use lib.Seq.{get_or-set_same}
-use borrow.Author.Tests.{not_true}
+use borrow.Author.Tests.{not-true}
 use Rattle.keys.specs.Keys.{sender_of_lem}
 use Rattle.table.specs.declared.Table.{Table}
 use Rattle.pushing.specs.declared.Arrival.{Arrival}
@@ -28,7 +28,7 @@ push_sound t s store a payload room byte (went_open i row h₁ h₂ h₃ l e h k
     let t₀ = with_totals t (sender_of_lem a.key) no_totals in
     let t' = with_key t₀ row a.key a.time in
     let s' = open_sound t₀ (totals_sound t s _ _) row a.key a.time h₄ k in
-    let was-spare : get_or t.used row false ≡ false = ap (λ (r : ℕ). get_or t.used r false) e₂ ∙ not_true _ (lowest_holds (is_spare t) 16 (omega arith)) in
+    let was-spare : get_or t.used row false ≡ false = ap (λ (r : ℕ). get_or t.used r false) e₂ ∙ not-true _ (lowest_holds (is_spare t) 16 (omega arith)) in
     totals_sound _ (put_sound t' s' i row h (place_for row a.fragment (length payload)) refl h₂ byte (get_or-set_same t.used row true false (omega (arith, s.used_long)))
     (λ j f g. false≢true (sym was-spare ∙ s.owned j row f))) _ _
 push_sound t s store a payload room byte (went_end heard bytes h₁ h₂ h₃ l e) = end_sound t s (row_of t a.key)

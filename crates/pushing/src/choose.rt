@@ -7,7 +7,7 @@ use crate::look::LookedUp;
 use numbers::Refusal;
 use table::{KEYS, MOST_KEYS, MOST_PLACES, PLACE_SIZE, PLACES, STORE_SIZE, Totals};
 
-#[derive(Drop)]
+#[derive(Clone, Copy)]
 pub(crate) enum Step {
     // refused by 11, 12, 20 or 10 (rules T4 and T6): nothing changes
     Refuse(Refusal),

@@ -50,7 +50,7 @@ pub(crate) fn size_at(sizes: &[u16; PLACES], size: usize, piece: usize) -> usize
 }
 
 // How many numbers from 0 on are there without a gap, and how many bytes their payloads have.
-#[derive(Drop)]
+#[derive(Clone, Copy)]
 pub(crate) struct Reach {
     pub count: usize,
     pub total: usize,
@@ -99,7 +99,7 @@ pub(crate) fn is_gapped<'a>(
 
 // What decides the joining: the three tests of rule T8, how many numbers from 0 on are there, and how many bytes their
 // payloads have.
-#[derive(Drop)]
+#[derive(Clone, Copy)]
 pub(crate) struct Seen {
     pub unlike: bool,
     pub gapped: bool,
@@ -109,7 +109,7 @@ pub(crate) struct Seen {
 }
 
 // What joining comes to: the answer, how many pieces go to the output, and which row is dropped, `KEYS` for none.
-#[derive(Drop)]
+#[derive(Clone, Copy)]
 pub(crate) struct Verdict {
     pub answer: Pushed,
     pub pieces: usize,
@@ -180,7 +180,7 @@ pub(crate) fn put_piece(
 }
 
 // Which pieces: those with numbers below `count`, of a row's fragments and the new one.
-#[derive(Drop)]
+#[derive(Clone, Copy)]
 pub(crate) struct Pieces {
     pub row: usize,
     pub number: u8,
@@ -212,7 +212,7 @@ pub(crate) fn join_into<'a>(
 }
 
 // A last fragment that was compared with those that its row holds (rule T8).
-#[derive(Drop)]
+#[derive(Clone, Copy)]
 pub(crate) struct Compared {
     pub row: usize,
     pub number: u8,

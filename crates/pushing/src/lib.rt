@@ -1,5 +1,6 @@
 // A push to the fragment table (rules T4 to T9): a fragment is kept, joined with those of its key, found to be there
 // already, or refused.
+#![tactic(auto)]
 
 mod choose;
 mod join;
@@ -19,7 +20,7 @@ use table::{PLACE_SIZE, Table, totals_at, without_key};
 
 // Rule T3: a fragment without its payload.
 #[repr(C)]
-#[derive(Drop)]
+#[derive(Clone, Copy)]
 pub struct Fragment {
     pub message_type: u16,
     pub version: u8,
@@ -29,7 +30,7 @@ pub struct Fragment {
 
 // A fragment as it comes in: under which key (rule T2; key_of in the crate keys), and when, in milliseconds.
 #[repr(C)]
-#[derive(Drop)]
+#[derive(Clone, Copy)]
 pub struct Arrival {
     pub key: u64,
     pub time: u64,
@@ -37,7 +38,7 @@ pub struct Arrival {
 }
 
 // What push answers (rules T4 to T9).
-#[derive(Drop)]
+#[derive(Clone, Copy)]
 pub enum Pushed {
     WaitingForMoreFragments,
     DuplicatedFragment,
@@ -51,7 +52,7 @@ pub enum Pushed {
     Refused(Refusal),
 }
 
-#[derive(Drop)]
+#[derive(Clone, Copy)]
 pub struct AfterPush {
     pub table: Table,
     pub answer: Pushed,

@@ -175,7 +175,7 @@ fn held_at<'a>(owners: &'a [u8; PLACES], numbers: &'a [u8; PLACES], row: usize, 
 }
 
 // What decides a push, one number for each question.
-#[derive(Drop)]
+#[derive(Clone, Copy)]
 pub(crate) struct LookedUp {
     // the row of its key
     pub row: usize,

@@ -1,4 +1,5 @@
 // The fragment table as a caller uses it: push and sweep change a lent table, show returns the message of an answer.
+#![tactic(auto)]
 
 ghost use Rattle.std.specs.Prelude.{◌≡◌, length};
 ghost use Rattle.pushing.specs.Push.{pushed_of, way, Goes};

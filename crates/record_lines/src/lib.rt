@@ -1,4 +1,6 @@
 // The fields of records in commands and answers.
+#![tactic(auto)]
+
 mod given;
 mod shown;
 
@@ -6,7 +8,7 @@ pub use given::{address_in, record_in};
 pub use shown::{put_address, put_record};
 
 // A code as a field: its number, with an `r` in front where it is reserved (rule K5).
-#[derive(Drop)]
+#[derive(Clone, Copy)]
 pub(crate) struct Code {
     pub(crate) reserved: bool,
     pub(crate) number: u8,

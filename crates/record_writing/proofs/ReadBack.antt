@@ -7,7 +7,7 @@ use Prim.Native.Nat.{ℕ, ◌%◌}
 use native.Mathlib.Omega.{arith}
 use lib.Dec.{leb, ltb, eqb}
 use lib.ListN.{length, length-append}
-use borrow.Author.Tests.{leb-true, lt-ltb, ltb-true, not_true}
+use borrow.Author.Tests.{leb-true, lt-ltb, ltb-true, not-true}
 use Rattle.numbers.specs.Numbers.{gives}
 use Rattle.records.specs.declared.SupportedFreqBand.{SupportedFreqBand}
 use Rattle.records.specs.declared.Ieee1905ProfileVersion.{Ieee1905ProfileVersion}
@@ -61,7 +61,7 @@ query_back : (n k : ℕ) (m : NeighborMac) (t : List ℕ) → agrees n m ≡ tru
     let q = Record.LinkMetricQuery (record { neighbor_type = n; neighbor_mac = m; requested_metrics = k }) in of_kind_lem RecordKind.LinkMetricQuery (bytes_of q ++ t) ≡ gives (itself q)
 query_back n k (NeighborMac.Address m) t h = stands _ _ _ (Record.LinkMetricQuery (record { neighbor_type = n; neighbor_mac = NeighborMac.Address m; requested_metrics = k })) t (simp h) refl (simp h)
 query_back n k NeighborMac.None t h =
-    let f = not_true (eqb n 1) h in
+    let f = not-true (eqb n 1) h in
     stands _ _ _ (Record.LinkMetricQuery (record { neighbor_type = n; neighbor_mac = NeighborMac.None; requested_metrics = k })) t (simp f) refl (simp f)
 
 pub back : (r : Record) (t : List ℕ) → readable r ≡ true → (r ≡ Record.EndOfMessage → t ≡ []) → of_kind_lem (kind_of r) (bytes_of r ++ t) ≡ gives (itself r)

@@ -1,4 +1,6 @@
 // Writing a record (rules O1, O3 and O4): its value alone, or the whole TLV.
+#![tactic(auto)]
+
 use framing::Written;
 use numbers::Refusal;
 use records::Record;

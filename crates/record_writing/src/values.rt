@@ -54,7 +54,7 @@ pub(crate) fn put_value(item: Record, out: &mut [u8])
 }
 
 // A record's value: the first bytes of an array that has room for the longest, an association.
-#[derive(Drop)]
+#[derive(Clone, Copy)]
 pub(crate) struct Value {
     pub bytes: [u8; 13],
     pub size: usize,

@@ -1,6 +1,8 @@
 // The record kinds (rule K2), read by their code (rule K1). The crate `record_writing` writes them. The types have the
 // original's names (cmdu_codec.rs). These calls know the record kinds alone, and refuse any other code by 16. The crate
 // `kinds` knows every kind.
+#![tactic(auto)]
+
 use numbers::Refusal;
 
 mod reading;
@@ -16,7 +18,7 @@ pub use reading::read_client_association;
 
 // An address, its six bytes in their order (rule K3). It is passed to C as it is.
 #[repr(C)]
-#[derive(Drop)]
+#[derive(Clone, Copy)]
 pub struct MacAddr {
     pub b0: u8,
     pub b1: u8,
@@ -27,7 +29,7 @@ pub struct MacAddr {
 }
 
 // A band by its name, or reserved with its number (rule K5).
-#[derive(Drop)]
+#[derive(Clone, Copy)]
 pub enum SupportedFreqBand {
     Band_802_11_2_4,
     Band_802_11_5,
@@ -49,7 +51,7 @@ impl SupportedFreqBand {
 }
 
 // A version by its name, or reserved with its number (rule K5).
-#[derive(Drop)]
+#[derive(Clone, Copy)]
 pub enum Ieee1905ProfileVersion {
     Ieee1905_1,
     Ieee1905_1a,
@@ -69,7 +71,7 @@ impl Ieee1905ProfileVersion {
 }
 
 // A result by its name, or reserved with its number (rule K5).
-#[derive(Drop)]
+#[derive(Clone, Copy)]
 pub enum LinkMetricResultCode {
     InvalidNeighbor,
     UnknownCode(u8),
@@ -87,13 +89,13 @@ impl LinkMetricResultCode {
 }
 
 // The address of the neighbour that a query asks about. A query about all neighbours has none.
-#[derive(Drop)]
+#[derive(Clone, Copy)]
 pub enum NeighborMac {
     Address(MacAddr),
     None,
 }
 
-#[derive(Drop)]
+#[derive(Clone, Copy)]
 pub struct LinkMetricQuery {
     pub neighbor_type: u8,
     pub neighbor_mac: NeighborMac,
@@ -101,7 +103,7 @@ pub struct LinkMetricQuery {
 }
 
 // Whether the station joined the access point or left it (rule K5).
-#[derive(Drop)]
+#[derive(Clone, Copy)]
 pub enum AssociationState {
     LeftBss,
     JoinedBss,
@@ -119,7 +121,7 @@ impl AssociationState {
     }
 }
 
-#[derive(Drop)]
+#[derive(Clone, Copy)]
 pub struct ClientAssociation {
     pub sta_mac: MacAddr,
     pub ap_mac: MacAddr,
@@ -127,7 +129,7 @@ pub struct ClientAssociation {
 }
 
 // A profile by its name, or reserved with its number (rule K5).
-#[derive(Drop)]
+#[derive(Clone, Copy)]
 pub enum MultiApProfile {
     Profile1,
     Profile2,
@@ -149,7 +151,7 @@ impl MultiApProfile {
 }
 
 // The units of byte counters (rule K6).
-#[derive(Drop)]
+#[derive(Clone, Copy)]
 pub enum ByteCounterUnits {
     Bytes,
     KiB,
@@ -172,7 +174,7 @@ impl ByteCounterUnits {
 }
 
 // The fields of a capability, with its reserved byte and bits (rule K6).
-#[derive(Drop)]
+#[derive(Clone, Copy)]
 pub struct Profile2ApCapability {
     pub max_prioritization_rules: u8,
     pub reserved: u8,
@@ -210,7 +212,7 @@ pub const MULTI_AP_PROFILE: u8 = 0xB3;
 pub const PROFILE2_AP_CAPABILITY: u8 = 0xB4;
 
 // The record kinds (rule K2).
-#[derive(Drop)]
+#[derive(Clone, Copy)]
 pub enum RecordKind {
     EndOfMessage,
     AlMacAddress,
@@ -227,7 +229,7 @@ pub enum RecordKind {
 }
 
 // A record of any kind. A role is kept as its byte, although reading accepts only 0, the registrar.
-#[derive(Drop)]
+#[derive(Clone, Copy)]
 pub enum Record {
     EndOfMessage,
     AlMacAddress(MacAddr),
@@ -245,14 +247,14 @@ pub enum Record {
 
 // What reading a value finds (rule K1): the record, and how many bytes its layout consumed. The bytes after them are
 // the rest.
-#[derive(Drop)]
+#[derive(Clone, Copy)]
 pub enum RecordAnswer {
     Got { record: Record, consumed: usize },
     Refused(Refusal),
 }
 
 // The kind that has a code, or none.
-#[derive(Drop)]
+#[derive(Clone, Copy)]
 pub(crate) enum KnownKind {
     Is(RecordKind),
     None,

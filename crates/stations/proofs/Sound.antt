@@ -6,7 +6,7 @@ use Prim.Native.Nat.{ℕ, zero, suc, ◌+◌, ◌<◌}
 use native.Mathlib.Omega.{arith}
 use lib.Dec.{ltb}
 use lib.ListN.{get_or}
-use borrow.Author.Tests.{ltb-true, ltb-false, lt-ltb, ne_eqb, not_true}
+use borrow.Author.Tests.{ltb-true, ltb-false, lt-ltb, ne_eqb, not-true}
 use Rattle.searching.proofs.Count.{count_all, count_le, count_less}
 use Rattle.numbers.specs.Numbers.{is_given, gives, refuses}
 use Rattle.stations.specs.declared.Heard.{Heard}
@@ -52,7 +52,7 @@ free_mark t i l h = by_mark (get_or t i 0) refl (sym (rw (lt-ltb i 128 l)) ∙ h
 
 full_all : (t : Stations) → all_held t ≡ true → count_of t ≡ 128
 unfolding all_held
-full_all t h = count_all (is_held t) 128 (λ i l. rw (ne_eqb (get_or t i 0) 0 (no_mark t 0 (ltb-false _ _ (not_true _ h)) i l)))
+full_all t h = count_all (is_held t) 128 (λ i l. rw (ne_eqb (get_or t i 0) 0 (no_mark t 0 (ltb-false _ _ (not-true _ h)) i l)))
 
 pub full_is_128 : (t : Stations) → FullIs128 t
 unfolding all_held

@@ -1,5 +1,6 @@
 // Which access point a station is at (part P of docs/RULES.md). The table holds up to 128 stations, and the client
 // association events of Multi-AP change it.
+#![tactic(auto)]
 
 mod reading;
 mod rows;
@@ -25,7 +26,7 @@ pub const STATIONS: usize = 128;
 pub type Stations = [u64; 2 * STATIONS];
 
 // What an accepted event did (rules P2 and P3). New is "placed" there, and There is "same".
-#[derive(Drop)]
+#[derive(Clone, Copy)]
 pub enum Heard {
     // a join: the station was nowhere
     New,
@@ -40,7 +41,7 @@ pub enum Heard {
 }
 
 // The answer to an event.
-#[derive(Drop)]
+#[derive(Clone, Copy)]
 pub enum EventAnswer {
     Heard(Heard),
     Refused(Refusal),
@@ -48,21 +49,21 @@ pub enum EventAnswer {
 
 // The same for an event that was read from a value (rule P6), with how many bytes of the value it took. The bytes after
 // these are the rest.
-#[derive(Drop)]
+#[derive(Clone, Copy)]
 pub enum Applied {
     Heard { heard: Heard, consumed: usize },
     Refused(Refusal),
 }
 
 // Where a station is: at an access point, or nowhere.
-#[derive(Drop)]
+#[derive(Clone, Copy)]
 pub enum Where {
     At(MacAddr),
     Nowhere,
 }
 
 // What a row of the table holds (rule P7).
-#[derive(Drop)]
+#[derive(Clone, Copy)]
 pub enum Listed {
     Occupied { station: MacAddr, point: MacAddr },
     Free,

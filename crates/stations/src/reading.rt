@@ -9,7 +9,7 @@ use numbers::Refusal;
 use records::{ClientAssociation, Record, RecordAnswer};
 
 // The event in a value, and how many bytes it took.
-#[derive(Drop)]
+#[derive(Clone, Copy)]
 pub(crate) enum Association {
     Event {
         e: ClientAssociation,

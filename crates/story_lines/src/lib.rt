@@ -1,6 +1,7 @@
 // The lines of a capture's story (rules H7 to H9): a line for each message and for each one that was lost, and for each
 // event of a station what it did. No function here changes a table of the house. Each one that writes returns where the
 // text then ends.
+#![tactic(auto)]
 
 mod events;
 mod message_names;
@@ -19,7 +20,7 @@ use table::Table;
 use walking::{Stepped, Walked};
 
 // What was written: where the text then ends, and how many messages and losses the lines say (rule H9).
-#[derive(Drop)]
+#[derive(Clone, Copy)]
 pub struct Said {
     pub used: usize,
     pub messages: u64,
@@ -27,7 +28,7 @@ pub struct Said {
 }
 
 // What was counted of a capture (rule H9).
-#[derive(Drop)]
+#[derive(Clone, Copy)]
 pub struct Counts {
     pub frames: u64,
     pub others: u64,
@@ -36,7 +37,7 @@ pub struct Counts {
 }
 
 // What the line of a message begins with: when, from whom, which type and which id.
-#[derive(Drop)]
+#[derive(Clone, Copy)]
 pub(crate) struct Heading {
     pub time: u64,
     pub sender: MacAddr,

@@ -8,7 +8,7 @@ use table::{KEYS, PLACES, Table};
 
 // The fragments of an owner, 1 more than the row of a key: how many places they take, and the message type in the
 // lowest of these.
-#[derive(Drop)]
+#[derive(Clone, Copy)]
 struct Kept {
     count: u64,
     message_type: u16,

@@ -1,4 +1,5 @@
 // The sweep of the fragment table (rules S1 and S2): keys that are too old are dropped and counted.
+#![tactic(auto)]
 
 mod ages;
 
@@ -9,7 +10,7 @@ use ages::next_expired;
 use table::{KEYS, Table, without_key};
 
 // The table after a sweep, and how many keys it dropped (rule S2).
-#[derive(Drop)]
+#[derive(Clone, Copy)]
 pub struct Swept {
     pub table: Table,
     pub dropped: usize,

@@ -1,7 +1,7 @@
 -- The totals of every sender stay in step with what the table holds: the laws for each change of the table.
 use mathlib.Core.Path.{◌≡◌, refl, sym, ap, ◌∙◌, subst}
 use mathlib.Core.List.{List}
-use mathlib.Core.Bool.{Bool, true, false, cond, not, ◌&&◌, ◌||◌, and_false, or-false, and-eq-true_iff, false≢true}
+use mathlib.Core.Bool.{Bool, true, false, cond, not, ◌&&◌, ◌||◌, and-false, or-false, and-eq-true_iff, false≢true}
 use Prim.Native.Nat.{ℕ, zero, suc, ◌+◌, ◌-◌, ◌≤◌, ◌<◌}
 use native.Mathlib.Omega.{arith}
 use lib.Dec.{eqb, ltb}
@@ -313,7 +313,7 @@ module _ (t : Table) (s : Sound t) (step : InStep t) (row : ℕ) (in-16 : row < 
   same_left x ne r = by_row (eqb r row) refl
     where
       by_row : (b : Bool) → eqb r row ≡ b → of_sender left x r ≡ of_sender t x r
-      by_row true e = ap (of_sender left x) (eqb-true _ _ e) ∙ gone x ∙ sym (rw (ne_eqb (sender_at t row) x (λ q. ne (sym q))) (and_false (get_or t.used row false))) ∙ ap (of_sender t x) (sym (eqb-true _ _ e))
+      by_row true e = ap (of_sender left x) (eqb-true _ _ e) ∙ gone x ∙ sym (rw (ne_eqb (sender_at t row) x (λ q. ne (sym q))) (and-false (get_or t.used row false))) ∙ ap (of_sender t x) (sym (eqb-true _ _ e))
       by_row false e = left_elsewhere x r (eqb-false _ _ e)
 
   same_kept : (x : ℕ) → (x ≡ loser → ⊥) → (j : ℕ) → kept_for left x j ≡ kept_for t x j

@@ -1,5 +1,6 @@
 // The fragment table (rules T1 and T14): fragments are kept until their message is whole or too old. The crates pushing
 // and sweeping say what a push and a sweep do to it.
+#![tactic(auto)]
 
 ghost use Rattle.std.specs.Prelude.{◌≡◌, ◌&&◌, ◌-◌, ◌≤◌, eqb};
 ghost use Rattle.keys.specs.Keys.{sender_of_lem};
@@ -25,7 +26,7 @@ pub const MOST_PLACES: u8 = 8;
 // one of the five others. A place holds a fragment without its payload, which lies in the lent store, and without its
 // last mark, which no kept fragment has (rule T3). Each list is an array of its own, which can be lent to a look-up.
 #[repr(C)]
-#[derive(Drop)]
+#[derive(Clone, Copy)]
 pub struct Table {
     pub row_keys: [u64; KEYS],
     // when the key's first fragment came (rule T6)
@@ -44,7 +45,7 @@ pub struct Table {
 }
 
 // Rule T15: how many keys a sender holds, and how many places.
-#[derive(Drop)]
+#[derive(Clone, Copy)]
 pub struct Totals {
     pub keys: u8,
     pub places: u8,

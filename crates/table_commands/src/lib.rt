@@ -1,4 +1,6 @@
 // The commands of the fragment table: z, p, v, c and C.
+#![tactic(auto)]
+
 mod contents;
 
 ghost use Rattle.std.specs.Prelude.{◌<◌, ◌≤◌};
@@ -10,7 +12,7 @@ use sweeping::Swept;
 use table::{PLACE_SIZE, STORE_SIZE, Table};
 
 // The table after a command, and where the text ends.
-#[derive(Drop)]
+#[derive(Clone, Copy)]
 pub struct Served {
     pub table: Table,
     pub used: usize,

@@ -1,5 +1,7 @@
 // Values that hold text (rules E5 to E8). The pieces in which a text stands are read, and each text has to be UTF-8. A
 // text and a radio are asked for by their numbers.
+#![tactic(auto)]
+
 mod access;
 mod pieces;
 mod reading;

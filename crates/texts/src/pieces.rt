@@ -12,7 +12,7 @@ use numbers::{Refusal, wide};
 use utf8::is_utf8;
 
 // Where a text starts and ends.
-#[derive(Drop)]
+#[derive(Clone, Copy)]
 pub(crate) struct TextAt {
     pub start: usize,
     pub end: usize,

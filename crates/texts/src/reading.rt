@@ -11,7 +11,7 @@ use layouts::{Ending, Listing, list_at, read_list};
 use numbers::Refusal;
 
 // A value that is there whole: its radios, and where it ends.
-#[derive(Drop)]
+#[derive(Clone, Copy)]
 pub(crate) enum Outlined {
     Of { n: usize, first: usize, end: usize },
     Refused(Refusal),

@@ -10,14 +10,14 @@ use layouts::LayoutRow;
 use numbers::Refusal;
 
 // A row of the table: the number of pieces, their layout, and whether radios follow.
-#[derive(Drop)]
+#[derive(Clone, Copy)]
 pub(crate) struct TextRow {
     pub many: usize,
     pub piece: LayoutRow,
     pub radios: bool,
 }
 
-#[derive(Drop)]
+#[derive(Clone, Copy)]
 pub(crate) enum TextKindRow {
     Text(TextRow),
     Refused(Refusal),

@@ -1,18 +1,20 @@
 // UTF-8 by the grammar of RFC 3629, section 4 (rule E5): a byte at a time, with the range that the next one must be in.
+#![tactic(auto)]
+
 ghost use Rattle.std.specs.Prelude.{◌≡◌, ◌≤◌, length, drop};
 ghost use Rattle.utf8.specs.Utf8.{forms, begun, onward, is_utf8_lem};
 ghost use Rattle.utf8.specs.PrivateUtf8.{awaits, step_told};
 
 // How many bytes of a character that has begun are still to come: the next one is from `low` to `high`, and the others
 // are tails. If none is, a character may begin, or the text may end.
-#[derive(Drop)]
+#[derive(Clone, Copy)]
 struct Awaited {
     left: usize,
     low: u8,
     high: u8,
 }
 
-#[derive(Drop)]
+#[derive(Clone, Copy)]
 enum After {
     Onward(Awaited),
     Refused,

@@ -1,5 +1,7 @@
 // The walk over a payload's TLVs (rules W1 to W6). One form counts them, a second one also fills a TLV list that the
 // caller lends. The walk ends with the first end marker, and the padding after it is not looked at.
+#![tactic(auto)]
+
 ghost use Rattle.std.specs.Prelude.{◌≡◌, ◌<◌, length};
 ghost use Rattle.walking.specs.Walk.{is_marker_lem, stepped_of, step_at, walked_of, walk_of, counted, listed, filled, offset_at};
 ghost use Rattle.walking.specs.PrivateSteps.{Plan, tlv_by, next_by};
@@ -9,7 +11,7 @@ use numbers::Refusal;
 
 // A TLV record, as a walk lists it (rule W5): the type, the length of the value, and the offset of the type byte.
 #[repr(C)]
-#[derive(Drop)]
+#[derive(Clone, Copy)]
 pub struct Tlv {
     pub tlv_type: u8,
     pub length: u16,
@@ -18,7 +20,7 @@ pub struct Tlv {
 
 // How many TLVs the walk went over and how long the padding is (rule W3), or the refusal with an offset. That is the
 // offset of the TLV that failed (rule W4) or, for 14, of the first TLV that has no element in the list (rule W5).
-#[derive(Drop)]
+#[derive(Clone, Copy)]
 pub enum Walked {
     Count { count: usize, padding: usize },
     Refused { refusal: Refusal, at: usize },
@@ -26,7 +28,7 @@ pub enum Walked {
 
 // What a step of the walk finds (rule W6): that no byte is left; a TLV and where the next step starts; the marker,
 // which is the message's last TLV, and where the message ends; or the refusal with the offset of the TLV that failed.
-#[derive(Drop)]
+#[derive(Clone, Copy)]
 pub enum Stepped {
     End,
     Tlv { tlv: Tlv, next: usize },
@@ -105,7 +107,7 @@ pub fn walk(payload: &[u8]) -> Walked
 }
 
 // A TLV that a step goes over, and where it ends.
-#[derive(Drop)]
+#[derive(Clone, Copy)]
 struct Passed {
     tlv: Tlv,
     next: usize,
@@ -143,7 +145,7 @@ fn offset_of(payload: &[u8], k: usize) -> usize
 }
 
 // What a walk with a TLV list answers, and how many elements it fills (rule W5).
-#[derive(Drop)]
+#[derive(Clone, Copy)]
 struct Planned {
     count: usize,
     answer: Walked,

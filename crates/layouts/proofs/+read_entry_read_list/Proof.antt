@@ -6,7 +6,7 @@ use borrow.Fn.PlainCycle.{Measures, is, falls, and}
 use Rattle.layouts.proofs.read_entry.Reads as read-entry
 use Rattle.layouts.proofs.read_entry.Kinds as read-entry-kinds
 use Rattle.layouts.proofs.+read_entry_read_list.Lts-read_entry as read-entry-lts
-use Rattle.layouts.proofs.read_list.Reads as read-list
+use Rattle.layouts.proofs.read_list.Reads as read_list
 use Rattle.layouts.proofs.read_list.Kinds as read-list-kinds
 use Rattle.layouts.proofs.+read_entry_read_list.Lts-read_list as read-list-lts
 use Rattle.layouts.proofs.list_at.Reads as list-at-reads
@@ -19,11 +19,11 @@ use Rattle.layouts.proofs.+read_entry_read_list.Tie.{close}
 use borrow.Author.Rules.{rules}
 use mathlib.Core.Path.{◌≡◌, sym, ap, ◌∙◌}
 use native.Mathlib.Omega.{arith}
-use Rattle.layouts.specs.Rows.{rowLayout}
+use Rattle.layouts.specs.Rows.{row_layout}
 use Rattle.layouts.specs.Reading.{list_of}
 use Rattle.numbers.specs.Numbers.{gives}
-use Rattle.layouts.proofs.Laws.{layout-zero, end-bytes, end-there, end-cut}
-use Rattle.layouts.proofs.Loop.{Left, left-all, left-none, left_cut, left-more}
+use Rattle.layouts.proofs.Laws.{layout_zero, end_bytes, end_there, end_cut}
+use Rattle.layouts.proofs.Loop.{Left, left_all, left_none, left_cut, left_more}
 
 abbrev μ-read-entry : Measures 1 read-entry-kinds.ps ℕ
 μ-read-entry κs a = a.0.levels + a.0.levels
@@ -40,16 +40,16 @@ read-entry-below t =
     and 1 read-entry-kinds.ps (falls 1 read-entry-kinds.ps ◌<◌ μ-read-entry t) read-entry.Pre
 
 abbrev read-list-at : ℕ → In 1 read-list-kinds.ps
-read-list-at t = and 1 read-list-kinds.ps (is 1 read-list-kinds.ps μ-read-list t) read-list.Pre
+read-list-at t = and 1 read-list-kinds.ps (is 1 read-list-kinds.ps μ-read-list t) read_list.Pre
 
 abbrev read-list-below : ℕ → In 1 read-list-kinds.ps
 read-list-below t =
-    and 1 read-list-kinds.ps (falls 1 read-list-kinds.ps ◌<◌ μ-read-list t) read-list.Pre
+    and 1 read-list-kinds.ps (falls 1 read-list-kinds.ps ◌<◌ μ-read-list t) read_list.Pre
 
 -- what each reader may take from those that it calls
 abbrev entry-claims : ℕ → read-entry-lts.Claims
 entry-claims t =
-    (wide-reads.Asked, wide-reads.Learnt, reach-reads.Asked, reach-reads.Learnt, list-at-reads.Asked, list-at-reads.Learnt, row-below-reads.Asked, row-below-reads.Learnt, read-list-below t, read-list.Post)
+    (wide-reads.Asked, wide-reads.Learnt, reach-reads.Asked, reach-reads.Learnt, list-at-reads.Asked, list-at-reads.Learnt, row-below-reads.Asked, row-below-reads.Learnt, read-list-below t, read_list.Post)
 
 abbrev list-claims : ℕ → read-list-lts.Claims
 list-claims t = (wide-reads.Asked, wide-reads.Learnt, run-end-reads.Asked, run-end-reads.Learnt, read-entry-below t, read-entry.Post)
@@ -63,7 +63,7 @@ read-entry-reach-requires t c κs = search rules
 read-entry-returns : (t : ℕ) → read-entry-lts.Need-returns (entry-claims t) (read-entry-at t) read-entry.Post
 read-entry-returns t c =
     let a = c.before.before.before.before.before.args in
-    c.reach.ensures ∙ rw c.before.wide.ensures.0 (sym (end-bytes a.row a.s.now a.at c.before.before.if1.true))
+    c.reach.ensures ∙ rw c.before.wide.ensures.0 (sym (end_bytes a.row a.s.now a.at c.before.before.if1.true))
 
 read-entry-list-at-requires : (t : ℕ) → read-entry-lts.Need-list-at-requires (entry-claims t) (read-entry-at t) read-entry.Post
 read-entry-list-at-requires t c κs = search rules
@@ -74,7 +74,7 @@ read-entry-enum-known-n t c = search rules
 -- the list that was found
 has : (t : ℕ) (c : read-entry-lts.After-n (entry-claims t) (read-entry-at t) read-entry.Post) →
     let a = c.before.before.before.before.before.before.args in
-    list_of (rowLayout a.row) a.s.now a.at ≡ gives (record { many = c.n.given.0.0; first = c.n.given.0.1.0 })
+    list_of (row_layout a.row) a.s.now a.at ≡ gives (record { many = c.n.given.0.0; first = c.n.given.0.1.0 })
 has t c = sym (rw c.n.given.1 at c.before.before.list_at.ensures)
 
 read-entry-row-below-requires : (t : ℕ) → read-entry-lts.Need-row-below-requires (entry-claims t) (read-entry-at t) read-entry.Post
@@ -92,70 +92,70 @@ read-entry-returns-2 : (t : ℕ) → read-entry-lts.Need-returns-2 (entry-claims
 read-entry-returns-2 t c =
     let l = c.before.before.before in
     let a = l.before.before.before.before.before.before.args in
-    c.read-list.ensures ∙ rw c.before.row-Below.ensures (end-there a.row a.s.now a.at _ (has t l))
+    c.read_list.ensures ∙ rw c.before.row-Below.ensures (end_there a.row a.s.now a.at _ (has t l))
 
 read-entry-returns-3 : (t : ℕ) → read-entry-lts.Need-returns-3 (entry-claims t) (read-entry-at t) read-entry.Post
 read-entry-returns-3 t c =
     let d = c.before.before.before in
     let a = d.before.before.before.before.args in
-    end-cut a.row a.s.now a.at _ _ d.before.if1.false (sym (rw c.before.r.given.1 at d.list_at.ensures))
+    end_cut a.row a.s.now a.at _ _ d.before.if1.false (sym (rw c.before.r.given.1 at d.list_at.ensures))
 
 abbrev read-list-Inv-loop : read-list-lts.invariant-loop
-read-list-Inv-loop row n s at p₀ i₀ p i = Left (rowLayout row) s n at i p
+read-list-Inv-loop row n s at p₀ i₀ p i = Left (row_layout row) s n at i p
 
 abbrev read-list-μ-loop : read-list-lts.decreases-loop
 read-list-μ-loop row n s at p₀ i₀ p i = n - i
 
-read-list-wide-requires : (t : ℕ) → read-list-lts.Need-wide-requires (list-claims t) (read-list-at t) read-list.Post read-list-Inv-loop read-list-μ-loop
+read-list-wide-requires : (t : ℕ) → read-list-lts.Need-wide-requires (list-claims t) (read-list-at t) read_list.Post read-list-Inv-loop read-list-μ-loop
 read-list-wide-requires t c κs = search rules
 
-read-list-run-end-requires : (t : ℕ) → read-list-lts.Need-run-end-requires (list-claims t) (read-list-at t) read-list.Post read-list-Inv-loop read-list-μ-loop
+read-list-run-end-requires : (t : ℕ) → read-list-lts.Need-run-end-requires (list-claims t) (read-list-at t) read_list.Post read-list-Inv-loop read-list-μ-loop
 read-list-run-end-requires t c κs = search rules
 
-read-list-returns : (t : ℕ) → read-list-lts.Need-returns (list-claims t) (read-list-at t) read-list.Post read-list-Inv-loop read-list-μ-loop
+read-list-returns : (t : ℕ) → read-list-lts.Need-returns (list-claims t) (read-list-at t) read_list.Post read-list-Inv-loop read-list-μ-loop
 read-list-returns t c =
     let a = c.before.before.before.before.before.args in
-    c.run-end.ensures ∙ rw (c.before.wide.ensures.0, layout-zero a.row c.before.before.if1.true)
+    c.run_end.ensures ∙ rw (c.before.wide.ensures.0, layout_zero a.row c.before.before.if1.true)
 
-read-list-loop-holds : (t : ℕ) → read-list-lts.Need-loop-init (list-claims t) (read-list-at t) read-list.Post read-list-Inv-loop read-list-μ-loop
-read-list-loop-holds t c = let a = c.before.before.before.args in left-all (rowLayout a.row) a.s.now a.n a.at
+read-list-loop-holds : (t : ℕ) → read-list-lts.Need-loop-init (list-claims t) (read-list-at t) read_list.Post read-list-Inv-loop read-list-μ-loop
+read-list-loop-holds t c = let a = c.before.before.before.args in left_all (row_layout a.row) a.s.now a.n a.at
 
-read-list-read-entry-requires : (t : ℕ) → read-list-lts.Need-read-entry-requires (list-claims t) (read-list-at t) read-list.Post read-list-Inv-loop read-list-μ-loop
+read-list-read-entry-requires : (t : ℕ) → read-list-lts.Need-read-entry-requires (list-claims t) (read-list-at t) read_list.Post read-list-Inv-loop read-list-μ-loop
 read-list-read-entry-requires t c κs = search rules
 
-read-list-enum-known-q : (t : ℕ) → read-list-lts.Need-enum-known-q (list-claims t) (read-list-at t) read-list.Post read-list-Inv-loop read-list-μ-loop
+read-list-enum-known-q : (t : ℕ) → read-list-lts.Need-enum-known-q (list-claims t) (read-list-at t) read_list.Post read-list-Inv-loop read-list-μ-loop
 read-list-enum-known-q t c = search rules
 
-read-list-enum-known-r : (t : ℕ) → read-list-lts.Need-enum-known-r (list-claims t) (read-list-at t) read-list.Post read-list-Inv-loop read-list-μ-loop
+read-list-enum-known-r : (t : ℕ) → read-list-lts.Need-enum-known-r (list-claims t) (read-list-at t) read_list.Post read-list-Inv-loop read-list-μ-loop
 read-list-enum-known-r t c = search rules
 
-read-list-returns-2 : (t : ℕ) → read-list-lts.Need-returns-2 (list-claims t) (read-list-at t) read-list.Post read-list-Inv-loop read-list-μ-loop
+read-list-returns-2 : (t : ℕ) → read-list-lts.Need-returns-2 (list-claims t) (read-list-at t) read_list.Post read-list-Inv-loop read-list-μ-loop
 read-list-returns-2 t c =
     let l = c.before.before.before.before.before in
     let a = l.before.before.before.before.args in
     let v = l.loop in
-    left_cut (rowLayout a.row) a.s.now a.n a.at v.i v.p v.invariant _ _ c.before.before.before.before.loop-test.true (sym (rw c.before.r.given.1 at c.before.before.before.read-entry.ensures))
+    left_cut (row_layout a.row) a.s.now a.n a.at v.i v.p v.invariant _ _ c.before.before.before.before.loop-test.true (sym (rw c.before.r.given.1 at c.before.before.before.read_entry.ensures))
 
-read-list-add-i : (t : ℕ) → read-list-lts.Need-overflow-add-i (list-claims t) (read-list-at t) read-list.Post read-list-Inv-loop read-list-μ-loop
+read-list-add-i : (t : ℕ) → read-list-lts.Need-overflow-add-i (list-claims t) (read-list-at t) read_list.Post read-list-Inv-loop read-list-μ-loop
 read-list-add-i t c = search rules
 
-read-list-loop-less : (t : ℕ) → read-list-lts.Need-loop-smaller (list-claims t) (read-list-at t) read-list.Post read-list-Inv-loop read-list-μ-loop
+read-list-loop-less : (t : ℕ) → read-list-lts.Need-loop-smaller (list-claims t) (read-list-at t) read_list.Post read-list-Inv-loop read-list-μ-loop
 read-list-loop-less t c = search rules
 
-read-list-loop-again : (t : ℕ) → read-list-lts.Need-loop-preserved (list-claims t) (read-list-at t) read-list.Post read-list-Inv-loop read-list-μ-loop
+read-list-loop-again : (t : ℕ) → read-list-lts.Need-loop-preserved (list-claims t) (read-list-at t) read_list.Post read-list-Inv-loop read-list-μ-loop
 read-list-loop-again t c =
     let l = c.before.before.before.before.before in
     let a = l.before.before.before.before.args in
     let v = l.loop in
     let g = c.before.q.given in
-    left-more (rowLayout a.row) a.s.now a.n a.at v.i v.p v.invariant g.0.0 c.before.before.before.before.loop-test.true (sym (rw g.1 at c.before.before.before.read-entry.ensures))
+    left_more (row_layout a.row) a.s.now a.n a.at v.i v.p v.invariant g.0.0 c.before.before.before.before.loop-test.true (sym (rw g.1 at c.before.before.before.read_entry.ensures))
 
-read-list-returns-3 : (t : ℕ) → read-list-lts.Need-returns-3 (list-claims t) (read-list-at t) read-list.Post read-list-Inv-loop read-list-μ-loop
+read-list-returns-3 : (t : ℕ) → read-list-lts.Need-returns-3 (list-claims t) (read-list-at t) read_list.Post read-list-Inv-loop read-list-μ-loop
 read-list-returns-3 t c =
     let l = c.before in
     let a = l.before.before.before.before.args in
     let v = l.loop in
-    left-none (rowLayout a.row) a.s.now a.n a.at v.i v.p v.invariant c.loop-test.false
+    left_none (row_layout a.row) a.s.now a.n a.at v.i v.p v.invariant c.loop-test.false
 
 pub +read-entry-read-list-spec : {M : Type 1} → statement M
 +read-entry-read-list-spec = close μ-read-entry μ-read-list (λ t. read-entry-lts.spec (entry-claims t)
@@ -173,7 +173,7 @@ pub +read-entry-read-list-spec : {M : Type 1} → statement M
     (read-entry-returns-3 t))
     λ t. read-list-lts.spec (list-claims t)
     (read-list-at t)
-    read-list.Post
+    read_list.Post
     read-list-Inv-loop
     read-list-μ-loop
     (read-list-wide-requires t)

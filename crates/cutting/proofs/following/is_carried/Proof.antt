@@ -2,7 +2,7 @@
 use mathlib.Core.Path.{◌∙◌}
 use borrow.Author.Rules.{rules}
 use native.Mathlib.Omega.{arith}
-use borrow.Author.Tests.{not_true, not-false}
+use borrow.Author.Tests.{not-true, not-false}
 use Rattle.cutting.proofs.Headed.{part, outside, too_long, no_run, by_bytes}
 use Rattle.cutting.proofs.following.is_carried.Statement.{statement}
 use Rattle.cutting.proofs.following.is_carried.Tie as tie
@@ -10,7 +10,7 @@ use Rattle.cutting.proofs.following.is_carried.Tie as tie
 returns-4 : tie.Need-returns-4
 returns-4 c =
     let a = c.before.before.before.before.before.before.before.before.args in
-    no_run a.message.now a.payloads.now a.s a.f (omega arith) (omega arith) _ (part a.payloads.now a.f) _ c.before.is_run.ensures (not_true _ c.if4.true)
+    no_run a.message.now a.payloads.now a.s a.f (omega arith) (omega arith) _ (part a.payloads.now a.f) _ c.before.is_run.ensures (not-true _ c.if4.true)
 
 returns-5 : tie.Need-returns-5
 returns-5 c =

@@ -1,7 +1,7 @@
 -- `is_headed` meets its contract, case by case.
 use mathlib.Core.Path.{◌∙◌}
 use borrow.Author.Rules.{rules}
-use borrow.Author.Tests.{not_true, not-false}
+use borrow.Author.Tests.{not-true, not-false}
 use Rattle.cutting.proofs.Headed.{other_number, other_mark, by_alike}
 use Rattle.cutting.proofs.following.is_headed.Statement.{statement}
 use Rattle.cutting.proofs.following.is_headed.Tie as tie
@@ -12,7 +12,7 @@ returns c = other_number _ _ _ _ c.before.before.wide.ensures.0 c.if1.true
 returns-2 : tie.Need-returns-2
 returns-2 c =
     let b = c.before.before in
-    other_mark _ _ _ _ b.before.before.before.wide.ensures.0 b.before.if1.false _ _ b.is_final.ensures c.before.is_marked.ensures (not_true _ c.if2.true)
+    other_mark _ _ _ _ b.before.before.before.wide.ensures.0 b.before.if1.false _ _ b.is_final.ensures c.before.is_marked.ensures (not-true _ c.if2.true)
 
 returns-3 : tie.Need-returns-3
 returns-3 c =

@@ -2,7 +2,7 @@
 use borrow.Author.Rules.{rules}
 use Rattle.texts.proofs.pieces.all_valid.Statement.{statement}
 use Rattle.texts.proofs.pieces.all_valid.Tie as tie
-use borrow.Author.Tests.{not_true, not-false}
+use borrow.Author.Tests.{not-true, not-false}
 use mathlib.Core.Path.{◌≡◌, sym, ap, ◌∙◌}
 use Prim.Native.Nat.{◌-◌, ◌≤◌}
 use lib.ListN.{length}
@@ -76,7 +76,7 @@ returns c =
     let l = k.before.before.before.before in
     let a = l.before.before.args in
     let v = l.loop in
-    left_bad (row_layout a.row) a.s.now a.n a.at v.i v.p v.invariant _ k.before.before.before.loop-test.true (has k) (sym (text c.before) ∙ not_true _ c.if1.true)
+    left_bad (row_layout a.row) a.s.now a.n a.at v.i v.p v.invariant _ k.before.before.before.loop-test.true (has k) (sym (text c.before) ∙ not-true _ c.if1.true)
 
 returns-2 : tie.Need-returns-2 invariant-loop decreases-loop
 returns-2 c =

@@ -2,7 +2,7 @@
 use borrow.Author.Rules.{rules}
 use Rattle.texts.proofs.reading.read_row.Statement.{statement}
 use Rattle.texts.proofs.reading.read_row.Tie as tie
-use borrow.Author.Tests.{not_true, not-false}
+use borrow.Author.Tests.{not-true, not-false}
 use mathlib.Core.Bool.{true}
 use mathlib.Core.Path.{◌≡◌, sym, ◌∙◌}
 use Rattle.numbers.proofs.Answers.{mapped_given, mapped_refused}
@@ -42,7 +42,7 @@ returns c =
     let k = c.before.before.before.before in
     let a = k.before.before.before.before.args in
     let o = laid k in
-    let bad = sym c.before.all_valid.ensures ∙ not_true _ c.if1.true in
+    let bad = sym c.before.all_valid.ensures ∙ not-true _ c.if1.true in
     sym (mapped_refused outline_of _ _ _ (whole_bad_own (row_kind a.row) a.s.now o.value o.is bad))
 
 returns-2 : tie.Need-returns-2
@@ -50,7 +50,7 @@ returns-2 c =
     let k = c.before.before.before.before.before.before.before in
     let a = k.before.before.before.before.args in
     let o = laid k in
-    let bad = sym (radios c.before) ∙ not_true _ c.if2.true in
+    let bad = sym (radios c.before) ∙ not-true _ c.if2.true in
     sym (mapped_refused outline_of _ _ _ (whole_bad_radio (row_kind a.row) a.s.now o.value o.is (own c.before.before.before) bad))
 
 returns-3 : tie.Need-returns-3

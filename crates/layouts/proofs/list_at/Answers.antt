@@ -1,0 +1,34 @@
+-- The head is there and then the list, or a refusal: the two steps of `list_of`.
+use mathlib.Core.Path.{◌≡◌, sym, ◌∙◌}
+use Prim.Native.Nat.{◌+◌}
+use Rattle.numbers.proofs.Answers.{follows, stops}
+use Rattle.layouts.specs.Reading.{reaching, ending_of}
+use Rattle.layouts.proofs.Within.{reached}
+use Rattle.layouts.proofs.Laws.{list_none, list_steps}
+use Rattle.layouts.proofs.list_at.Goals as goal
+
+-- where the head ends
+head : (c : goal.After-reach) →
+    let a = c.args in
+    reaching (a.at + a.row.h0) a.s.now (a.at + a.row.h0) ≡ ending_of c.reach.result
+head c = sym (rw c.wide.ensures.0 at c.reach.ensures)
+
+pub returns-then-row-eq0 : goal.returns-then-row-eq0
+returns-then-row-eq0 c = let a = c.args in sym (list_none a.row a.s.now a.at c.if-row-eq0.true)
+
+pub count_at-requires : goal.count_at-requires
+count_at-requires c =
+    let a = c.args in
+    let r = reached _ a.s.now _ _ (rw c.in-At.is at (head c)) in
+    rw (← r.1) r.0
+
+pub returns-in-At : goal.returns-in-At
+returns-in-At c =
+    let a = c.args in
+    let there = follows _ _ _ (rw c.in-At.is at (head c)) in
+    c.count_at.ensures ∙ rw c.wide-in-At.ensures.0 (sym (list_steps a.row a.s.now a.at c.if-row-eq0.false ∙ there))
+
+pub returns-in-Refused : goal.returns-in-Refused
+returns-in-Refused c =
+    let a = c.args in
+    sym (list_steps a.row a.s.now a.at c.if-row-eq0.false ∙ stops _ _ _ _ (rw c.in-Refused.is at (head c.before.before.before)))

@@ -1,0 +1,20 @@
+-- The row of the code is asked, or its refusal is passed on.
+use mathlib.Core.Path.{◌≡◌, sym, ◌∙◌}
+use Rattle.numbers.specs.Numbers.{gives}
+use Rattle.numbers.proofs.Answers.{follows, stops}
+use Rattle.layouts.specs.Layouts.{layout_of}
+use Rattle.layouts.specs.Access.{pass_entry}
+use Rattle.layouts.specs.Rows.{row_layout}
+use Rattle.layouts.proofs.pass.Goals as goal
+
+-- the row that was found
+has : (c : goal.In-List-2) → layout_of c.args.code ≡ gives (row_layout c.in-List.row)
+has c = sym (rw c.in-List.is at c.row_of.ensures)
+
+pub returns-in-List : goal.returns-in-List
+unfolding pass_entry
+returns-in-List c = c.pass_at.ensures ∙ sym (follows _ _ _ (has c))
+
+pub returns-in-Refused : goal.returns-in-Refused
+unfolding pass_entry
+returns-in-Refused c = sym (stops _ _ _ _ (sym (rw c.in-Refused.is at c.row_of.ensures)))
