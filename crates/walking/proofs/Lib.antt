@@ -1,8 +1,6 @@
-pub mod Body
 pub mod Carried
 pub mod Chained
 pub mod Claims
-pub mod Elem
 pub mod Filled
 pub mod Filling
 pub mod Firm
