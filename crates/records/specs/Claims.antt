@@ -1,12 +1,12 @@
 -- What is claimed of this crate's calls; proofs/Claims.antt proves it.
 use Rattle.std.specs.Prelude.{◌≡◌, List, ℕ, ◌≤◌, length}
-use Rattle.numbers.specs.Numbers.{gives}
+use Rattle.numbers.specs.Numbers.{gives, mapped}
 use Rattle.numbers.specs.Firmness.{Firm}
 use Rattle.records.specs.declared.Record.{Record}
 use Rattle.records.specs.declared.RecordKind.{RecordKind}
 use Rattle.records.specs.Values.{units_of}
 use Rattle.records.specs.Kinds.{code_of, kind_of}
-use Rattle.records.specs.Reading.{RecordRead, got_of, is_record_lem, of_kind_lem, read_record_lem}
+use Rattle.records.specs.Reading.{RecordRead, got_of, measured_of, is_record_lem, of_kind_lem, read_record_lem}
 
 -- Rule A4, for each public call by its name: any two answers that its contract allows are one.
 pub record Firmness : Type 0 where
@@ -15,6 +15,7 @@ pub record Firmness : Type 0 where
   pub from_u8 : (input : ℕ) → Firm (λ units. units ≡ units_of input)
   pub code_of_lem : (item : Record) → Firm (λ n. n ≡ code_of (kind_of item))
   pub is_record : (code : ℕ) → Firm (λ b. b ≡ is_record_lem code)
+  pub measure : (code : ℕ) (s : List ℕ) → Firm (λ m. measured_of m ≡ mapped (λ x. x.consumed) (read_record_lem code s))
 
 -- Rules K1 and K2: no two kinds have one code. A value is read by the kind that has the code.
 abbrev pub OwnCodes : Type 0

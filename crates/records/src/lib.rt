@@ -9,9 +9,10 @@ mod reading;
 
 // A caller that reads client associations and no other kind uses their own reader.
 ghost use Rattle.std.specs.Prelude.{◌≡◌};
+ghost use Rattle.numbers.specs.Numbers.{mapped};
 ghost use Rattle.records.specs.Values.{band_of_lem, version_of_lem, result_of, profile_of_lem, state_of, units_of};
 ghost use Rattle.records.specs.Kinds.{record_kinds, code_of, kind_of};
-ghost use Rattle.records.specs.Reading.{got_of, read_record_lem, with_code, is_record_lem};
+ghost use Rattle.records.specs.Reading.{got_of, read_record_lem, measured_of, with_code, is_record_lem};
 ghost use Rattle.records.specs.PrivateKinds.{known_of};
 
 pub use reading::read_client_association;
@@ -317,5 +318,25 @@ pub fn is_record(code: u8) -> bool
     match kind_of(code) {
         KnownKind::Is(_) => true,
         KnownKind::None => false,
+    }
+}
+
+// What measuring a value finds: how many bytes its layout consumed.
+#[derive(Clone, Copy)]
+pub enum Measured {
+    Bytes(usize),
+    Refused(Refusal),
+}
+
+// Reads like `read_record`, for a caller that needs only the number of bytes consumed (rule K1).
+pub fn measure(code: u8, s: &[u8]) -> Measured
+    ensures { measured_of result ≡ mapped (λ x. x.consumed) (read_record_lem code s.now) }
+{
+    match read_record(code, s) {
+        RecordAnswer::Got {
+            record: _,
+            consumed,
+        } => Measured::Bytes(consumed),
+        RecordAnswer::Refused(refusal) => Measured::Refused(refusal),
     }
 }
