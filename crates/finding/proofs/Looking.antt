@@ -8,10 +8,11 @@ use native.Mathlib.Omega.{arith}
 use lib.Dec.{eqb, leb}
 use lib.ListN.{length, take, drop}
 use borrow.Author.Tests.{eq-eqb, le-leb, lt-leb, leb-true, leb-false}
-use Rattle.numbers.specs.Numbers.{Answer, gives, refuses, is_given}
+use Rattle.numbers.specs.Numbers.{Answer, gives, refuses, mapped, is_given}
 use Rattle.records.specs.declared.Record.{Record}
 use Rattle.kinds.specs.declared.KindRead.{KindRead}
-use Rattle.kinds.specs.Kinds.{is_kind_lem, Typed, kind_read_of, read_kind_lem}
+use Rattle.kinds.specs.declared.KindSize.{KindSize}
+use Rattle.kinds.specs.Kinds.{is_kind_lem, Typed, kind_read_of, read_kind_lem, kind_size_of, without_record}
 use Rattle.kinds.proofs.Laws.{of_a_kind as reads-a-kind}
 use Rattle.walking.specs.declared.Tlv.{Tlv}
 use Rattle.finding.specs.Finding.{is_candidate_lem, value_of, if_given, is_there_lem, reads_as_lem}
@@ -54,14 +55,14 @@ module _ (code : ℕ) (payload : List ℕ) (t : Tlv) where
   unfolding reads_as_lem
   reads e = ap (λ (b : Bool). cond b (if_given (read_kind_lem code (value_of payload t))) none) (sym e)
 
-  -- whether it reads
-  still : (x : Answer (Typed Record)) → is_given x ≡ is_there_lem (if_given x)
+  -- and its value may be measured instead
+  still : (x : Answer (Typed Record)) → is_given (mapped without_record x) ≡ is_there_lem (if_given x)
   still (gives r) = refl
   still (refuses n vs) = refl
 
-  pub measured : (value : List ℕ) (read m : KindRead) → read ≡ m → kind_read_of read ≡ read_kind_lem code value → value ≡ value_of payload t
-      → is_candidate_lem code (length payload) t ≡ true → is_given (kind_read_of m) ≡ is_there_lem (reads_as_lem code payload t)
-  measured value read m is e v h = rw (← is, e, v) (still (read_kind_lem code (value_of payload t)) ∙ ap is_there_lem (reads h))
+  pub measured : (value : List ℕ) (size m : KindSize) → size ≡ m → kind_size_of size ≡ mapped without_record (read_kind_lem code value) → value ≡ value_of payload t
+      → is_candidate_lem code (length payload) t ≡ true → is_given (kind_size_of m) ≡ is_there_lem (reads_as_lem code payload t)
+  measured value size m is e v h = rw (← is, e, v) (still (read_kind_lem code (value_of payload t)) ∙ ap is_there_lem (reads h))
 
   pub looked_at : (looked : ℕ) (value : List ℕ) (read m : KindRead) → read ≡ m → kind_read_of read ≡ read_kind_lem code value → value ≡ value_of payload t
       → is_candidate_lem code (length payload) t ≡ true → looked_as (if_given (kind_read_of m)) looked t ≡ looked_as (reads_as_lem code payload t) looked t

@@ -7,7 +7,7 @@ ghost use Rattle.walking.specs.Walk.{walk_on};
 ghost use Rattle.finding.specs.Finding.{found_of, placed_of, searched_of, is_candidate_lem, value_of, reads_as_lem, is_there_lem, find_from, find_in_payload_lem, find_onward_lem};
 ghost use Rattle.finding.specs.Private.{none_of_lem, looked_in_lem, looked_as, going_on_lem, spot_as, sought_in};
 
-use kinds::KindRead;
+use kinds::{KindRead, KindSize};
 use numbers::Refusal;
 use records::Record;
 use walking::{Stepped, Tlv, Walked};
@@ -113,24 +113,23 @@ fn value_in(t: Tlv, payload: &[u8]) -> &[u8]
     &payload[start..end]
 }
 
-// Is the record a readable one of the kind? Its value is read here, but what it reads as is asked for the record
+// Is the record a readable one of the kind? Its value is only measured here: what it reads as is asked for the record
 // that is found, and for no other.
 fn reads(t: Tlv, payload: &[u8], code: u8) -> bool
     ensures { result ≡ is_there_lem (reads_as_lem code payload.now t) }
 {
     if is_candidate(t, payload.len(), code) {
-        return match kinds::read_kind(code, value_in(t, payload)) {
-            KindRead::Record {
-                record: _,
+        return match kinds::measure(code, value_in(t, payload)) {
+            KindSize::Record {
                 consumed: _,
                 rest: _,
             } => true,
-            KindRead::List {
+            KindSize::List {
                 entries: _,
                 consumed: _,
                 rest: _,
             } => true,
-            KindRead::Refused(_) => false,
+            KindSize::Refused(_) => false,
         };
     }
     false

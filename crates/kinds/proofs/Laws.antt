@@ -11,7 +11,7 @@ use Rattle.numbers.proofs.Firm.{never}
 use Rattle.numbers.proofs.Answers.{given, mapped_gave}
 use Rattle.framing.specs.Tlv.{write_size, tlv_bytes, leaves}
 use Rattle.records.specs.declared.Record.{Record}
-use Rattle.records.specs.Reading.{read_record_lem}
+use Rattle.records.specs.Reading.{RecordRead, read_record_lem}
 use Rattle.records.proofs.Given.{is_known_lem, known, consumed_within}
 use Rattle.layouts.specs.Reading.{read_value_lem}
 use Rattle.layouts.specs.Layouts.{is_list_lem}
@@ -24,8 +24,26 @@ use Rattle.texts.specs.Access.{locate_radio, count_radios}
 use Rattle.texts.proofs.Asked.{text_within}
 use Rattle.texts.proofs.Claims as texts
 use Rattle.kinds.specs.declared.Family.{Family}
-use Rattle.kinds.specs.Kinds.{Typed, family_of_lem, is_kind_by, is_kind_lem, one_record, one_list, read_by, read_kind_lem, no_entry_in_lem, locate_by, locate_kind, count_by, count_kind, text_by, locate_text_in}
+use Rattle.kinds.specs.Kinds.{Typed, one, family_of_lem, is_kind_by, is_kind_lem, one_record, one_list, read_by, read_kind_lem, without_record, no_entry_in_lem, locate_by, locate_kind, count_by, count_kind, text_by, locate_text_in}
 use Rattle.kinds.specs.Writing.{write_kind_lem, kind_bytes}
+
+-- what is measured of a record is what reading it gives, without the record
+pub record Measures (code : ℕ) (s : List ℕ) (n : ℕ) : Type 0 where
+  pub inside : n ≤ length s
+  pub is : gives (record { held = one tt; consumed = n; rest = length s - n }) ≡ mapped without_record (mapped (one_record (length s)) (read_record_lem code s))
+
+pub measured : (code : ℕ) (s : List ℕ) (n : ℕ) → gives n ≡ mapped (λ (r : RecordRead). r.consumed) (read_record_lem code s) → Measures code s n
+measured code s n e =
+    let g = mapped_gave (λ (r : RecordRead). r.consumed) (read_record_lem code s) n (sym e) in
+    let i : g.first.consumed ≡ n = given g.first.consumed n g.then in
+    record { inside = omega (arith, i, consumed_within code s g.first g.is); is = rw (g.is, i) }
+
+pub unmeasured : (code : ℕ) (s : List ℕ) (n : ℕ) (vs : List ℕ) → refuses n vs ≡ mapped (λ (r : RecordRead). r.consumed) (read_record_lem code s) → refuses n vs ≡ mapped without_record (mapped (one_record (length s)) (read_record_lem code s))
+unmeasured code s n vs = by_reading (read_record_lem code s)
+  where
+    by_reading : (x : Answer RecordRead) → refuses n vs ≡ mapped (λ (r : RecordRead). r.consumed) x → refuses n vs ≡ mapped without_record (mapped (one_record (length s)) x)
+    by_reading (gives r) e = never _ _ _ (sym e)
+    by_reading (refuses m us) e = let i : n ≡ m = cc in let j : vs ≡ us = cc in rw (i, j)
 
 -- what is refused where there is no entry is the same, whatever was asked for
 pub asked : {A B : Type 0} (code : ℕ) (s : List ℕ) (n : ℕ) (vs : List ℕ) → ◌≡◌ {A = Answer A} (refuses n vs) (no_entry_in_lem code s) → ◌≡◌ {A = Answer B} (refuses n vs) (no_entry_in_lem code s)

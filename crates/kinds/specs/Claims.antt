@@ -1,7 +1,7 @@
 -- What is claimed of the kinds, besides what the calls promise; proofs/Claims.antt proves it.
 use Rattle.std.specs.Prelude.{◌≡◌, true, false, List, ◌++◌, ℕ, ◌+◌, ◌≤◌, length, take}
 use Rattle.std.specs.Borrow.{Bor}
-use Rattle.numbers.specs.Numbers.{gives}
+use Rattle.numbers.specs.Numbers.{gives, mapped}
 use Rattle.numbers.specs.Firmness.{Firm}
 use Rattle.numbers.specs.Parts.{behind}
 use Rattle.framing.specs.Tlv.{TlvRead, read_tlv_lem, value_in_lem, written_of, longest_value, write_size, tlv_bytes, leaves}
@@ -18,7 +18,7 @@ use Rattle.layouts.specs.declared.Path.{Path}
 use Rattle.layouts.specs.Access.{numbers_of, located_of, counted_of, part_of, start_in}
 use Rattle.texts.specs.Texts.{inventory_code, is_text_lem}
 use Rattle.texts.specs.Access.{locate_radio_text_lem}
-use Rattle.kinds.specs.Kinds.{Typed, one, is_kind_lem, kind_read_of, read_kind_lem, locate_kind, count_kind, locate_text_in}
+use Rattle.kinds.specs.Kinds.{Typed, one, is_kind_lem, kind_read_of, read_kind_lem, kind_size_of, without_record, locate_kind, count_kind, locate_text_in}
 use Rattle.kinds.specs.Writing.{write_kind_lem, kind_bytes}
 
 -- Rule A4: for each public call, by its name, any two answers that its contract allows are one, with what the lent room
@@ -26,6 +26,7 @@ use Rattle.kinds.specs.Writing.{write_kind_lem, kind_bytes}
 pub record Firmness : Type 0 where
   pub is_kind : (code : ℕ) → Firm (λ r. r ≡ is_kind_lem code)
   pub read_kind : (code : ℕ) (s : List ℕ) → Firm (λ r. kind_read_of r ≡ read_kind_lem code s)
+  pub measure : (code : ℕ) (s : List ℕ) → Firm (λ r. kind_size_of r ≡ mapped without_record (read_kind_lem code s))
   pub locate : (code : ℕ) (path : Path) (s : List ℕ) → Firm (λ r. located_of r ≡ locate_kind code (numbers_of path) s)
   pub entry : (code : ℕ) (path : Path) (s : Bor (List ℕ)) → Firm {A = List ℕ × (ℕ × ℕ)} (λ r.
       (r.0 ≡ part_of (locate_kind code (numbers_of path) s.now) s.now) × (r.1 ≡ behind (start_in (locate_kind code (numbers_of path) s.now)) s))

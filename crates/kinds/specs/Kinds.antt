@@ -14,6 +14,8 @@ use Rattle.texts.specs.Access.{locate_radio, count_radios, locate_text_lem}
 use Rattle.kinds.specs.declared.Family.{Family}
 use Rattle.kinds.specs.declared.KindRead.{KindRead}
 use Rattle.kinds.specs.declared.KindRead.TheVariants as KindRead
+use Rattle.kinds.specs.declared.KindSize.{KindSize}
+use Rattle.kinds.specs.declared.KindSize.TheVariants as KindSize
 
 -- The family of a code. No code is of two families (`Apart`, in Claims). A code that is no list's and no text's is left
 -- to the records, which have it or refuse it by 16.
@@ -62,6 +64,19 @@ read_by Family.Record code s = mapped (one_record (length s)) (records.read_reco
 -- Rule K1: the value s of the kind with this code.
 unfoldable pub read_kind_lem : ℕ → List ℕ → Answer (Typed Record)
 read_kind_lem code s = read_by (family_of_lem code) code s
+
+-- Measuring: what reading gives, without the record itself (rules K1 and C1).
+abbrev pub kind_size_of : KindSize → Answer (Typed Unit)
+kind_size_of (KindSize.Record c n) = gives (record { held = one tt; consumed = c; rest = n })
+kind_size_of (KindSize.List n c m) = gives (record { held = list n; consumed = c; rest = m })
+kind_size_of (KindSize.Refused r) = told r
+
+abbrev pub held_without : Contents Record → Contents Unit
+held_without (one r) = one tt
+held_without (list n) = list n
+
+abbrev pub without_record : Typed Record → Typed Unit
+without_record t = record { held = held_without t.held; consumed = t.consumed; rest = t.rest }
 
 -- Rules E2 and E7: an entry of a record kind, or a text of a kind that holds none. It is refused by 6, once the value
 -- has read.

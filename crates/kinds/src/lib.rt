@@ -9,13 +9,13 @@ ghost use Rattle.numbers.specs.Parts.{behind};
 ghost use Rattle.layouts.specs.Reading.{reading_of};
 ghost use Rattle.layouts.specs.Access.{numbers_of, located_of, counted_of, part_of, start_in};
 ghost use Rattle.records.specs.Reading.{read_record_lem};
-ghost use Rattle.kinds.specs.Kinds.{family_of_lem, is_kind_lem, kind_read_of, one_record, one_list, read_kind_lem, no_entry_in_lem, locate_kind, count_kind, locate_text_in};
+ghost use Rattle.kinds.specs.Kinds.{family_of_lem, is_kind_lem, kind_read_of, one_record, one_list, read_kind_lem, kind_size_of, without_record, no_entry_in_lem, locate_kind, count_kind, locate_text_in};
 ghost use Rattle.kinds.specs.Writing.{write_kind_lem, kind_bytes};
 
 use framing::Written;
 use layouts::{Counted, Located, Path, Reading};
 use numbers::Refusal;
-use records::{Record, RecordAnswer};
+use records::{Measured, Record, RecordAnswer};
 
 // What reading a typed value finds (rule K1): a record, or how many entries a list kind's own list or a value that
 // holds text has. The bytes consumed and the number of bytes after them come with it.
@@ -23,6 +23,21 @@ use records::{Record, RecordAnswer};
 pub enum KindRead {
     Record {
         record: Record,
+        consumed: usize,
+        rest: usize,
+    },
+    List {
+        entries: usize,
+        consumed: usize,
+        rest: usize,
+    },
+    Refused(Refusal),
+}
+
+// The same without the record itself.
+#[derive(Clone, Copy)]
+pub enum KindSize {
+    Record {
         consumed: usize,
         rest: usize,
     },
@@ -111,23 +126,64 @@ pub fn read_kind(code: u8, s: &[u8]) -> KindRead
     }
 }
 
+// The same for a list that is measured.
+fn list_size(list: Reading) -> KindSize
+    ensures { kind_size_of result ≡ mapped without_record (mapped one_list (reading_of list)) }
+{
+    match list {
+        Reading::Value {
+            consumed,
+            rest,
+            entries,
+        } => KindSize::List {
+            entries,
+            consumed,
+            rest,
+        },
+        Reading::Refused(refusal) => KindSize::Refused(refusal),
+    }
+}
+
+// The value s of the record kind with this code, measured.
+fn record_size(code: u8, s: &[u8]) -> KindSize
+    ensures { kind_size_of result ≡ mapped without_record (mapped (one_record (length s.now)) (read_record_lem code s.now)) }
+{
+    match records::measure(code, s) {
+        Measured::Bytes(size) => KindSize::Record {
+            consumed: size,
+            rest: s.len() - size,
+        },
+        Measured::Refused(refusal) => KindSize::Refused(refusal),
+    }
+}
+
+// The value s of the kind with this code, measured alone, for a caller that needs no record.
+pub fn measure(code: u8, s: &[u8]) -> KindSize
+    ensures { kind_size_of result ≡ mapped without_record (read_kind_lem code s.now) }
+{
+    match family_of(code) {
+        Family::List => list_size(layouts::read_value(code, s)),
+        Family::Text => list_size(texts::read_value(code, s)),
+        Family::Record => record_size(code, s),
+    }
+}
+
 // What is refused where an entry of a record kind is asked for, or a text of a kind that holds none: the value's own
 // refusal, and then 6 (rules E2 and E7).
 fn no_entry_in(code: u8, s: &[u8]) -> Refusal
     ensures { told {A = ℕ} result ≡ no_entry_in_lem code s.now }
 {
-    match read_kind(code, s) {
-        KindRead::Record {
-            record: _,
+    match measure(code, s) {
+        KindSize::Record {
             consumed: _,
             rest: _,
         } => Refusal::NoEntry,
-        KindRead::List {
+        KindSize::List {
             entries: _,
             consumed: _,
             rest: _,
         } => Refusal::NoEntry,
-        KindRead::Refused(refusal) => refusal,
+        KindSize::Refused(refusal) => refusal,
     }
 }
 
