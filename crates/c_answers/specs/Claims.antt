@@ -1,14 +1,15 @@
 -- What is claimed of this crate's calls; proofs/Claims.antt proves it.
 use Rattle.std.specs.Prelude.{◌≡◌, cond, List, ℕ, length, take, drop}
-use Rattle.numbers.specs.Numbers.{Answer}
+use Rattle.numbers.specs.Numbers.{Answer, mapped}
 use Rattle.numbers.specs.Firmness.{Firm}
 use Rattle.framing.specs.declared.HeaderRead.{HeaderRead}
 use Rattle.framing.specs.Cmdu.{header_of_lem}
 use Rattle.walking.specs.declared.Walked.{Walked}
 use Rattle.walking.specs.declared.Stepped.{Stepped}
 use Rattle.walking.specs.Walk.{walked_of, stepped_of}
-use Rattle.kinds.specs.declared.KindRead.{KindRead}
-use Rattle.kinds.specs.Kinds.{kind_read_of}
+use Rattle.records.specs.declared.Record.{Record}
+use Rattle.kinds.specs.declared.KindSize.{KindSize}
+use Rattle.kinds.specs.Kinds.{Typed, kind_size_of, without_record}
 use Rattle.finding.specs.declared.Placed.{Placed}
 use Rattle.finding.specs.Finding.{placed_of}
 use Rattle.layouts.specs.declared.Located.{Located}
@@ -30,7 +31,7 @@ pub record Firmness : Type 0 where
   pub header_numbers : (read : HeaderRead) → Firm (λ r. r ≡ header_numbers_lem (header_of_lem read))
   pub walk_numbers : (walked : Walked) → Firm (λ r. r ≡ walk_numbers_lem (walked_of walked))
   pub step_numbers : (stepped : Stepped) → Firm (λ r. r ≡ step_numbers_lem (stepped_of stepped))
-  pub kind_numbers : (read : KindRead) → Firm (λ r. r ≡ kind_numbers_lem (kind_read_of read))
+  pub kind_numbers : (size : KindSize) → Firm (λ r. r ≡ kind_numbers_lem (kind_size_of size))
   pub found_numbers : (placed : Placed) → Firm (λ r. r ≡ found_numbers_lem (placed_of placed))
   pub part_numbers : (located : Located) → Firm (λ r. r ≡ part_numbers_lem (located_of located))
   pub push_numbers : (pushed : Pushed) → Firm (λ r. r ≡ push_numbers_lem (pushed_of pushed))
@@ -38,6 +39,10 @@ pub record Firmness : Type 0 where
       → Firm (λ r. r ≡ shown_in_lem pushed payload-size out-size)
   pub check_numbers : (checked : Checked) → Firm (λ r. r ≡ check_numbers_lem (checked_of checked))
   pub cut_numbers : (cutting : Cutting) → Firm (λ r. r ≡ cut_numbers_lem (cutting_of cutting))
+
+-- Rule C1: a value that was measured crosses as the value that was read does.
+abbrev pub MeasuredAsRead : Type 0
+MeasuredAsRead = (x : Answer (Typed Record)) → kind_numbers_lem (mapped without_record x) ≡ kind_numbers_lem x
 
 -- Rules E7 and E8: the part that an answer of `part_numbers` names is the one that the layer's own call returns.
 abbrev pub part_in_lem : AshlarPart → List ℕ → List ℕ
@@ -58,5 +63,6 @@ ShowsTheMessage =
 -- everything that is claimed of this crate
 pub record Claims : Type 0 where
   pub firmness : Firmness
+  pub measured_as_read : MeasuredAsRead
   pub names_the_part : NamesThePart
   pub shows_the_message : ShowsTheMessage

@@ -68,17 +68,17 @@ step_numbers_lem (gives (passed t next)) = record { tlv = t; next = next; shortf
 step_numbers_lem (gives (last t end)) = record { tlv = t; next = end; shortfall = 0; answer = 3; refusal = 0 }
 step_numbers_lem (refuses n vs) = unstepped_by (walk_numbers_lem (refuses n vs))
 
--- Rules K1 and C1: whether the kind is a record kind, which has fields and no entries; for a list, how many entries its
--- outermost level has.
+-- Rules K1 and C1: a record doesn't cross; it is the first bytes of its value, as many as were consumed. For a list,
+-- how many entries its outermost level has.
 abbrev pub contents_numbers : {R : Type 0} → Contents R → ℕ → ℕ → AshlarKind
 contents_numbers (one r) consumed rest =
-    record { entries = 0; consumed = consumed; rest = rest; is_record = true; refusal = 0 }
+    record { entries = 0; consumed = consumed; rest = rest; is_list = false; refusal = 0 }
 contents_numbers (list n) consumed rest =
-    record { entries = n; consumed = consumed; rest = rest; is_record = false; refusal = 0 }
+    record { entries = n; consumed = consumed; rest = rest; is_list = true; refusal = 0 }
 
 abbrev pub kind_numbers_lem : {R : Type 0} → Answer (Typed R) → AshlarKind
 kind_numbers_lem (gives t) = contents_numbers t.held t.consumed t.rest
-kind_numbers_lem (refuses n vs) = record { entries = 0; consumed = 0; rest = 0; is_record = false; refusal = n }
+kind_numbers_lem (refuses n vs) = record { entries = 0; consumed = 0; rest = 0; is_list = false; refusal = n }
 
 -- Rule F1: finding answers how many records were looked at, alone: 15 carries it too. What the value of the one that was
 -- found reads as is for `read_kind` to say.

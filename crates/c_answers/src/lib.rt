@@ -6,7 +6,7 @@ ghost use Rattle.std.specs.Prelude.{◌≡◌, ◌∷◌};
 ghost use Rattle.numbers.specs.Numbers.{refuses, told, number, values};
 ghost use Rattle.framing.specs.Cmdu.{header_of_lem};
 ghost use Rattle.walking.specs.Walk.{walked_of, stepped_of};
-ghost use Rattle.kinds.specs.Kinds.{kind_read_of};
+ghost use Rattle.kinds.specs.Kinds.{kind_size_of};
 ghost use Rattle.finding.specs.Finding.{placed_of};
 ghost use Rattle.layouts.specs.Access.{located_of};
 ghost use Rattle.pushing.specs.Push.{pushed_of};
@@ -17,7 +17,7 @@ ghost use Rattle.c_answers.specs.Numbers.{header_numbers_lem, walk_numbers_lem, 
 use cutting::{Checked, Cutting};
 use finding::Placed;
 use framing::HeaderRead;
-use kinds::KindRead;
+use kinds::KindSize;
 use layouts::Located;
 use numbers::Refusal;
 use pushing::Pushed;
@@ -65,14 +65,14 @@ pub struct AshlarStep {
 }
 
 // How many entries the value's own list has, if its kind is a list kind or holds text (rule K1); the radios are the
-// list of such a value. A record kind has fields and no entries.
+// list of such a value. A record is the first `consumed` bytes of its value.
 #[repr(C)]
 #[derive(Clone, Copy)]
 pub struct AshlarKind {
     pub entries: usize,
     pub consumed: usize,
     pub rest: usize,
-    pub is_record: bool,
+    pub is_list: bool,
     pub refusal: u8,
 }
 
@@ -248,23 +248,19 @@ pub fn step_numbers(stepped: Stepped) -> AshlarStep
     }
 }
 
-// A typed value, measured alone: the fields of a record cross by calls of their own.
-pub fn kind_numbers(read: KindRead) -> AshlarKind
-    ensures { result ≡ kind_numbers_lem (kind_read_of read) }
+// A typed value, measured alone: its record doesn't cross to C.
+pub fn kind_numbers(size: KindSize) -> AshlarKind
+    ensures { result ≡ kind_numbers_lem (kind_size_of size) }
 {
-    match read {
-        KindRead::Record {
-            record: _,
-            consumed,
-            rest,
-        } => AshlarKind {
+    match size {
+        KindSize::Record { consumed, rest } => AshlarKind {
             entries: 0,
             consumed,
             rest,
-            is_record: true,
+            is_list: false,
             refusal: 0,
         },
-        KindRead::List {
+        KindSize::List {
             entries,
             consumed,
             rest,
@@ -272,14 +268,14 @@ pub fn kind_numbers(read: KindRead) -> AshlarKind
             entries,
             consumed,
             rest,
-            is_record: false,
+            is_list: true,
             refusal: 0,
         },
-        KindRead::Refused(refusal) => AshlarKind {
+        KindSize::Refused(refusal) => AshlarKind {
             entries: 0,
             consumed: 0,
             rest: 0,
-            is_record: false,
+            is_list: false,
             refusal: numbers::number_of(refusal),
         },
     }

@@ -387,9 +387,9 @@ pub record OfC : Type 0 where
   pub c_walk : walk_numbers_lem (gives (record { count = 2; padding = 3 })) ≡ record { count = 2; padding = 3; at = 0; shortfall = 0; refusal = 0 }
   pub c_cut_walk : walk_numbers_lem (refuses 2 (7 ∷ 4 ∷ [])) ≡ record { count = 0; padding = 0; at = 7; shortfall = 4; refusal = 2 }
   pub c_list_too_short : walk_numbers_lem (refuses 14 (4 ∷ [])) ≡ record { count = 0; padding = 0; at = 4; shortfall = 0; refusal = 14 }
-  pub c_record : kind_numbers_lem (one_record_lem Record.EndOfMessage 6 1) ≡ record { entries = 0; consumed = 6; rest = 1; is_record = true; refusal = 0 }
-  pub c_list : kind_numbers_lem (a_list 2 18 1) ≡ record { entries = 2; consumed = 18; rest = 1; is_record = false; refusal = 0 }
-  pub c_no_value : kind_numbers_lem {R = Record} (refuses 18 []) ≡ record { entries = 0; consumed = 0; rest = 0; is_record = false; refusal = 18 }
+  pub c_record : kind_numbers_lem (one_record_lem Record.EndOfMessage 6 1) ≡ record { entries = 0; consumed = 6; rest = 1; is_list = false; refusal = 0 }
+  pub c_list : kind_numbers_lem (a_list 2 18 1) ≡ record { entries = 2; consumed = 18; rest = 1; is_list = true; refusal = 0 }
+  pub c_no_value : kind_numbers_lem {R = Record} (refuses 18 []) ≡ record { entries = 0; consumed = 0; rest = 0; is_list = false; refusal = 18 }
   pub c_found : found_numbers_lem (gives 3) ≡ record { looked = 3; refusal = 0 }
   pub c_none_found : found_numbers_lem (refuses 15 (4 ∷ [])) ≡ record { looked = 4; refusal = 15 }
   pub c_no_kind_to_find : found_numbers_lem (refuses 16 []) ≡ record { looked = 0; refusal = 16 }
