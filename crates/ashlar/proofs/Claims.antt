@@ -76,6 +76,18 @@ firmness = record {
   ashlar_put_bss = λ code bss name out. both _ _ (by_equation _) (by_equation _);
   ashlar_put_tx_pair = λ pair out. both _ _ (by_equation _) (by_equation _);
   ashlar_put_rx_pair = λ pair out. both _ _ (by_equation _) (by_equation _);
+  ashlar_fresh = by_equation _;
+  ashlar_push = λ t store out a payload p q x y i.
+      ((x.crosses ∙ ap push_numbers_lem (x.goes.answers ∙ sym y.goes.answers) ∙ sym y.crosses) i, (x.goes.keeps ∙ sym y.goes.keeps) i, (x.goes.stores ∙ sym y.goes.stores) i, (x.goes.puts ∙ sym y.goes.puts) i);
+  ashlar_show = λ pushed payload out. by_equation _;
+  ashlar_sweep = (reassembler.firmness).sweep;
+  ashlar_station_event = λ t station point joined. both _ _ (by_equation _) (by_equation _);
+  ashlar_station_event_from = λ t value. both _ _ (by_equation _) (by_equation _);
+  ashlar_station_at = λ t station. by_equation _;
+  ashlar_station_count = λ t. by_equation _;
+  ashlar_station_row = λ t n. by_equation _;
+  ashlar_radio = λ number value. by_equation _;
+  ashlar_radio_text = λ number value. by_equation _;
 }
 
 pub claims : Claims

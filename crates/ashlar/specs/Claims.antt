@@ -23,6 +23,8 @@ use Rattle.fields.specs.Writing.{front_made, neighbour_made, interface_made, ipv
 use Rattle.kinds.specs.Writing.{write_kind_lem, kind_bytes}
 use Rattle.keys.specs.Keys.{key_of}
 use Rattle.table.specs.declared.Table.{Table}
+use Rattle.texts.specs.Texts.{inventory_code}
+use Rattle.texts.specs.Access.{locate_radio, locate_radio_text_lem}
 use Rattle.table.specs.Rows.{fresh_table}
 use Rattle.sweeping.specs.Sweep.{swept, swept_as}
 use Rattle.pushing.specs.declared.Arrival.{Arrival}
@@ -228,6 +230,27 @@ pub record Firmness : Type 0 where
       → Firm {A = AshlarWritten × List ℕ} (λ o.
       (o.0 ≡ written_numbers_lem (put_size (rx_made pair) (length out)))
       × (o.1 ≡ leaves (put_size (rx_made pair) (length out)) (made_bytes (rx_made pair)) out))
+  -- by the names that these calls had first
+  pub ashlar_fresh : Firm (λ r. r ≡ fresh_table)
+  pub ashlar_push : (t : Table) (store out : List ℕ) (a : Arrival) (payload : List ℕ)
+      → Firm {A = AshlarPushed × Table × List ℕ × List ℕ} (λ o.
+      Numbered (way t store a payload (length out)) t store out a payload o.0 o.1 o.2 o.3)
+  pub ashlar_show : (pushed : AshlarPushed) (payload out : List ℕ)
+      → Firm (λ r. r ≡ shown_in_lem pushed (length payload) (length out))
+  pub ashlar_sweep : (t : Table) (time : ℕ) → Firm {A = ℕ × Table} (λ o. swept_as o.1 o.0 ≡ swept t time)
+  pub ashlar_station_event : (t : Stations) (station point : MacAddr) (joined : Bool)
+      → Firm {A = AshlarHeard × Stations} (λ o.
+      (o.0 ≡ event_numbers_lem (answer_to t (event_of (association_with_lem station point joined))))
+      × (o.1 ≡ table_after t (event_of (association_with_lem station point joined))))
+  pub ashlar_station_event_from : (t : Stations) (value : List ℕ)
+      → Firm {A = AshlarApplied × Stations} (λ o.
+      (o.0 ≡ applied_numbers_lem (length value) (answer_from t value)) × (o.1 ≡ table_from t value))
+  pub ashlar_station_at : (t : Stations) (station : MacAddr)
+      → Firm (λ r. r ≡ where_numbers_lem (where_shown (where_of t (address_number station))))
+  pub ashlar_station_count : (t : Stations) → Firm (λ r. r ≡ count_of t)
+  pub ashlar_station_row : (t : Stations) (n : ℕ) → Firm (λ r. r ≡ row_numbers_lem (row_shown (row_at t n)))
+  pub ashlar_radio : (number : ℕ) (value : List ℕ) → Firm (λ r. r ≡ part_numbers_lem (locate_radio inventory_code (number ∷ []) value))
+  pub ashlar_radio_text : (number : ℕ) (value : List ℕ) → Firm (λ r. r ≡ part_numbers_lem (locate_radio_text_lem number value))
 
 -- everything that is claimed of this crate
 pub record Claims : Type 0 where

@@ -20,6 +20,7 @@ use stations::Stations;
 use table::Table;
 use walking::Tlv;
 
+mod earlier_names;
 mod entry_reading;
 mod entry_writing;
 mod record_reading;
