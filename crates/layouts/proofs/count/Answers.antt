@@ -7,13 +7,11 @@ use Rattle.layouts.specs.Access.{count_entries}
 use Rattle.layouts.specs.Rows.{row_layout}
 use Rattle.layouts.proofs.count.Goals as goal
 
--- the row that was found
-has : (c : goal.In-List-2) → layout_of c.args.code ≡ gives (row_layout c.in-List.row)
-has c = sym (rw c.in-List.is at c.row_of.ensures)
-
 pub returns-in-List : goal.returns-in-List
 unfolding count_entries
-returns-in-List c = c.count_in.ensures ∙ sym (follows _ _ _ (has c))
+returns-in-List c =
+    let has : layout_of c.args.code ≡ gives (row_layout c.in-List.row) = sym (rw c.in-List.is at c.row_of.ensures) in
+    c.count_in.ensures ∙ sym (follows _ _ _ has)
 
 pub returns-in-Refused : goal.returns-in-Refused
 unfolding count_entries

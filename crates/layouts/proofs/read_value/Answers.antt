@@ -7,13 +7,11 @@ use Rattle.layouts.specs.Reading.{read_value_lem}
 use Rattle.layouts.specs.Rows.{row_layout}
 use Rattle.layouts.proofs.read_value.Goals as goal
 
--- the row that was found
-has : (c : goal.In-List-2) → layout_of c.args.code ≡ gives (row_layout c.in-List.row)
-has c = sym (rw c.in-List.is at c.row_of.ensures)
-
 pub returns-in-List : goal.returns-in-List
 unfolding read_value_lem
-returns-in-List c = c.read_row.ensures ∙ sym (follows _ _ _ (has c))
+returns-in-List c =
+    let has : layout_of c.args.code ≡ gives (row_layout c.in-List.row) = sym (rw c.in-List.is at c.row_of.ensures) in
+    c.read_row.ensures ∙ sym (follows _ _ _ has)
 
 pub returns-in-Refused : goal.returns-in-Refused
 unfolding read_value_lem

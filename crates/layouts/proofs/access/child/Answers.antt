@@ -8,29 +8,26 @@ use Rattle.layouts.proofs.Laws.{list_level}
 use Rattle.layouts.proofs.Finding.{child_there, child_past, child_none, below_row}
 use Rattle.layouts.proofs.access.child.Goals as goal
 
--- the list that was found, which an entry of the lowest level has not
-has : (c : goal.In-Of-2) →
-    let a = c.args in
-    list_of (row_layout a.row) a.s.now a.p ≡ gives (record { many = c.in-Of.n; first = c.in-Of.first })
-has c = sym (rw c.in-Of.is at c.list_at.ensures)
-
-above : (c : goal.In-Of-2) → 0 < c.args.row.levels
-above c = let a = c.args in list_level a.row a.s.now a.p _ (has c)
-
 pub row_below-requires : goal.row_below-requires
-row_below-requires c = above c
+row_below-requires c =
+    let has : list_of (row_layout c.args.row) c.args.s.now c.args.p ≡ gives (record { many = c.in-Of.n; first = c.in-Of.first }) = sym (rw c.in-Of.is at c.list_at.ensures) in
+    let above : 0 < c.args.row.levels = let a = c.args in list_level a.row a.s.now a.p _ has in
+    above
 
 pub returns-then-i-n : goal.returns-then-i-n
 returns-then-i-n c =
+    let has : list_of (row_layout c.args.row) c.args.s.now c.args.p ≡ gives (record { many = c.in-Of.n; first = c.in-Of.first }) = sym (rw c.in-Of.is at c.list_at.ensures) in
+    let above : 0 < c.args.row.levels = let a = c.args in list_level a.row a.s.now a.p _ has in
     let a = c.args in
-    let down = below_row a.row (above c.before.before.before.before) in
+    let down = below_row a.row above in
     c.read_list.ensures ∙
-    rw c.row_below.ensures (sym (rw down at (child_there (row_layout a.row) a.i a.s.now a.p _ (has c.before.before.before.before) c.if-i-n.true)))
+    rw c.row_below.ensures (sym (rw down at (child_there (row_layout a.row) a.i a.s.now a.p _ has c.if-i-n.true)))
 
 pub returns-else-i-n : goal.returns-else-i-n
 returns-else-i-n c =
+    let has : list_of (row_layout c.args.row) c.args.s.now c.args.p ≡ gives (record { many = c.in-Of.n; first = c.in-Of.first }) = sym (rw c.in-Of.is at c.list_at.ensures) in
     let a = c.args in
-    sym (child_past (row_layout a.row) a.i a.s.now a.p _ (has c.before.before) c.if-i-n.false)
+    sym (child_past (row_layout a.row) a.i a.s.now a.p _ has c.if-i-n.false)
 
 pub returns-in-Refused : goal.returns-in-Refused
 returns-in-Refused c =

@@ -7,13 +7,6 @@ use Rattle.layouts.specs.Rows.{row_layout}
 use Rattle.layouts.proofs.Finding.{child_level, below_row, numbers_none, numbers_more, find_stop, find_on, find_here}
 use Rattle.layouts.proofs.access.find_entry.Goals as goal
 
--- the entry that was found one level down
-has : (c : goal.In-At-2) →
-    let l = c.before.before.before.before in
-    let a = l.before.before.args in
-    child_at (row_layout l.loop.row) l.loop.i0 a.s.now l.loop.at ≡ gives c.in-At.q
-has c = sym (rw c.in-At.is at c.child.ensures)
-
 pub loop-left-init : goal.loop-left-init
 loop-left-init c = refl
 
@@ -27,16 +20,18 @@ returns-in-Refused c =
 
 pub row_below-row-requires : goal.row_below-row-requires
 row_below-row-requires c =
+    let has : child_at (row_layout c.loop-left.row) c.loop-left.i0 c.args.s.now c.loop-left.at ≡ gives c.in-At.q = sym (rw c.in-At.is at c.child.ensures) in
     let a = c.args in
-    child_level c.loop-left.row c.loop-left.i0 a.s.now c.loop-left.at _ (has c)
+    child_level c.loop-left.row c.loop-left.i0 a.s.now c.loop-left.at _ has
 
 pub loop-left-preserved : goal.loop-left-preserved
 loop-left-preserved c =
+    let has : child_at (row_layout c.loop-left.row) c.loop-left.i0 c.args.s.now c.loop-left.at ≡ gives c.in-At.q = sym (rw c.in-At.is at c.child.ensures) in
     let a = c.args in
     let v = c.loop-left in
     let more = numbers_more v.left v.i0 v.i1 v.i2 c.loop-left-test.true in
-    let down = below_row v.row (child_level v.row v.i0 a.s.now v.at _ (has c.before.before)) in
-    let on = find_on (row_layout v.row) v.i0 a.s.now v.at (numbers (v.left - 1) v.i1 v.i2 0) _ (has c.before.before) in
+    let down = below_row v.row (child_level v.row v.i0 a.s.now v.at _ has) in
+    let on = find_on (row_layout v.row) v.i0 a.s.now v.at (numbers (v.left - 1) v.i1 v.i2 0) _ has in
     v.invariant ∙ rw more (rw c.row_below-row.ensures (rw down at on))
 
 pub returns : goal.returns

@@ -1,6 +1,5 @@
 -- The numbers that are left, under the entry that was come to, lead to the same entry as all of them under the value.
 use mathlib.Core.Path.{◌≡◌}
-use Prim.Native.Nat.{◌-◌}
 use Rattle.layouts.specs.Access.{numbers, find_entry_lem}
 use Rattle.layouts.specs.Rows.{row_layout}
 use Rattle.layouts.proofs.access.find_entry.Given as goal

@@ -5,21 +5,17 @@ use Rattle.layouts.specs.Access.{numbers_of, find_entry_lem, length_at}
 use Rattle.layouts.specs.Rows.{row_layout}
 use Rattle.layouts.proofs.access.length_at.Goals as goal
 
--- the entry that was found
-has : (c : goal.In-Of-2) →
-    let a = c.args in
-    find_entry_lem (row_layout a.row) (numbers_of a.path) a.s.now 0 ≡ gives (record { layout = row_layout c.in-Of.found; start = c.in-Of.at })
-has c = sym (rw c.in-Of.is at c.find_entry.ensures)
-
 pub returns-in-Of-list_at : goal.returns-in-Of-list_at
 unfolding length_at
 returns-in-Of-list_at c =
-    rw (has c, sym (rw c.in-Of-list_at.is at c.list_at.ensures))
+    let has : find_entry_lem (row_layout c.args.row) (numbers_of c.args.path) c.args.s.now 0 ≡ gives (record { layout = row_layout c.in-Of.found; start = c.in-Of.at }) = sym (rw c.in-Of.is at c.find_entry.ensures) in
+    rw (has, sym (rw c.in-Of-list_at.is at c.list_at.ensures))
 
 pub returns-in-Refused-list_at : goal.returns-in-Refused-list_at
 unfolding length_at
 returns-in-Refused-list_at c =
-    rw (has c, sym (rw c.in-Refused-list_at.is at c.list_at.ensures))
+    let has : find_entry_lem (row_layout c.args.row) (numbers_of c.args.path) c.args.s.now 0 ≡ gives (record { layout = row_layout c.in-Of.found; start = c.in-Of.at }) = sym (rw c.in-Of.is at c.find_entry.ensures) in
+    rw (has, sym (rw c.in-Refused-list_at.is at c.list_at.ensures))
 
 pub returns-in-Refused : goal.returns-in-Refused
 unfolding length_at

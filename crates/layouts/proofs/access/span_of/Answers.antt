@@ -8,21 +8,6 @@ use Rattle.layouts.proofs.Laws.{one_entry}
 use Rattle.layouts.proofs.Finding.{span_none, span_some}
 use Rattle.layouts.proofs.access.span_of.Goals as goal
 
--- the two steps of a path that has a number, and the entry that was found
-some : (c : goal.After-find_entry) →
-    let a = c.args in
-    span_of (row_layout a.row) (numbers_of a.path) a.s.now ≡
-    and_then (find_entry_lem (row_layout a.row) (numbers_of a.path) a.s.now 0) (λ f. mapped (λ q. record { start = f.start; end = q }) (end_of f.layout a.s.now f.start))
-some c =
-    let a = c.args in
-    let p = a.path in
-    span_some (row_layout a.row) p.depth p.i0 p.i1 p.i2 a.s.now c.if-path-eq0.false
-
-has : (c : goal.In-Of-2) →
-    let a = c.args in
-    find_entry_lem (row_layout a.row) (numbers_of a.path) a.s.now 0 ≡ gives (record { layout = row_layout c.in-Of.found; start = c.in-Of.at })
-has c = sym (rw c.in-Of.is at c.find_entry.ensures)
-
 pub returns-then-path-eq0 : goal.returns-then-path-eq0
 returns-then-path-eq0 c =
     let a = c.args in
@@ -31,12 +16,23 @@ returns-then-path-eq0 c =
 
 pub returns-in-At : goal.returns-in-At
 returns-in-At c =
-    sym (some c ∙ rw (has c.before.before.before.before.before, sym (rw c.in-At.is at (c.read_list.ensures ∙ one_entry _ _))))
+    let some : span_of (row_layout c.args.row) (numbers_of c.args.path) c.args.s.now ≡ and_then (find_entry_lem (row_layout c.args.row) (numbers_of c.args.path) c.args.s.now 0) (λ f. mapped (λ q. record { start = f.start; end = q }) (end_of f.layout c.args.s.now f.start)) = let a = c.args in
+    let p = a.path in
+    span_some (row_layout a.row) p.depth p.i0 p.i1 p.i2 a.s.now c.if-path-eq0.false in
+    let has : find_entry_lem (row_layout c.args.row) (numbers_of c.args.path) c.args.s.now 0 ≡ gives (record { layout = row_layout c.in-Of.found; start = c.in-Of.at }) = sym (rw c.in-Of.is at c.find_entry.ensures) in
+    sym (some ∙ rw (has, sym (rw c.in-At.is at (c.read_list.ensures ∙ one_entry _ _))))
 
 pub returns-in-Refused-read_list : goal.returns-in-Refused-read_list
 returns-in-Refused-read_list c =
-    sym (some c ∙ rw (has c.before.before.before.before.before, sym (rw c.in-Refused-read_list.is at (c.read_list.ensures ∙ one_entry _ _))))
+    let some : span_of (row_layout c.args.row) (numbers_of c.args.path) c.args.s.now ≡ and_then (find_entry_lem (row_layout c.args.row) (numbers_of c.args.path) c.args.s.now 0) (λ f. mapped (λ q. record { start = f.start; end = q }) (end_of f.layout c.args.s.now f.start)) = let a = c.args in
+    let p = a.path in
+    span_some (row_layout a.row) p.depth p.i0 p.i1 p.i2 a.s.now c.if-path-eq0.false in
+    let has : find_entry_lem (row_layout c.args.row) (numbers_of c.args.path) c.args.s.now 0 ≡ gives (record { layout = row_layout c.in-Of.found; start = c.in-Of.at }) = sym (rw c.in-Of.is at c.find_entry.ensures) in
+    sym (some ∙ rw (has, sym (rw c.in-Refused-read_list.is at (c.read_list.ensures ∙ one_entry _ _))))
 
 pub returns-in-Refused : goal.returns-in-Refused
 returns-in-Refused c =
-    sym (some c.before.before.before ∙ rw (sym (rw c.in-Refused.is at c.find_entry.ensures)))
+    let some : span_of (row_layout c.args.row) (numbers_of c.args.path) c.args.s.now ≡ and_then (find_entry_lem (row_layout c.args.row) (numbers_of c.args.path) c.args.s.now 0) (λ f. mapped (λ q. record { start = f.start; end = q }) (end_of f.layout c.args.s.now f.start)) = let a = c.args in
+    let p = a.path in
+    span_some (row_layout a.row) p.depth p.i0 p.i1 p.i2 a.s.now c.if-path-eq0.false in
+    sym (some ∙ rw (sym (rw c.in-Refused.is at c.find_entry.ensures)))

@@ -1,5 +1,5 @@
 -- The bytes after the end are refused or are the rest, as the kind says.
-use borrow.Author.Tests.{lt-ltb, le-ltb, not-true, not-false}
+use borrow.Author.Tests.{lt-ltb, le-ltb}
 use mathlib.Core.Path.{◌≡◌}
 use native.Mathlib.Omega.{arith}
 use Prim.Native.Nat.{◌-◌}
@@ -11,15 +11,15 @@ pub returns-then-rest-gt0 : goal.returns-then-rest-gt0
 unfolding consumed_to_lem
 returns-then-rest-gt0 c =
     let a = c.args in
-    simp (not-true a.has-count c.if-not-has_count.true, lt-ltb a.end (length a.s.now) (omega arith))
+    simp (c.if-not-has_count.true, lt-ltb a.end (length a.s.now) (omega arith))
 
 pub returns-else-rest-gt0 : goal.returns-else-rest-gt0
 unfolding consumed_to_lem
 returns-else-rest-gt0 c =
     let a = c.args in
     let z : length a.s.now - a.end ≡ 0 = omega arith in
-    simp (not-true a.has-count c.if-not-has_count.true, le-ltb a.end (length a.s.now) (omega arith), z)
+    simp (c.if-not-has_count.true, le-ltb a.end (length a.s.now) (omega arith), z)
 
 pub returns-else-not-has_count : goal.returns-else-not-has_count
 unfolding consumed_to_lem
-returns-else-not-has_count c = simp (not-false c.args.has_count c.if-not-has_count.false)
+returns-else-not-has_count c = simp (c.if-not-has_count.false)

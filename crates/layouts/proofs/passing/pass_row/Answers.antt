@@ -9,12 +9,6 @@ use Rattle.layouts.proofs.Laws.{end_there}
 use Rattle.layouts.proofs.Passes.{pass_leaf, pass_enter, pass_over, pass_cut}
 use Rattle.layouts.proofs.passing.pass_row.Goals as goal
 
--- the list that was found
-has : (c : goal.In-Of-2) →
-    let a = c.args in
-    list_of (row_layout a.row) a.s.now a.at ≡ gives (record { many = c.in-Of.n; first = c.in-Of.first })
-has c = sym (rw c.in-Of.is at c.list_at.ensures)
-
 pub returns-then-row-eq0 : goal.returns-then-row-eq0
 returns-then-row-eq0 c =
     let a = c.args in
@@ -22,17 +16,19 @@ returns-then-row-eq0 c =
 
 pub returns-then-enter : goal.returns-then-enter
 returns-then-enter c =
+    let has : list_of (row_layout c.args.row) c.args.s.now c.args.at ≡ gives (record { many = c.in-Of.n; first = c.in-Of.first }) = sym (rw c.in-Of.is at c.list_at.ensures) in
     let a = c.args in
-    sym (ap (λ b. gone_over b (row_layout a.row) a.s.now a.at) c.if-enter.true ∙ pass_enter (row_layout a.row) a.s.now a.at _ (has c.before.before))
+    sym (ap (λ b. gone_over b (row_layout a.row) a.s.now a.at) c.if-enter.true ∙ pass_enter (row_layout a.row) a.s.now a.at _ has)
 
 pub row_below-requires : goal.row_below-requires
 row_below-requires c = let f = c.if-row-eq0.false in omega arith
 
 pub returns-else-enter : goal.returns-else-enter
 returns-else-enter c =
+    let has : list_of (row_layout c.args.row) c.args.s.now c.args.at ≡ gives (record { many = c.in-Of.n; first = c.in-Of.first }) = sym (rw c.in-Of.is at c.list_at.ensures) in
     let a = c.args in
-    let there = end_there a.row a.s.now a.at _ (has c.before.before.before.before.before) in
-    let over = pass_over (row_layout a.row) a.s.now a.at _ (has c.before.before.before.before.before) in
+    let there = end_there a.row a.s.now a.at _ has in
+    let over = pass_over (row_layout a.row) a.s.now a.at _ has in
     c.ended-in-Of.ensures ∙ rw (c.read_list.ensures, c.row_below.ensures, there, c.if-enter.false) (sym over)
 
 pub returns-in-Refused : goal.returns-in-Refused
