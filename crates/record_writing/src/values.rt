@@ -50,7 +50,7 @@ pub(crate) fn put_value(item: Record, out: &mut [u8])
     let value = value_of(item);
     let size = value.size;
     let all = value.bytes;
-    bytes::copy(&all[..size], out);
+    out[..size].copy_from_slice(&all[..size]);
 }
 
 // A record's value: the first bytes of an array that has room for the longest, an association.
