@@ -1,5 +1,5 @@
 -- A fold over a list, as a loop makes it: one element more, and none left.
-use Rattle.std.proofs.Common.{◌≡◌, ℕ, ◌+◌, ◌<◌, List, length, get_or, drop, refl, add-one, drop-cons}
+use Rattle.std.proofs.Common.{◌≡◌, ℕ, ◌+◌, ◌<◌, List, length, get_or, drop, add-one, drop-cons}
 use mathlib.Core.List.{foldl}
 use lib.Seq.{drop-length}
 

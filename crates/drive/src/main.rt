@@ -1,11 +1,13 @@
 // Answers the commands on standard input, a line each, through the library's public calls (oracle/COMMANDS.md).
 // oracle/run compares its answers with the original's (rule D2). Every check compares them with a kept list of those.
+#![tactic(auto)]
+
 ghost use Rattle.std.specs.Prelude.{◌≤◌};
 ghost use Rattle.pushing.specs.Made.{Made};
 
 use answer_lines::Answers;
-use libc::STDIN_FILENO;
 use stations::Stations;
+use std::io::Read;
 use table::STORE_SIZE;
 use table_commands::Served;
 
@@ -121,6 +123,7 @@ fn turn(
 
 // Reads the bytes that the line has, makes room in the text, and answers the line, with a line end.
 fn answered(
+    rt: &impl Print,
     s: Served,
     line: &[u8],
     data: &mut Bytes,
@@ -135,7 +138,7 @@ fn answered(
     let t = s.table;
     let with_room = Served {
         table: t,
-        used: answer_lines::with_room(text, s.used),
+        used: answer_lines::with_room(rt, text, s.used),
     };
     let field = field_of_bytes(command_lines::byte_at(line, 0));
     let n = command_lines::decode_field(line, field, data);
@@ -150,10 +153,9 @@ fn answered(
 }
 
 // Moves what is not answered yet to the start, and reads more after it.
-fn fill(input: &mut [u8], at: usize, have: usize) -> Filled {
+fn fill(reader: &mut impl Read, input: &mut [u8], at: usize, have: usize) -> Filled {
     let kept = command_lines::moved(input, at, have);
-    let got = libc::read(STDIN_FILENO, &mut input[kept..]);
-    let more = io::count(got, &input[kept..]);
+    let more = reading::read_some(reader, &mut input[kept..]);
     Filled {
         have: kept + more,
         ended: more == 0,
@@ -161,13 +163,19 @@ fn fill(input: &mut [u8], at: usize, have: usize) -> Filled {
 }
 
 // Reads more; at the input's end it writes out what is left.
-fn supplied(s: State, input: &mut Input, text: &Answers) -> State
+fn supplied(
+    rt: &impl Print,
+    reader: &mut impl Read,
+    s: State,
+    input: &mut Input,
+    text: &Answers,
+) -> State
     requires { Made s.served.table }
     ensures { Made result.served.table }
 {
     let served = s.served;
     if s.ended {
-        answer_lines::flush(text, served.used);
+        answer_lines::flush(rt, text, served.used);
         return State {
             served,
             at: 0,
@@ -176,7 +184,7 @@ fn supplied(s: State, input: &mut Input, text: &Answers) -> State
             done: true,
         };
     }
-    let filled = fill(input, s.at, s.have);
+    let filled = fill(reader, input, s.at, s.have);
     State {
         served,
         at: 0,
@@ -188,6 +196,8 @@ fn supplied(s: State, input: &mut Input, text: &Answers) -> State
 
 // Answers a line, or reads more where there is no line end. At the input's end what is left is a line too.
 fn step(
+    rt: &impl Print,
+    reader: &mut impl Read,
     s: State,
     input: &mut Input,
     data: &mut Bytes,
@@ -203,7 +213,7 @@ fn step(
     if end < s.have || (s.ended && s.at < s.have) {
         let before = s.served;
         let line = command_lines::line_in(input, s.at, end);
-        let served = answered(before, line, data, out, store, held, text);
+        let served = answered(rt, before, line, data, out, store, held, text);
         return State {
             served,
             at: std::num::wrapping_add_usize(end, 1),
@@ -212,12 +222,14 @@ fn step(
             done: false,
         };
     }
-    supplied(s, input, text)
+    supplied(rt, reader, s, input, text)
 }
 
 // Answers line by line until the input ends. A proved loop has to end, and nothing says that an input does, so it
 // counts its turns.
 fn serve(
+    rt: &impl Print,
+    reader: &mut impl Read,
     input: &mut Input,
     data: &mut Bytes,
     out: &mut Bytes,
@@ -228,7 +240,7 @@ fn serve(
     let mut s = start();
     let mut turns = u64::MAX;
     while turns > 0 {
-        s = step(s, input, data, out, store, held, text);
+        s = step(rt, reader, s, input, data, out, store, held, text);
         if s.done {
             return;
         }
@@ -250,7 +262,7 @@ fn start() -> State
     }
 }
 
-fn main() {
+fn main(rt: HostRuntime) {
     let mut input = [0u8; 65536];
     let mut data = [0u8; 66048];
     let mut out = [0u8; 66048];
@@ -258,6 +270,13 @@ fn main() {
     let mut held = stations::fresh();
     let mut text = [0u8; 65536];
     serve(
-        &mut input, &mut data, &mut out, &mut store, &mut held, &mut text,
+        &rt,
+        &mut rt.stdin(),
+        &mut input,
+        &mut data,
+        &mut out,
+        &mut store,
+        &mut held,
+        &mut text,
     );
 }

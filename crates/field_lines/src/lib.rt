@@ -1,5 +1,6 @@
 // What a TLV says, by its fields (rule H11): addresses, names of networks and devices, and the figures of links. And the
 // words that every line of a story uses: times, addresses and counts.
+#![tactic(auto)]
 
 mod listed;
 mod neighbours;
@@ -85,7 +86,14 @@ fn put_event(text: &mut Answers, used: usize, value: &[u8]) -> usize {
 }
 
 // A value that reads, if its type is a kind's; a list has so many entries.
-fn put_value(text: &mut Answers, used: usize, tlv_type: u8, value: &[u8], entries: usize) -> usize {
+fn put_value(
+    rt: &impl Print,
+    text: &mut Answers,
+    used: usize,
+    tlv_type: u8,
+    value: &[u8],
+    entries: usize,
+) -> usize {
     match tlv_type {
         1 | 2 => {
             let a = answer_lines::put(text, used, b" ");
@@ -93,47 +101,53 @@ fn put_value(text: &mut Answers, used: usize, tlv_type: u8, value: &[u8], entrie
         }
         6 | 7 => {
             let a = neighbours::put_local(text, used, tlv_type, value);
-            listed::put_entries(text, a, tlv_type, value)
+            listed::put_entries(rt, text, a, tlv_type, value)
         }
         9 | 10 => {
             let a = neighbours::put_between(text, used, tlv_type, value);
-            listed::put_entries(text, a, tlv_type, value)
+            listed::put_entries(rt, text, a, tlv_type, value)
         }
         0x83 | 0xB7 => {
             if entries == 0 {
                 return answer_lines::put(text, used, b" nothing");
             }
-            listed::put_entries(text, used, tlv_type, value)
+            listed::put_entries(rt, text, used, tlv_type, value)
         }
-        21 | 22 | 0xD4 => texts_said::put_texts(text, used, tlv_type, value),
+        21 | 22 | 0xD4 => texts_said::put_texts(rt, text, used, tlv_type, value),
         0x92 => put_event(text, used, value),
         _ => words::put_counted(text, used, value.len() as u64, b"byte"),
     }
 }
 
 // What a TLV says, if its value reads.
-fn put_read(text: &mut Answers, used: usize, tlv_type: u8, value: &[u8]) -> usize {
+fn put_read(rt: &impl Print, text: &mut Answers, used: usize, tlv_type: u8, value: &[u8]) -> usize {
     match kinds::read_kind(tlv_type, value) {
         KindRead::Record {
             record: _,
             consumed: _,
             rest: _,
-        } => put_value(text, used, tlv_type, value, 0),
+        } => put_value(rt, text, used, tlv_type, value, 0),
         KindRead::List {
             entries,
             consumed: _,
             rest: _,
-        } => put_value(text, used, tlv_type, value, entries),
+        } => put_value(rt, text, used, tlv_type, value, entries),
         KindRead::Refused(refusal) => put_unread(text, used, refusal),
     }
 }
 
 // What a TLV says, after a blank, and the line's end.
-pub fn put_said(text: &mut Answers, used: usize, tlv_type: u8, value: &[u8]) -> usize
+pub fn put_said(
+    rt: &impl Print,
+    text: &mut Answers,
+    used: usize,
+    tlv_type: u8,
+    value: &[u8],
+) -> usize
     ensures { result ≤ 65536 }
 {
     let end = if kinds::is_kind(tlv_type) {
-        put_read(text, used, tlv_type, value)
+        put_read(rt, text, used, tlv_type, value)
     } else {
         words::put_counted(text, used, value.len() as u64, b"byte")
     };

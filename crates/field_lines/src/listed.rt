@@ -3,18 +3,31 @@ use crate::{neighbours, networks};
 use answer_lines::Answers;
 use entries::{Begun, Cursor, EntryAt, Went};
 
-fn put_entry(text: &mut Answers, before: usize, code: u8, entry: EntryAt, value: &[u8]) -> usize {
-    let used = answer_lines::with_room(text, before);
+fn put_entry(
+    rt: &impl Print,
+    text: &mut Answers,
+    before: usize,
+    code: u8,
+    entry: EntryAt,
+    value: &[u8],
+) -> usize {
+    let used = answer_lines::with_room(rt, text, before);
     match code {
         6 | 7 => neighbours::put_neighbour(text, used, code, value, entry.start),
         9 => neighbours::put_tx(text, used, links::tx_pair_at(value, entry.start)),
         10 => neighbours::put_rx(text, used, links::rx_pair_at(value, entry.start)),
-        _ => networks::put_radio_or_network(text, used, code, value, entry),
+        _ => networks::put_radio_or_network(rt, text, used, code, value, entry),
     }
 }
 
 // The entries from a cursor on. Each has a byte of the value of its own, so there are no more than bytes.
-fn put_from(text: &mut Answers, before: usize, first: Cursor, value: &[u8]) -> usize {
+fn put_from(
+    rt: &impl Print,
+    text: &mut Answers,
+    before: usize,
+    first: Cursor,
+    value: &[u8],
+) -> usize {
     let mut used = before;
     let mut cursor = first;
     let mut turns = 0;
@@ -24,7 +37,7 @@ fn put_from(text: &mut Answers, before: usize, first: Cursor, value: &[u8]) -> u
                 entry,
                 cursor: after,
             } => {
-                used = put_entry(text, used, cursor.code, entry, value);
+                used = put_entry(rt, text, used, cursor.code, entry, value);
                 cursor = after;
             }
             Went::NoMore => {
@@ -39,14 +52,20 @@ fn put_from(text: &mut Answers, before: usize, first: Cursor, value: &[u8]) -> u
     used
 }
 
-pub(crate) fn put_entries(text: &mut Answers, before: usize, code: u8, value: &[u8]) -> usize {
+pub(crate) fn put_entries(
+    rt: &impl Print,
+    text: &mut Answers,
+    before: usize,
+    code: u8,
+    value: &[u8],
+) -> usize {
     match entries::begin(code, 2, value) {
         Begun::At {
             cursor,
             entries: _,
             consumed: _,
             rest: _,
-        } => put_from(text, before, cursor, value),
+        } => put_from(rt, text, before, cursor, value),
         Begun::Refused(_) => before,
     }
 }

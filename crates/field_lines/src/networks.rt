@@ -5,7 +5,14 @@ use answer_lines::Answers;
 use entries::EntryAt;
 use texts::DEVICE_INVENTORY;
 
-fn put_network(text: &mut Answers, used: usize, code: u8, value: &[u8], at: usize) -> usize {
+fn put_network(
+    rt: &impl Print,
+    text: &mut Answers,
+    used: usize,
+    code: u8,
+    value: &[u8],
+    at: usize,
+) -> usize {
     let network = fields::bss(code, value, at);
     let bssid = network.bssid;
     let start = network.name_start;
@@ -13,11 +20,18 @@ fn put_network(text: &mut Answers, used: usize, code: u8, value: &[u8], at: usiz
     let a = answer_lines::put(text, used, b", BSS ");
     let b = words::put_address(text, a, bssid);
     let c = answer_lines::put(text, b, b" ");
-    quoted::put_quoted(text, c, words::part_of(value, start, length))
+    quoted::put_quoted(rt, text, c, words::part_of(value, start, length))
 }
 
 // A radio: the first of an access point, which stands after the count, begins the line.
-fn put_radio(text: &mut Answers, used: usize, code: u8, value: &[u8], at: usize) -> usize {
+fn put_radio(
+    rt: &impl Print,
+    text: &mut Answers,
+    used: usize,
+    code: u8,
+    value: &[u8],
+    at: usize,
+) -> usize {
     let radio = fields::radio(code, value, at);
     let id = radio.id;
     let start = radio.text_start;
@@ -30,12 +44,13 @@ fn put_radio(text: &mut Answers, used: usize, code: u8, value: &[u8], at: usize)
     let b = words::put_address(text, a, id);
     if code == DEVICE_INVENTORY {
         let c = answer_lines::put(text, b, b" ");
-        return quoted::put_quoted(text, c, words::part_of(value, start, length));
+        return quoted::put_quoted(rt, text, c, words::part_of(value, start, length));
     }
     b
 }
 
 pub(crate) fn put_radio_or_network(
+    rt: &impl Print,
     text: &mut Answers,
     used: usize,
     code: u8,
@@ -43,7 +58,7 @@ pub(crate) fn put_radio_or_network(
     entry: EntryAt,
 ) -> usize {
     if entry.level == 1 {
-        return put_radio(text, used, code, value, entry.start);
+        return put_radio(rt, text, used, code, value, entry.start);
     }
-    put_network(text, used, code, value, entry.start)
+    put_network(rt, text, used, code, value, entry.start)
 }

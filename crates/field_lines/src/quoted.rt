@@ -16,11 +16,16 @@ fn put_escaped(text: &mut Answers, used: usize, b: u8) -> usize {
 }
 
 // Any bytes, in quotes.
-pub(crate) fn put_quoted(text: &mut Answers, before: usize, bytes: &[u8]) -> usize {
+pub(crate) fn put_quoted(
+    rt: &impl Print,
+    text: &mut Answers,
+    before: usize,
+    bytes: &[u8],
+) -> usize {
     let mut used = answer_lines::put(text, before, b"\"");
     let mut i = 0;
     while i < bytes.len() {
-        let room = answer_lines::with_room(text, used);
+        let room = answer_lines::with_room(rt, text, used);
         used = put_shown(text, room, bytes[i]);
         i += 1;
     }

@@ -1,11 +1,13 @@
 // Rule D3, run: three senders push a message of three fragments each, in every order that keeps each sender's own.
 // There are 1,680 such orders. In each, every sender must get the same answers and the same message. Prints how many
 // orders were played and how many differed.
+#![tactic(auto)]
+
 ghost use Rattle.std.specs.Prelude.{◌<◌};
 ghost use Rattle.pushing.specs.Made.{Made};
 
-use libc::STDOUT_FILENO;
 use pushing::{AfterPush, Arrival, Fragment, Pushed};
+use std::io;
 use table::{STORE_SIZE, Table};
 
 // A push to a table that these calls made leaves such a table (rule A1).
@@ -70,7 +72,7 @@ fn folded(start: u64, bytes: &[u8]) -> u64 {
 }
 
 // What the three senders were answered, folded into one number for each.
-#[derive(Drop)]
+#[derive(Clone, Copy)]
 struct Sums {
     first: u64,
     second: u64,
@@ -202,22 +204,13 @@ fn play_all(expected: Sums, store: &mut [u8], out: &mut [u8]) -> Score {
 // One sender after the other: the digits of this order are 0 three times, 1 three times and 2 three times.
 const ONE_BY_ONE: u64 = 19305;
 
-fn main() {
+fn main(rt: HostRuntime) -> io::Result<()> {
     let mut store = [0u8; STORE_SIZE];
     let mut out = [0u8; 64];
     let expected = play(ONE_BY_ONE, &mut store, &mut out);
     let score = play_all(expected, &mut store, &mut out);
-    io::print_decimal(STDOUT_FILENO, score.played);
-    io::write_all(STDOUT_FILENO, b" orders played, ");
-    io::print_decimal(STDOUT_FILENO, score.differed);
-    io::write_all(
-        STDOUT_FILENO,
-        b" differed; one by one the senders were told ",
-    );
-    io::print_decimal(STDOUT_FILENO, expected.first);
-    io::write_all(STDOUT_FILENO, b" ");
-    io::print_decimal(STDOUT_FILENO, expected.second);
-    io::write_all(STDOUT_FILENO, b" ");
-    io::print_decimal(STDOUT_FILENO, expected.third);
-    io::write_all(STDOUT_FILENO, b"\n");
+    println!(rt;
+        "{} orders played, {} differed; one by one the senders were told {} {} {}",
+        score.played, score.differed, expected.first, expected.second, expected.third
+    )
 }

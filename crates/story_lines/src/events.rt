@@ -72,13 +72,14 @@ fn put_refused(text: &mut Answers, used: usize, value: &[u8], number: u8) -> usi
 
 // An event with this value, what was answered to it, and where its station then is.
 fn put_event(
+    rt: &impl Print,
     text: &mut Answers,
     before: usize,
     value: &[u8],
     applied: Applied,
     seat: Where,
 ) -> usize {
-    let used = answer_lines::with_room(text, before);
+    let used = answer_lines::with_room(rt, text, before);
     match applied {
         Applied::Heard { heard, consumed: _ } => {
             let a = answer_lines::put(text, used, b"  station ");
@@ -91,6 +92,7 @@ fn put_event(
 
 // What the events of a message do, by stations that take them as the house's own did.
 pub(crate) fn put_events(
+    rt: &impl Print,
     text: &mut Answers,
     before: usize,
     message: &[u8],
@@ -106,7 +108,7 @@ pub(crate) fn put_events(
                     let value = part(message, value_start(tlv), next);
                     let applied = stations::event_from(&mut held, value);
                     let seat = stations::where_is(&held, field_lines::first_address(value));
-                    used = put_event(text, used, value, applied, seat);
+                    used = put_event(rt, text, used, value, applied, seat);
                 }
                 at = next;
             }
@@ -129,16 +131,23 @@ fn value_start(tlv: Tlv) -> usize {
 }
 
 // What a TLV says, by its fields.
-fn put_field(text: &mut Answers, before: usize, tlv_type: u8, value: &[u8]) -> usize {
-    let used = answer_lines::with_room(text, before);
+fn put_field(
+    rt: &impl Print,
+    text: &mut Answers,
+    before: usize,
+    tlv_type: u8,
+    value: &[u8],
+) -> usize {
+    let used = answer_lines::with_room(rt, text, before);
     let a = answer_lines::put(text, used, b"    ");
     let b = tlv_names::put_tlv_name(text, a, tlv_type);
     let c = answer_lines::put(text, b, b":");
-    field_lines::put_said(text, c, tlv_type, value)
+    field_lines::put_said(rt, text, c, tlv_type, value)
 }
 
 // The fields of each TLV of a message, if they are wanted.
 pub(crate) fn put_fields(
+    rt: &impl Print,
     text: &mut Answers,
     before: usize,
     message: &[u8],
@@ -150,12 +159,12 @@ pub(crate) fn put_fields(
         match walking::step(message, at) {
             Stepped::Tlv { tlv, next } => {
                 let value = part(message, value_start(tlv), next);
-                used = put_field(text, used, tlv.tlv_type, value);
+                used = put_field(rt, text, used, tlv.tlv_type, value);
                 at = next;
             }
             Stepped::Last { tlv, end } => {
                 let value = part(message, value_start(tlv), end);
-                return put_field(text, used, tlv.tlv_type, value);
+                return put_field(rt, text, used, tlv.tlv_type, value);
             }
             Stepped::End => {
                 return used;
@@ -169,8 +178,8 @@ pub(crate) fn put_fields(
 }
 
 // Where the station of a row is.
-fn put_row(text: &mut Answers, before: usize, row: Listed) -> usize {
-    let used = answer_lines::with_room(text, before);
+fn put_row(rt: &impl Print, text: &mut Answers, before: usize, row: Listed) -> usize {
+    let used = answer_lines::with_room(rt, text, before);
     match row {
         Listed::Occupied { station, point } => {
             let a = field_lines::put_address(text, used, station);
@@ -180,14 +189,19 @@ fn put_row(text: &mut Answers, before: usize, row: Listed) -> usize {
     }
 }
 
-pub(crate) fn put_stations(text: &mut Answers, before: usize, held: &Stations) -> usize
+pub(crate) fn put_stations(
+    rt: &impl Print,
+    text: &mut Answers,
+    before: usize,
+    held: &Stations,
+) -> usize
     ensures { result ≤ 65536 }
 {
     let mut used = before;
     let mut n: usize = 0;
     while n < STATIONS {
-        used = put_row(text, used, stations::row(held, n));
+        used = put_row(rt, text, used, stations::row(held, n));
         n += 1;
     }
-    answer_lines::with_room(text, used)
+    answer_lines::with_room(rt, text, used)
 }

@@ -68,8 +68,8 @@ fn heading_of(frame: Frame) -> Heading {
 }
 
 // TIME ADDRESS NAME, id ID
-pub(crate) fn put_heading(text: &mut Answers, before: usize, h: Heading) -> usize {
-    let used = answer_lines::with_room(text, before);
+pub(crate) fn put_heading(rt: &impl Print, text: &mut Answers, before: usize, h: Heading) -> usize {
+    let used = answer_lines::with_room(rt, text, before);
     let sender = h.sender;
     let a = field_lines::put_time(text, used, h.time);
     let b = answer_lines::put(text, a, b" ");
@@ -81,10 +81,10 @@ pub(crate) fn put_heading(text: &mut Answers, before: usize, h: Heading) -> usiz
 }
 
 // A message that was lost, and why.
-fn put_lost(text: &mut Answers, used: usize, h: Heading, why: &[u8]) -> Said
+fn put_lost(rt: &impl Print, text: &mut Answers, used: usize, h: Heading, why: &[u8]) -> Said
     ensures { (result.messages ≡ 0) × (result.losses ≡ 1) }
 {
-    let a = put_heading(text, used, h);
+    let a = put_heading(rt, text, used, h);
     let b = answer_lines::put(text, a, b": lost, ");
     let c = answer_lines::put(text, b, why);
     said_lost(answer_lines::put(text, c, b"\n"))
@@ -100,10 +100,17 @@ fn put_reason(text: &mut Answers, used: usize, refusal: Refusal) -> usize {
     }
 }
 
-fn put_refused(text: &mut Answers, used: usize, h: Heading, number: u8, refusal: Refusal) -> Said
+fn put_refused(
+    rt: &impl Print,
+    text: &mut Answers,
+    used: usize,
+    h: Heading,
+    number: u8,
+    refusal: Refusal,
+) -> Said
     ensures { (result.messages ≡ 0) × (result.losses ≡ 1) }
 {
-    let a = put_heading(text, used, h);
+    let a = put_heading(rt, text, used, h);
     let b = answer_lines::put(text, a, b": fragment");
     let c = answer_lines::put_next(text, b, number as u64);
     let d = answer_lines::put(text, c, b" refused, ");
@@ -112,10 +119,17 @@ fn put_refused(text: &mut Answers, used: usize, h: Heading, number: u8, refusal:
 }
 
 // A message that is whole, and doesn't walk to its end.
-fn put_cut(text: &mut Answers, used: usize, h: Heading, refusal: Refusal, at: usize) -> Said
+fn put_cut(
+    rt: &impl Print,
+    text: &mut Answers,
+    used: usize,
+    h: Heading,
+    refusal: Refusal,
+    at: usize,
+) -> Said
     ensures { (result.messages ≡ 0) × (result.losses ≡ 1) }
 {
-    let a = put_heading(text, used, h);
+    let a = put_heading(rt, text, used, h);
     let b = answer_lines::put(text, a, b": lost, a TLV is cut at");
     let c = answer_lines::put_next(text, b, at as u64);
     let d = answer_lines::put(text, c, b",");
@@ -124,8 +138,8 @@ fn put_cut(text: &mut Answers, used: usize, h: Heading, refusal: Refusal, at: us
 }
 
 // The name of the TLV at an offset, after a comma if it isn't the first.
-fn put_tlv(text: &mut Answers, before: usize, at: usize, tlv_type: u8) -> usize {
-    let used = answer_lines::with_room(text, before);
+fn put_tlv(rt: &impl Print, text: &mut Answers, before: usize, at: usize, tlv_type: u8) -> usize {
+    let used = answer_lines::with_room(rt, text, before);
     if at == 0 {
         return tlv_names::put_tlv_name(text, used, tlv_type);
     }
@@ -134,17 +148,17 @@ fn put_tlv(text: &mut Answers, before: usize, at: usize, tlv_type: u8) -> usize 
 }
 
 // The names of a message's TLVs.
-fn put_tlvs(text: &mut Answers, before: usize, message: &[u8]) -> usize {
+fn put_tlvs(rt: &impl Print, text: &mut Answers, before: usize, message: &[u8]) -> usize {
     let mut used = before;
     let mut at = 0;
     loop {
         match walking::step(message, at) {
             Stepped::Tlv { tlv, next } => {
-                used = put_tlv(text, used, at, tlv.tlv_type);
+                used = put_tlv(rt, text, used, at, tlv.tlv_type);
                 at = next;
             }
             Stepped::Last { tlv, end: _ } => {
-                return put_tlv(text, used, at, tlv.tlv_type);
+                return put_tlv(rt, text, used, at, tlv.tlv_type);
             }
             Stepped::End => {
                 return used;
@@ -158,20 +172,21 @@ fn put_tlvs(text: &mut Answers, before: usize, message: &[u8]) -> usize {
 
 // The line of a message that is whole and walks to its end.
 fn put_message(
+    rt: &impl Print,
     text: &mut Answers,
     used: usize,
     h: Heading,
     fragments: u64,
     message: &[u8],
 ) -> usize {
-    let a = put_heading(text, used, h);
+    let a = put_heading(rt, text, used, h);
     let b = answer_lines::put(text, a, b",");
     let c = field_lines::put_counted(text, b, fragments, b"fragment");
     let d = answer_lines::put(text, c, b": ");
     let e = if message.len() == 0 {
         answer_lines::put(text, d, b"nothing")
     } else {
-        put_tlvs(text, d, message)
+        put_tlvs(rt, text, d, message)
     };
     answer_lines::put(text, e, b"\n")
 }
@@ -179,6 +194,7 @@ fn put_message(
 // A message of so many fragments that is whole: its line, its fields if they are wanted, and what its events do, by the
 // stations as they were before it.
 fn put_whole(
+    rt: &impl Print,
     text: &mut Answers,
     used: usize,
     h: Heading,
@@ -194,22 +210,23 @@ fn put_whole(
             count: _,
             padding: _,
         } => {
-            let a = put_message(text, used, h, fragments, message);
-            let b = events::put_fields(text, a, message, verbose);
-            let c = events::put_events(text, b, message, seats);
+            let a = put_message(rt, text, used, h, fragments, message);
+            let b = events::put_fields(rt, text, a, message, verbose);
+            let c = events::put_events(rt, text, b, message, seats);
             Said {
                 used: c,
                 messages: 1,
                 losses: 0,
             }
         }
-        Walked::Refused { refusal, at } => put_cut(text, used, h, refusal, at),
+        Walked::Refused { refusal, at } => put_cut(rt, text, used, h, refusal, at),
     }
 }
 
 // What push answered to a frame (rule H7): at most one message is whole or lost. The message is what it made whole, and
 // the stations are as they were before.
 pub fn put_answer(
+    rt: &impl Print,
     text: &mut Answers,
     used: usize,
     frame: Frame,
@@ -236,37 +253,43 @@ pub fn put_answer(
             losses: 0,
         },
         Pushed::InconsistentMetadata => {
-            put_lost(text, used, h, b"its fragments differ in version or type")
+            put_lost(
+                rt,
+                text,
+                used,
+                h,
+                b"its fragments differ in version or type",
+            )
         }
-        Pushed::MissingFragments => put_lost(text, used, h, b"fragments are missing"),
-        Pushed::MissingLastFragment => put_lost(text, used, h, b"its last fragment is missing"),
+        Pushed::MissingFragments => put_lost(rt, text, used, h, b"fragments are missing"),
+        Pushed::MissingLastFragment => put_lost(rt, text, used, h, b"its last fragment is missing"),
         // the last fragment of a whole message has the highest number (rule T8)
-        Pushed::Single(_) => put_whole(text, used, h, 1, message, seats, verbose),
-        Pushed::Joined(_) => { put_whole(text, used, h, fragments, message, seats, verbose) }
-        Pushed::Refused(refusal) => put_refused(text, used, h, number, refusal),
+        Pushed::Single(_) => put_whole(rt, text, used, h, 1, message, seats, verbose),
+        Pushed::Joined(_) => { put_whole(rt, text, used, h, fragments, message, seats, verbose) }
+        Pushed::Refused(refusal) => put_refused(rt, text, used, h, number, refusal),
     }
 }
 
 // The keys that a sweep at a frame's time drops, by their rows (rule H7), seen in the table before it.
-pub fn put_swept(text: &mut Answers, used: usize, t: Table, frame: Frame) -> Said
+pub fn put_swept(rt: &impl Print, text: &mut Answers, used: usize, t: Table, frame: Frame) -> Said
     ensures { result.messages ≡ 0 }
 {
     let a = captures::arrival_of(frame);
-    open::put_swept(text, used, t, a.time)
+    open::put_swept(rt, text, used, t, a.time)
 }
 
 // The keys that are still open at the end, by their rows (rule H8).
-pub fn put_open(text: &mut Answers, used: usize, t: Table) -> Said
+pub fn put_open(rt: &impl Print, text: &mut Answers, used: usize, t: Table) -> Said
     ensures { result.messages ≡ 0 }
 {
-    open::put_open(text, used, t)
+    open::put_open(rt, text, used, t)
 }
 
 // What was counted (rule H9).
-pub fn put_counts(text: &mut Answers, before: usize, n: Counts) -> usize
+pub fn put_counts(rt: &impl Print, text: &mut Answers, before: usize, n: Counts) -> usize
     ensures { result ≤ 65536 }
 {
-    let used = answer_lines::with_room(text, before);
+    let used = answer_lines::with_room(rt, text, before);
     let a = field_lines::put_first_counted(text, used, n.frames, b"frame");
     let b = answer_lines::put(text, a, b",");
     let c = field_lines::put_counted(text, b, n.others, b"other");
@@ -278,8 +301,8 @@ pub fn put_counts(text: &mut Answers, before: usize, n: Counts) -> usize
 }
 
 // Where each station is, by its row (rule H9).
-pub fn put_stations(text: &mut Answers, used: usize, held: &Stations) -> usize
+pub fn put_stations(rt: &impl Print, text: &mut Answers, used: usize, held: &Stations) -> usize
     ensures { result ≤ 65536 }
 {
-    events::put_stations(text, used, held)
+    events::put_stations(rt, text, used, held)
 }

@@ -46,7 +46,15 @@ fn sender_in(key: u64) -> MacAddr {
 }
 
 // The line of a row's key, as far as to its fragments.
-fn put_row(text: &mut Answers, used: usize, t: Table, row: usize, time: u64, why: &[u8]) -> usize {
+fn put_row(
+    rt: &impl Print,
+    text: &mut Answers,
+    used: usize,
+    t: Table,
+    row: usize,
+    time: u64,
+    why: &[u8],
+) -> usize {
     if KEYS <= row {
         return used;
     }
@@ -59,7 +67,7 @@ fn put_row(text: &mut Answers, used: usize, t: Table, row: usize, time: u64, why
         message_type: kept.message_type,
         message_id: (key % 65536) as u16,
     };
-    let a = put_heading(text, used, h);
+    let a = put_heading(rt, text, used, h);
     let b = answer_lines::put(text, a, why);
     let c = field_lines::put_counted(text, b, kept.count, b"fragment");
     answer_lines::put(text, c, b"\n")
@@ -73,7 +81,13 @@ fn is_used(used: &[bool; KEYS], row: usize) -> bool {
 }
 
 // The keys that a sweep at this time drops.
-pub(crate) fn put_swept(text: &mut Answers, before: usize, t: Table, time: u64) -> Said
+pub(crate) fn put_swept(
+    rt: &impl Print,
+    text: &mut Answers,
+    before: usize,
+    t: Table,
+    time: u64,
+) -> Said
     ensures { result.messages ≡ 0 }
 {
     let swept = sweeping::sweep_step(t, time);
@@ -85,6 +99,7 @@ pub(crate) fn put_swept(text: &mut Answers, before: usize, t: Table, time: u64) 
             if is_used(&t.used, row) {
                 if !is_used(&after.used, row) {
                     used = put_row(
+                        rt,
                         text,
                         used,
                         t,
@@ -105,7 +120,7 @@ pub(crate) fn put_swept(text: &mut Answers, before: usize, t: Table, time: u64) 
 }
 
 // The keys that the table holds.
-pub(crate) fn put_open(text: &mut Answers, before: usize, t: Table) -> Said
+pub(crate) fn put_open(rt: &impl Print, text: &mut Answers, before: usize, t: Table) -> Said
     ensures { result.messages ≡ 0 }
 {
     let mut used = before;
@@ -114,7 +129,7 @@ pub(crate) fn put_open(text: &mut Answers, before: usize, t: Table) -> Said
     while row < KEYS {
         if is_used(&t.used, row) {
             let first = t.firsts[row];
-            used = put_row(text, used, t, row, first, b": still open at the end,");
+            used = put_row(rt, text, used, t, row, first, b": still open at the end,");
             losses = std::num::wrapping_add_u64(losses, 1);
         }
         row += 1;

@@ -2,9 +2,10 @@
 // value. Then comes `end` and where the message ends, after its end marker or at the payload's end. Where the walk
 // refuses, `bad` comes instead, with the refusal's number, the offset of the TLV that failed, and how many bytes are
 // missing.
+#![tactic(auto)]
+
 ghost use Rattle.std.specs.Prelude.{◌≤◌, length};
 
-use libc::{STDIN_FILENO, STDOUT_FILENO};
 use walking::{Stepped, Tlv};
 
 // A line is at most 70 bytes long: "bad ", three numbers of at most 20 digits, " at ", a space and the line's end.
@@ -68,34 +69,34 @@ fn put_bad(text: &mut [u8], used: usize, number: u8, at: usize, missing: usize) 
     put(text, f, b"\n")
 }
 
-// Writes the first bytes of the text out.
-fn flush(text: &[u8], used: usize) {
+// Writes the first bytes of the text out. What cannot be written is lost.
+fn flush(rt: &impl Print, text: &[u8], used: usize) {
     if used <= text.len() {
-        io::write_all(STDOUT_FILENO, &text[..used]);
+        let _ = rt.write_all(&text[..used]);
     }
 }
 
 // Room for one more line: a text that is nearly full is written out first, so that there is a call for each large piece
 // and not for each number.
-fn with_room(text: &[u8], used: usize) -> usize
+fn with_room(rt: &impl Print, text: &[u8], used: usize) -> usize
     requires { used ≤ length text.now }
     ensures { result ≤ length text.now }
 {
     if LINE <= text.len() - used {
         return used;
     }
-    flush(text, used);
+    flush(rt, text, used);
     0
 }
 
 // The lines of a payload (rules L1 and L2). Returns how many bytes of the text are still to be written out.
-fn list(payload: &[u8], text: &mut [u8]) -> usize
+fn list(rt: &impl Print, payload: &[u8], text: &mut [u8]) -> usize
     ensures { result ≤ length text.old }
 {
     let mut at = 0;
     let mut used = 0;
     loop {
-        used = with_room(text, used);
+        used = with_room(rt, text, used);
         match walking::step(payload, at) {
             Stepped::End => {
                 return put_end(text, used, at);
@@ -106,7 +107,7 @@ fn list(payload: &[u8], text: &mut [u8]) -> usize
             }
             Stepped::Last { tlv, end } => {
                 used = put_tlv(text, used, tlv);
-                used = with_room(text, used);
+                used = with_room(rt, text, used);
                 return put_end(text, used, end);
             }
             Stepped::Refused { refusal, at } => {
@@ -120,15 +121,15 @@ fn list(payload: &[u8], text: &mut [u8]) -> usize
 // Rule L3: longer input is refused by 12. One byte more is asked for, to see that there is more.
 const MOST_INPUT: usize = 47744;
 
-fn main() {
+fn main(rt: HostRuntime) {
     let mut payload = [0u8; 47745];
     let mut text = [0u8; 4096];
-    let n = io::read_full(STDIN_FILENO, &mut payload);
+    let n = reading::read_full(&mut rt.stdin(), &mut payload);
     if MOST_INPUT < n {
         let used = put_bad(&mut text, 0, 12, 0, 0);
-        flush(&text, used);
+        flush(&rt, &text, used);
         return;
     }
-    let used = list(&payload[..n], &mut text);
-    flush(&text, used);
+    let used = list(&rt, &payload[..n], &mut text);
+    flush(&rt, &text, used);
 }

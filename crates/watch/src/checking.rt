@@ -3,6 +3,7 @@ use crate::faults::Fault;
 use crate::window::{HEADER, Room, WINDOW, Window};
 use crate::{faults, hearing, window};
 use captures::Reached;
+use std::io::{Read, Seek};
 
 // A record header has so many bytes (rule G2).
 const RECORD: usize = 16;
@@ -79,7 +80,7 @@ fn cut_at(w: Window, missing: u64) -> Fault {
 }
 
 // Nothing more comes: the file ends with the window, or is cut, or the window is too short for a record.
-fn at_end(w: Window, missing: u64, size: u64) -> Looked {
+fn at_end(input: &mut impl Seek, w: Window, missing: u64, size: u64) -> Looked {
     if w.have < WINDOW {
         if w.have == HEADER {
             return Looked {
@@ -104,7 +105,7 @@ fn at_end(w: Window, missing: u64, size: u64) -> Looked {
             fault,
         };
     }
-    let window = window::sought(next);
+    let window = window::sought(input, next);
     Looked {
         window,
         done: false,
@@ -113,7 +114,7 @@ fn at_end(w: Window, missing: u64, size: u64) -> Looked {
 }
 
 // The records of the window are looked at, and the window goes on.
-fn look(w: Window, room: &mut Room, size: u64) -> Looked {
+fn look<R: Read + Seek>(input: &mut R, w: Window, room: &mut Room, size: u64) -> Looked {
     let seen = window::upto(room, w.have);
     let stopped = hearing::looked_at(seen, w.at);
     let reached = stopped.reached;
@@ -130,7 +131,7 @@ fn look(w: Window, room: &mut Room, size: u64) -> Looked {
             fault,
         };
     }
-    let refilled = window::refill(room, w, stopped.at);
+    let refilled = window::refill(input, room, w, stopped.at);
     let window = refilled.window;
     if 0 < refilled.more {
         return Looked {
@@ -139,13 +140,13 @@ fn look(w: Window, room: &mut Room, size: u64) -> Looked {
             fault: Fault::Nothing,
         };
     }
-    at_end(window, missing_in(reached), size)
+    at_end(input, window, missing_in(reached), size)
 }
 
 // The fault of the file, if it has one. The loop counts its turns, for nothing says that a file ends.
-pub(crate) fn fault_of_file(room: &mut Room) -> Fault {
-    let size = window::size_of_input();
-    let start = window::start(room);
+pub(crate) fn fault_of_file<R: Read + Seek>(input: &mut R, room: &mut Room) -> Fault {
+    let size = window::size_of_input(input);
+    let start = window::start(input, room);
     let first = header_fault(window::upto(room, start.have));
     if faults::is_fault(first) {
         return first;
@@ -153,7 +154,7 @@ pub(crate) fn fault_of_file(room: &mut Room) -> Fault {
     let mut w = start;
     let mut turns = u64::MAX;
     while turns > 0 {
-        let looked = look(w, room, size);
+        let looked = look(input, w, room, size);
         if looked.done {
             return looked.fault;
         }

@@ -1,8 +1,7 @@
 // Why a file can't be read (rules G6 and H10), as a sentence on standard error.
 use answer_lines::Answers;
-use libc::STDERR_FILENO;
 
-#[derive(Drop)]
+#[derive(Clone, Copy)]
 pub(crate) enum Fault {
     Nothing,
     Pcapng,
@@ -80,14 +79,8 @@ fn put_fault(text: &mut Answers, fault: Fault) -> usize {
     }
 }
 
-// Writes the first bytes of the text to standard error.
-fn write(text: &[u8], used: usize) {
-    if used <= text.len() {
-        io::write_all(STDERR_FILENO, &text[0..used]);
-    }
-}
-
-pub(crate) fn say(text: &mut Answers, fault: Fault) {
+// Writes the sentence of a fault, to standard error.
+pub(crate) fn say(errors: &impl Print, text: &mut Answers, fault: Fault) {
     let used = put_fault(text, fault);
-    write(text, used);
+    answer_lines::flush(errors, text, used);
 }

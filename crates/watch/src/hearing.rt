@@ -20,7 +20,7 @@ pub(crate) type Store = [u8; STORE_SIZE];
 pub(crate) type Out = [u8; 13428];
 
 // The fragment table, what was counted, where the text ends, and whether fields are shown.
-#[derive(Drop)]
+#[derive(Clone, Copy)]
 pub(crate) struct Watch {
     pub table: Table,
     pub counts: Counts,
@@ -74,6 +74,7 @@ struct Lines {
 
 // The lines of a frame: the keys that its sweep drops, seen in the table before it, and what push answered to it.
 fn put_frame(
+    rt: &impl Print,
     text: &mut Answers,
     w: Watch,
     seats: Stations,
@@ -83,8 +84,10 @@ fn put_frame(
 ) -> Lines {
     let before = w.table;
     let n = w.counts;
-    let swept = story_lines::put_swept(text, w.used, before, frame);
-    let said = story_lines::put_answer(text, swept.used, frame, answer, message, seats, w.verbose);
+    let swept = story_lines::put_swept(rt, text, w.used, before, frame);
+    let said = story_lines::put_answer(
+        rt, text, swept.used, frame, answer, message, seats, w.verbose,
+    );
     let counts = with_frame(n, swept, said);
     Lines {
         counts,
@@ -94,6 +97,7 @@ fn put_frame(
 
 // The lines of a record. The stations are as they were before it.
 fn put_record<'a>(
+    rt: &impl Print,
     text: &mut Answers,
     w: Watch,
     seats: Stations,
@@ -107,7 +111,7 @@ fn put_record<'a>(
     match reached {
         Reached::Ours { frame, next: _ } => {
             let message = reassembler::show(answer, captures::payload(window, frame), out);
-            put_frame(text, w, seats, frame, answer, message)
+            put_frame(rt, text, w, seats, frame, answer, message)
         }
         Reached::Other { next: _ } => {
             let counts = with_other(n);
@@ -129,6 +133,7 @@ fn put_record<'a>(
 
 // The record at `at` of a window, heard and printed.
 fn told_record(
+    rt: &impl Print,
     w: Watch,
     window: &[u8],
     at: usize,
@@ -146,7 +151,7 @@ fn told_record(
     let before = w.table;
     let seats = *held;
     let after = house::hear(before, store, out, held, window, at);
-    let lines = put_record(text, w, seats, after, window, out);
+    let lines = put_record(rt, text, w, seats, after, window, out);
     let table = after.table;
     let counts = lines.counts;
     let reached = after.reached;
@@ -168,6 +173,7 @@ pub(crate) struct Told {
 
 // Rule H10: the records of a window from `from` on, heard and printed, up to where they stop.
 pub(crate) fn told_window(
+    rt: &impl Print,
     w: Watch,
     window: &[u8],
     from: usize,
@@ -185,7 +191,7 @@ pub(crate) fn told_window(
     let mut watch = w;
     let mut at = from;
     loop {
-        let heard = told_record(watch, window, at, store, out, held, text);
+        let heard = told_record(rt, watch, window, at, store, out, held, text);
         let after = heard.watch;
         let reached = heard.reached;
         watch = after;

@@ -2,6 +2,8 @@
 // was lost and for each event of a station, and at the end where each station is. The word -v shows the fields too. The
 // file is gone over twice, through a window: first to see whether all of it can be read, then to tell it. So a fault
 // anywhere leaves standard output empty, and a sentence on standard error says what it is.
+#![tactic(auto)]
+
 mod checking;
 mod faults;
 mod hearing;
@@ -17,6 +19,10 @@ ghost use Rattle.watch.specs.Turns.{Turns, ByWindows};
 use answer_lines::Answers;
 use hearing::{Out, Store, Watch};
 use stations::Stations;
+use std::fs::File;
+use std::io;
+use std::io::{Read, Seek};
+use std::rt::Env;
 use story_lines::Counts;
 use table::{STORE_SIZE, Table};
 use window::{HEADER, Room, WINDOW, Window};
@@ -57,6 +63,8 @@ fn fresh_watch(verbose: bool) -> Watch
 
 // A frame that is longer than the window: what there is of it is heard, and the file goes on after it.
 fn turn_long(
+    rt: &impl Print,
+    input: &mut impl Seek,
     watch: Watch,
     next: u64,
     room: &mut Room,
@@ -73,9 +81,9 @@ fn turn_long(
 {
     window::shorten(room);
     let seen = window::upto(room, WINDOW);
-    let told = hearing::told_window(watch, seen, HEADER, store, out, held, text);
+    let told = hearing::told_window(rt, watch, seen, HEADER, store, out, held, text);
     let after = told.watch;
-    let window = window::sought(next);
+    let window = window::sought(input, next);
     Turned {
         watch: after,
         window,
@@ -84,7 +92,9 @@ fn turn_long(
 }
 
 // The records of the window are printed, and the window goes on. The file has no fault: the first pass saw to it.
-fn turn(
+fn turn<R: Read + Seek>(
+    rt: &impl Print,
+    input: &mut R,
     t: Turned,
     room: &mut Room,
     store: &mut Store,
@@ -101,11 +111,11 @@ fn turn(
     let watch = t.watch;
     let w = t.window;
     let seen = window::upto(room, w.have);
-    let told = hearing::told_window(watch, seen, w.at, store, out, held, text);
+    let told = hearing::told_window(rt, watch, seen, w.at, store, out, held, text);
     let after = told.watch;
     let stopped = told.stopped;
     let reached = stopped.reached;
-    let refilled = window::refill(room, w, stopped.at);
+    let refilled = window::refill(input, room, w, stopped.at);
     let window = refilled.window;
     if 0 < refilled.more {
         return Turned {
@@ -116,7 +126,7 @@ fn turn(
     }
     if window.have == WINDOW {
         let next = checking::after_long(window, checking::missing_in(reached));
-        return turn_long(after, next, room, store, out, held, text);
+        return turn_long(rt, input, after, next, room, store, out, held, text);
     }
     Turned {
         watch: after,
@@ -127,7 +137,9 @@ fn turn(
 
 // The whole file is printed. A proved loop has to end, and nothing says that a file does: so it counts its turns. The
 // first pass saw that there is a file header. Should there be none any more, there is nothing to print.
-fn told_file(
+fn told_file<R: Read + Seek>(
+    rt: &impl Print,
+    input: &mut R,
     verbose: bool,
     room: &mut Room,
     store: &mut Store,
@@ -137,7 +149,7 @@ fn told_file(
 ) -> Watch
     ensures { ByWindows (length out.old) (house_of fresh_table store.old held.old) (house_of result.table store.new held.new) }
 {
-    let window = window::start(room);
+    let window = window::start(input, room);
     let watch = fresh_watch(verbose);
     if window.have < HEADER {
         return watch;
@@ -152,7 +164,7 @@ fn told_file(
     };
     let mut turns = u64::MAX;
     while turns > 0 {
-        t = turn(t, room, store, out, held, text);
+        t = turn(rt, input, t, room, store, out, held, text);
         if t.ended {
             return t.watch;
         }
@@ -162,23 +174,26 @@ fn told_file(
 }
 
 // What is printed at the end (rules H8 and H9).
-fn put_end(w: Watch, held: &Stations, text: &mut Answers) {
+fn put_end(rt: &impl Print, w: Watch, held: &Stations, text: &mut Answers) {
     let table = w.table;
     let n = w.counts;
-    let open = story_lines::put_open(text, w.used, table);
+    let open = story_lines::put_open(rt, text, w.used, table);
     let counts = Counts {
         frames: n.frames,
         others: n.others,
         messages: n.messages,
         losses: std::num::wrapping_add_u64(n.losses, open.losses),
     };
-    let a = story_lines::put_counts(text, open.used, counts);
-    let b = story_lines::put_stations(text, a, held);
-    answer_lines::flush(text, b);
+    let a = story_lines::put_counts(rt, text, open.used, counts);
+    let b = story_lines::put_stations(rt, text, a, held);
+    answer_lines::flush(rt, text, b);
 }
 
 // Both passes.
-fn run(
+fn run<R: Read + Seek>(
+    rt: &impl Print,
+    errors: &impl Print,
+    input: &mut R,
     verbose: bool,
     room: &mut Room,
     store: &mut Store,
@@ -186,39 +201,42 @@ fn run(
     held: &mut Stations,
     text: &mut Answers,
 ) {
-    let fault = checking::fault_of_file(room);
+    let fault = checking::fault_of_file(input, room);
     if faults::is_fault(fault) {
-        faults::say(text, fault);
+        faults::say(errors, text, fault);
         return;
     }
-    let watch = told_file(verbose, room, store, out, held, text);
-    put_end(watch, held, text);
+    let watch = told_file(rt, input, verbose, room, store, out, held, text);
+    put_end(rt, watch, held, text);
 }
 
 // Whether the first word is -v.
-fn is_verbose() -> bool {
+fn is_verbose(rt: &impl Env) -> bool {
     let mut word = [0u8; 4];
-    let n = os::arg(1, &mut word);
-    if n == 2 {
-        if word[0] == b'-' {
-            return word[1] == b'v';
-        }
+    match rt.arg(1, &mut word) {
+        Ok(n) => n == 2 && word[0] == b'-' && word[1] == b'v',
+        Err(_) => false,
     }
-    false
 }
 
-fn main() {
+// Opened by its name, standard input can be gone over twice where it is a file.
+fn main(rt: HostRuntime) -> io::Result<()> {
+    let mut input = File::open(&rt, "/dev/stdin")?;
     let mut room = [0u8; WINDOW];
     let mut store = [0u8; STORE_SIZE];
     let mut out = [0u8; 13428];
     let mut held = stations::fresh();
     let mut text = [0u8; 65536];
     run(
-        is_verbose(),
+        &rt,
+        &rt.stderr(),
+        &mut input,
+        is_verbose(&rt),
         &mut room,
         &mut store,
         &mut out,
         &mut held,
         &mut text,
     );
+    Ok(())
 }

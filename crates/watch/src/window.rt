@@ -5,7 +5,7 @@ ghost use Rattle.pushing.specs.Show.{start_of};
 ghost use Rattle.house.specs.Windows.{shortened, window_size};
 ghost use Rattle.watch.specs.Refills.{Refills};
 
-use libc::STDIN_FILENO;
+use std::io::{Read, Seek, SeekFrom};
 
 // A file header has so many bytes (rule G1).
 pub(crate) const HEADER: usize = 24;
@@ -17,7 +17,7 @@ pub(crate) type Room = [u8; WINDOW];
 
 // The next record stands at `at` of the window; the window's bytes end at `have`; and byte 24 of the window is byte
 // `base` of the file.
-#[derive(Drop)]
+#[derive(Clone, Copy)]
 pub(crate) struct Window {
     pub at: usize,
     pub have: usize,
@@ -66,15 +66,14 @@ fn moved(s: &mut [u8], from: usize, end: usize) -> usize
 }
 
 // Reads on from where the file stands: how many bytes came.
-fn read_on(room: &mut [u8], from: usize) -> usize
+fn read_on(input: &mut impl Read, room: &mut [u8], from: usize) -> usize
     ensures long { length room.new ≡ length room.old }
     ensures after { from ≤ length room.old → (from + result ≤ length room.old) × (take from room.new ≡ take from room.old) }
 {
     if room.len() < from {
         return 0;
     }
-    let got = libc::read(STDIN_FILENO, &mut room[from..]);
-    io::count(got, &room[from..])
+    reading::read_some(input, &mut room[from..])
 }
 
 // The window as it goes on, and how many bytes came.
@@ -85,7 +84,7 @@ pub(crate) struct Refilled {
 }
 
 // What is not gone over yet, from `at` on, moves to the start of the window, and more of the file follows it.
-pub(crate) fn refill(room: &mut Room, w: Window, at: usize) -> Refilled
+pub(crate) fn refill(input: &mut impl Read, room: &mut Room, w: Window, at: usize) -> Refilled
     ensures { 24 ≤ at → at ≤ w.have → w.have ≤ window_size → Refills room.old room.new at w.have result }
 {
     let here = Window {
@@ -94,7 +93,7 @@ pub(crate) fn refill(room: &mut Room, w: Window, at: usize) -> Refilled
         base: w.base,
     };
     let kept = moved(room, at, w.have);
-    let more = read_on(room, kept);
+    let more = read_on(input, room, kept);
     let window = Window {
         at: HEADER,
         have: std::num::wrapping_add_usize(kept, more),
@@ -104,11 +103,11 @@ pub(crate) fn refill(room: &mut Room, w: Window, at: usize) -> Refilled
 }
 
 // The file from its start, which has to be at hand: the window begins with the file header.
-pub(crate) fn start(room: &mut Room) -> Window
+pub(crate) fn start<R: Read + Seek>(input: &mut R, room: &mut Room) -> Window
     ensures { result.at ≡ 24 }
 {
-    libc::lseek(STDIN_FILENO, 0, libc::SEEK_SET);
-    let have = io::read_full(STDIN_FILENO, room);
+    let _ = input.rewind();
+    let have = reading::read_full(input, room);
     Window {
         at: HEADER,
         have,
@@ -117,10 +116,10 @@ pub(crate) fn start(room: &mut Room) -> Window
 }
 
 // Goes on at a place of the file, with nothing in the window.
-pub(crate) fn sought(base: u64) -> Window
+pub(crate) fn sought(input: &mut impl Seek, base: u64) -> Window
     ensures { (result.at ≡ 24) × (result.have ≡ 24) }
 {
-    libc::lseek(STDIN_FILENO, signed(base), libc::SEEK_SET);
+    let _ = input.seek(SeekFrom::Start(base));
     Window {
         at: HEADER,
         have: HEADER,
@@ -128,21 +127,12 @@ pub(crate) fn sought(base: u64) -> Window
     }
 }
 
-// A place as the system takes it; no file is longer.
-fn signed(n: u64) -> i64 {
-    if n < 9223372036854775808 {
-        return n as i64;
-    }
-    0
-}
-
 // The length of the file. A pipe has none.
-pub(crate) fn size_of_input() -> u64 {
-    let size = libc::lseek(STDIN_FILENO, 0, libc::SEEK_END);
-    if size < 0 {
-        return 0;
+pub(crate) fn size_of_input(input: &mut impl Seek) -> u64 {
+    match input.seek(SeekFrom::End(0)) {
+        Ok(size) => size,
+        Err(_) => 0,
     }
-    size as u64
 }
 
 // A number of the file's own in the four bytes from `at` on (rule G1).

@@ -1,4 +1,4 @@
--- `above_zero` meets its contract: bits of the lower half are the number itself, and a greater one is the greatest.
+-- Bits of the lower half are the number itself, and a greater one is the greatest.
 use Rattle.command_lines.proofs.Signed.{plain, plain_most}
 use Rattle.command_lines.proofs.above_zero.Goals as goal
 

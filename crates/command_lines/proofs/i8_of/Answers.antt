@@ -1,5 +1,5 @@
--- `i8_of` meets its contract: by its two tests, of what is read back from the bits.
-use Rattle.std.proofs.Common.{◌≡◌, false, ℤ, pos, negsuc, ap, ◌∙◌, arith, to_z-of_z, w8, w32, SFits, to_z, of_z}
+-- Its two tests, of what is read back from the bits.
+use Rattle.std.proofs.Common.{◌≡◌, ℤ, pos, negsuc, false, ap, ◌∙◌, arith, to_z-of_z, w8, w32, SFits, to_z, of_z}
 use lib.Signed.{lt_z}
 use Rattle.command_lines.specs.Decimal.{nearest}
 use Rattle.command_lines.proofs.Signed.{held, below, above, between}
@@ -20,8 +20,7 @@ returns-then-n-ltminus128 c = below 127 _ c.if-n-ltminus128.true ∙ read_back _
 pub returns-then-n-gt127 : goal.returns-then-n-gt127
 returns-then-n-gt127 c = above 127 _ c.if-n-gt127.true ∙ read_back _ c.ranges.n
 
-pub overflow_cast-result : goal.overflow_cast-result
-overflow_cast-result c = within _ c.if-n-ltminus128.false c.if-n-gt127.false
-
 pub returns : goal.returns
-returns c = to_z-of_z {w = w8} (cast-result c) ∙ fitting _ (cast-result c) ∙ read_back _ c.ranges.n
+returns c =
+    let fits = within _ c.if-n-ltminus128.false c.if-n-gt127.false in
+    to_z-of_z {w = w8} fits ∙ fitting _ fits ∙ read_back _ c.ranges.n

@@ -1,4 +1,4 @@
--- `moved` meets its contract: what is moved came from within the bytes, so no more comes to the start than there is.
+-- What is moved comes from within the bytes, which stay as many.
 use Rattle.std.proofs.Common.{◌≡◌, ◌+◌, ◌-◌, ◌≤◌, length}
 use Rattle.command_lines.proofs.moved.Given as goal
 

@@ -1,4 +1,4 @@
--- `number` meets its contract: what is left of the digits goes on with the number so far.
+-- What is left of the digits goes on with the number so far.
 use Rattle.std.proofs.Common.{◌≡◌, ◌-◌, ◌≤◌, length, drop}
 use mathlib.Core.List.{foldl}
 use Rattle.command_lines.specs.Decimal.{with_digit_lem, number_of}

@@ -1,4 +1,4 @@
--- `pieces` meets its contract: it looks at each byte once, and no more separators are met than bytes.
+-- It looks at each byte once, and meets no more separators than bytes.
 use Rattle.std.proofs.Common.{◌-◌, ◌≤◌, length}
 use Rattle.command_lines.proofs.pieces.Given as goal
 

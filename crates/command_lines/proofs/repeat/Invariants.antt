@@ -1,4 +1,4 @@
--- `repeat` meets its contract: no more is stored than there is room for after n.
+-- No more is stored than there is room for after n.
 use Rattle.std.proofs.Common.{◌≡◌, ◌+◌, ◌-◌, ◌≤◌, length}
 use Rattle.command_lines.proofs.repeat.Given as goal
 

@@ -1,5 +1,5 @@
--- `signed_number` meets its contract: with a `-` in front the number is that of what follows it.
-use Rattle.std.proofs.Common.{◌≡◌, ℕ, get_or, pos, neg_ℤ, sym, ap, ◌∙◌}
+-- With a `-` in front the number is that of what follows it.
+use Rattle.std.proofs.Common.{◌≡◌, ℕ, slice_index, pos, neg_ℤ, sym, ap, ◌∙◌}
 use Rattle.command_lines.specs.Decimal.{number_of, signed_of, nearest}
 use Rattle.command_lines.proofs.Signed.{given_back, with_minus, without_minus}
 use Rattle.command_lines.proofs.signed_number.Goals as goal
@@ -16,5 +16,5 @@ pub returns : goal.returns
 returns c =
     let s = c.args.s.now in
     let value = ap (λ (n : ℕ). nearest 2147483647 (pos n)) c.number-2.ensures in
-    let none : ¬ (get_or s 0 0 ≡ 45) = λ e. c.if-byte_at-eq45.false (c.byte_at.ensures ∙ e) in
+    let none : ¬ (slice_index s 0 ≡ 45) = λ e. c.if-byte_at-eq45.false (c.byte_at.ensures ∙ e) in
     given_back _ (signed_of s) (c.above_zero.ensures ∙ value ∙ ap (nearest 2147483647) (without_minus s none))

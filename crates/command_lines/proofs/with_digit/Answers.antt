@@ -1,5 +1,4 @@
--- `with_digit` meets its contract: where ten times the number and the digit don't fit, the greatest number is the least
--- of both.
+-- Where ten times the number and the digit don't fit, the greatest number is the least of both.
 use Rattle.std.proofs.Common.{arith}
 use Rattle.command_lines.specs.Decimal.{with_digit_lem}
 use Rattle.command_lines.proofs.with_digit.Goals as goal

@@ -1,7 +1,0 @@
--- `byte_at` meets its contract: past the end a list's element is the one that is named.
-use Rattle.std.proofs.Common.{sym, arith}
-use lib.ListN.{get_or-eq_default}
-use Rattle.command_lines.proofs.byte_at.Goals as goal
-
-pub returns-else-i-s : goal.returns-else-i-s
-returns-else-i-s c = sym (get_or-eq_default c.args.s.now 0 {n = c.args.i} (omega arith))
