@@ -11,15 +11,12 @@ import sys
 import textwrap
 
 WORK = "target/bench"
-HOME = os.path.dirname(os.path.dirname(subprocess.run(["rt", "doc"], capture_output=True, text=True, check=True).stdout.strip()))
-LIBRARY = f"{HOME}/on/{os.uname().machine}/toolchain/lib"
 COUNTER = ["qemu-x86_64", "-plugin", f"{WORK}/icount.so"]
-# tlvlist and the original are linked to a shared C library, and take the kit's; the other programs hold theirs.
-LOADER = [f"{LIBRARY}/ld-linux-x86-64.so.2", "--library-path", LIBRARY]
+# tlvlist and the original are linked to the machine's shared C library; the other programs hold theirs.
 ORIGINAL = f"{WORK}/cargo/x86_64-unknown-linux-gnu/release/rows"
-PROGRAMS = {"plain": [f"{WORK}/plain"], "original": LOADER + [ORIGINAL], "ours": [f"{WORK}/ours"]}
+PROGRAMS = {"plain": [f"{WORK}/plain"], "original": [ORIGINAL], "ours": [f"{WORK}/ours"]}
 WITHOUT_ORIGINAL = {who: PROGRAMS[who] for who in ("plain", "ours")}
-LISTERS = {"plain": [f"{WORK}/plain-tlvlist"], "original": LOADER + [ORIGINAL, "list"], "ours": LOADER + ["target/bin/tlvlist"]}
+LISTERS = {"plain": [f"{WORK}/plain-tlvlist"], "original": [ORIGINAL, "list"], "ours": ["crates/tlvlist/out/tlvlist"]}
 TURNS = 20
 # Where the stack lies moves with the environment's length, and with it what a copy on the stack costs: so the programs
 # get always the same one.

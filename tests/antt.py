@@ -18,7 +18,7 @@ HEADER = {"use", "mod", "infix", "infixl", "infixr", "unfolding"}
 Declaration = collections.namedtuple("Declaration", "name kind is_public head type members body")
 
 # parameters: each with its name and how it is taken, "value", "shared" or "lent" (`&mut`), in their order.
-# result: "none", "value" or "part" (a reference). ensures: the texts of the clauses.
+# result: "none", "value" or "part" (a reference). ensures: the texts of the clauses, as they stand in their braces.
 Function = collections.namedtuple("Function", "name path parameters result ensures")
 
 
@@ -139,13 +139,22 @@ def function_at(path, source, start):
         end += 1
         depth += (source[end] == "(") - (source[end] == ")")
     parameters = parameters_of(source[begin + 1 : end])
-    # the contract goes on to the brace that opens the body
-    contract = source[end + 1 : re.compile(r"(?m)(^|\s)\{$").search(source, end).start()]
-    returned = re.match(r"\s*->\s*(&)?", contract)
-    result = "none" if not returned else "part" if returned.group(1) else "value"
-    ensures = re.findall(r"(?s)\bensures\s+(?:\w+\s+)?\{(.*?⌝)\s*\}", contract)
-    if len(ensures) != len(re.findall(r"\bensures\b", contract)):
+    head = re.compile(r"\s*(?:->\s*(&)?[^{]*?)?(?=\{|\b(?:requires|ensures)\b)").match(source, end + 1)
+    result = "none" if not source[end + 1 :].lstrip().startswith("->") else "part" if head.group(1) else "value"
+    # clauses, each with a brace of its own, up to the brace that opens the body
+    at, ensures, named = head.end(), [], []
+    while clause := re.compile(r"\s*(requires|ensures)\s+(?:(\w+)\s+)?\{").match(source, at):
+        at, depth = clause.end(), 1
+        while depth:
+            depth += (source[at] == "{") - (source[at] == "}")
+            at += 1
+        if clause.group(1) == "ensures":
+            ensures.append(re.sub(r"(?m)(^|\s)//.*$", "", source[clause.end() : at - 1]).strip())
+            named.append(clause.group(2))
+    if not source[at:].lstrip().startswith("{"):
         raise ValueError(f"{path}: the contract of {name} can't be read")
+    if len(named) > 1 and (None in named or len(set(named)) < len(named)):
+        raise ValueError(f"{path}: the clauses of {name} don't each have a name of their own")
     return Function(name, path, parameters, result, ensures)
 
 
@@ -172,15 +181,22 @@ def public_functions(crate):
 
 
 def tokens(term):
-    """A term's words: brackets and commas stand alone, and so does the dot after what a λ binds."""
+    """A term's words: brackets and commas stand alone, and so do the dot after what a λ binds and each `.field` that
+    follows a variable or a bracket. A name with its module in front, as `Way.Waits`, is a word."""
     found = []
-    for word in re.sub(r"([(){}⟦⟧⌜⌝,;])", r" \1 ", term).split():
-        found += [word[:-1], "."] if len(word) > 1 and word.endswith(".") else [word]
+    for word in re.sub(r"([(){},;])", r" \1 ", term).split():
+        if len(word) > 1 and word.endswith("."):
+            found += [word[:-1], "."]
+        elif re.match(r"(?:[a-z_]\w*'*|«\w+»)?\.\w", word):
+            found += re.findall(r"^[^.]+|\.[^.]+", word)
+        else:
+            found.append(word)
     return found
 
 
 def tree(words):
-    """A term as nested lists, one for each bracket, but for a bracket around a single word.
+    """A term as nested lists, one for each bracket, but for a bracket around a single word, and one for each `.field`
+    with what it is the field of.
 
     A function is ("λ", what it binds, its body), and what stands in braces ("{", what stands there).
     """
@@ -201,6 +217,8 @@ def tree(words):
                 names = names[: names.index(":")] if ":" in names else names
                 found.append(("λ", [n for n in names if n != "("], sequence(closing)))
                 return found[0] if len(found) == 1 else found
+            elif re.match(r"\.\w", word) and found:
+                found.append([found.pop(), word])
             else:
                 found.append(word)
         if left:

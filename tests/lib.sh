@@ -5,16 +5,21 @@ shopt -s lastpipe
 passed=0
 failed=0
 
-# Runs a built program as rt does: it is compiled for x86-64, so on another processor the kit's emulator runs it. A
-# check sets the seconds that it may take: one that goes on for ever is to fail.
+# The programs that a check runs: `rt ci` leaves them, and they are proved and built anew where a file that they are made
+# of is newer. Where that fails the check fails, with its counts.
+needs() { # NAMES..
+    local log
+    log=$(tools/build "$@") && return
+    printf '%s\n' "$log" | tail -n 20
+    echo "FAILED ${0##*/}: $* could not be proved and built"
+    echo "0 passed, 1 failed"
+    exit 1
+}
+
+# Runs a built program. A check sets the seconds that it may take: one that goes on for ever is to fail.
 seconds=
 program() { # NAME ARGUMENTS..
-    local home tools emulator
-    home=$(dirname "$(dirname "$(rt doc)")")
-    tools=$home/on/$(uname -m)/toolchain
-    emulator=$tools/bin/qemu-x86_64
-    [ -x "$emulator" ] || emulator=
-    ${seconds:+timeout "$seconds"} ${emulator:+"$emulator"} "$tools/lib/ld-linux-x86-64.so.2" --library-path "$tools/lib" "./target/bin/$1" "${@:2}"
+    ${seconds:+timeout "$seconds"} "./crates/$1/out/$1" "${@:2}"
 }
 
 # The bytes of an annotated hex file: pairs of hex digits, `#` to the line's end is a remark.
@@ -100,9 +105,9 @@ c_built() { # NAME SOURCES..
         lacking "the program could not be built; $work/gcc.log says why"
 }
 
-# The archive of exported calls, proved and built anew where a file of crates/ is newer than it, and what builds and
-# takes apart programs for x86-64.
-archive=target/staticlib/libashlar.a
+# The archive of exported calls, proved and built anew where a file that it is made of is newer than it, and what builds
+# and takes apart programs for x86-64.
+archive=crates/ashlar/out/libashlar.a
 archive_built() { # NAME
     local name=$1 work=target/$1
     # what bench/need calls where a package can't be had
@@ -117,8 +122,7 @@ archive_built() { # NAME
     # shellcheck disable=SC2086
     need $cross_compiler $cross_library ${emulator:+qemu-user}
     mkdir -p "$work" || return 1
-    [ -f "$archive" ] && [ -z "$(find crates crates.txt -newer "$archive" | head -n 1)" ] && return 0
-    rt staticlib ashlar >"$work/rt.log" 2>&1 || lacking "the archive could not be proved and built; $work/rt.log says why"
+    tools/build ashlar >"$work/rt.log" || lacking "the archive could not be proved and built; $work/rt.log says why"
 }
 
 lacking() { # WHY
