@@ -106,25 +106,25 @@ line n l = record { code = n; layout = l }
 abbrev pub table : List Line
 table =
     -- SupportedService
-    line 0x80 (c1_of (bytes (size_of service_fields))) ∷
+    line 0x80 (c1_of (bytes 1)) ∷
     -- NonIeee1905NeighborDevices
-    line 6 (size_of local_fields then to_end_of (bytes (size_of other_neighbour_fields))) ∷
+    line 6 (6 then to_end_of (bytes 6)) ∷
     -- Ieee1905NeighborDevice
-    line 7 (size_of local_fields then to_end_of (bytes (size_of neighbour_fields))) ∷
+    line 7 (6 then to_end_of (bytes 7)) ∷
     -- LinkMetricTx
-    line 9 (size_of link_fields then to_end_of (bytes (size_of tx_pair_fields))) ∷
+    line 9 (12 then to_end_of (bytes 29)) ∷
     -- LinkMetricRx
-    line 10 (size_of link_fields then to_end_of (bytes (size_of rx_pair_fields))) ∷
+    line 10 (12 then to_end_of (bytes 23)) ∷
     -- Ipv4
-    line 23 (c1_of (size_of interface_fields then c1_of (bytes (size_of ipv4_fields)))) ∷
+    line 23 (c1_of (6 then c1_of (bytes 9))) ∷
     -- Ipv6
-    line 24 (c1_of (size_of ipv6_interface_fields then c1_of (bytes (size_of ipv6_fields)))) ∷
+    line 24 (c1_of (22 then c1_of (bytes 33))) ∷
     -- DeviceBridgingCapability
-    line 4 (c1_of (c1_of (bytes (size_of interface_fields)))) ∷
+    line 4 (c1_of (c1_of (bytes 6))) ∷
     -- ApOperationalBss
-    line 0x83 (c1_of (size_of radio_fields then c1_of (size_of bss_fields then c1_of (bytes (size_of name_fields))))) ∷
+    line 0x83 (c1_of (6 then c1_of (6 then c1_of (bytes 1)))) ∷
     -- BssConfigurationReport
-    line 0xB7 (c1_of (size_of radio_fields then c1_of (size_of reported_bss_fields then c1_of (bytes (size_of name_fields))))) ∷
+    line 0xB7 (c1_of (6 then c1_of (8 then c1_of (bytes 1)))) ∷
     []
 
 -- The line with this code; 16 where no list kind has it. Rule K1 asks this of all kinds, in the crate `kinds`.

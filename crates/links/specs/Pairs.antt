@@ -34,12 +34,12 @@ field_number ws k p = number_at (get_or ws k 0) (place ws k) p
 
 -- Rule Q1: errors and packets. In kind 9 they stand one byte later, after the bridge byte.
 abbrev pub errors_of : LinkKind → List ℕ → ℕ
-errors_of Tx p = field_number tx_pair_fields 4 p
-errors_of Rx p = field_number rx_pair_fields 3 p
+errors_of Tx p = number_at 4 15 p
+errors_of Rx p = number_at 4 14 p
 
 abbrev pub packets_of : LinkKind → List ℕ → ℕ
-packets_of Tx p = field_number tx_pair_fields 5 p
-packets_of Rx p = field_number rx_pair_fields 4 p
+packets_of Tx p = number_at 4 19 p
+packets_of Rx p = number_at 4 18 p
 
 -- Rule Q2: a byte as a number from -128 to 127, in two's complement.
 abbrev pub signed : ℕ → ℤ
@@ -47,27 +47,27 @@ signed b = cond (ltb b 128) (pos b) (negsuc (255 - b))
 
 -- the signal strength of a pair of kind 10
 abbrev pub signal_of : List ℕ → ℤ
-signal_of p = signed (field_number rx_pair_fields 5 p)
+signal_of p = signed (number_at 1 22 p)
 
 -- Rule Q1: all fields of a pair.
 abbrev pub tx_fields_lem : List ℕ → TxPair
 tx_fields_lem p = record {
-  own = address_at_lem p (place tx_pair_fields 0);
-  neighbour = address_at_lem p (place tx_pair_fields 1);
-  media = field_number tx_pair_fields 2 p;
-  bridge = field_number tx_pair_fields 3 p;
+  own = address_at_lem p 0;
+  neighbour = address_at_lem p 6;
+  media = number_at 2 12 p;
+  bridge = number_at 1 14 p;
   errors = errors_of Tx p;
   packets = packets_of Tx p;
-  throughput = field_number tx_pair_fields 6 p;
-  availability = field_number tx_pair_fields 7 p;
-  rate = field_number tx_pair_fields 8 p;
+  throughput = number_at 2 23 p;
+  availability = number_at 2 25 p;
+  rate = number_at 2 27 p;
 }
 
 abbrev pub rx_fields_lem : List ℕ → RxPair
 rx_fields_lem p = record {
-  own = address_at_lem p (place rx_pair_fields 0);
-  neighbour = address_at_lem p (place rx_pair_fields 1);
-  media = field_number rx_pair_fields 2 p;
+  own = address_at_lem p 0;
+  neighbour = address_at_lem p 6;
+  media = number_at 2 12 p;
   errors = errors_of Rx p;
   packets = packets_of Rx p;
   signal = signal_of p;

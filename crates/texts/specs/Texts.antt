@@ -1,7 +1,7 @@
 -- The kinds that hold text (rule K2): 21, 22 and 0xD4.
 use Rattle.std.specs.Prelude.{Bool, true, false, cond, [], ℕ, eqb}
 use Rattle.numbers.specs.Numbers.{Answer, gives, refuses, is_given}
-use Rattle.layouts.specs.Layouts.{Layout, bytes, c1_of, to_end_of, ◌then◌, size_of, radio_fields}
+use Rattle.layouts.specs.Layouts.{Layout, bytes, c1_of, to_end_of, ◌then◌}
 
 -- A kind has a number of pieces of one layout, one after the other, each with a text. Then come the radios, if it has
 -- any.
@@ -32,7 +32,7 @@ text_kind code =
 
 -- Rule E8: a radio is an id of 6 bytes, a length, and a text.
 abbrev pub radio : Layout
-radio = size_of radio_fields then string
+radio = 6 then string
 
 unfoldable pub is_text_lem : ℕ → Bool
 is_text_lem code = is_given (text_kind code)
