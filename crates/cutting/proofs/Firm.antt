@@ -7,9 +7,7 @@ use Rattle.walking.proofs.Firm.{with_offset, offset_apart}
 use Rattle.cutting.specs.Cuts.{checked_of}
 use Rattle.cutting.specs.Greedy.{cutting_of}
 use Rattle.cutting.specs.declared.Checked.{Checked}
-use Rattle.cutting.specs.declared.Checked.TheVariants as Checked
 use Rattle.cutting.specs.declared.Cutting.{Cutting}
-use Rattle.cutting.specs.declared.Cutting.TheVariants as Cutting
 
 pub cutting_one : (a b : Cutting) → cutting_of a ≡ cutting_of b → a ≡ b
 cutting_one (Cutting.Into n) (Cutting.Into m) e = ap Cutting.Into (given _ _ e)

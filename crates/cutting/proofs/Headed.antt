@@ -15,7 +15,6 @@ use Rattle.cutting.specs.Cuts.{longest_payload, most_fragments, payload_in, is_t
 use Rattle.cutting.specs.PrivateFollowing.{said_of, goes_on_lem, first_by_lem, is_headed_lem, is_carried_lem, after_bad, taken_by}
 use Rattle.cutting.specs.declared.Proposed.{Proposed}
 use Rattle.cutting.specs.declared.following.Own.{Own}
-use Rattle.cutting.specs.declared.following.Own.TheVariants as Own
 use Rattle.cutting.specs.declared.following.Reached.{Reached}
 use Rattle.cutting.proofs.Same.{not_true}
 

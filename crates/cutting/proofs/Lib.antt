@@ -2,7 +2,6 @@ pub mod Accepted
 pub mod Asked
 pub mod Checking
 pub mod Claims
-pub mod Elem
 pub mod Exactly
 pub mod Fewest
 pub mod Filled

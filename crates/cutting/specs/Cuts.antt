@@ -8,7 +8,6 @@ use Rattle.walking.specs.Walk.{walk_of}
 use Rattle.walking.specs.Pieces.{pieces}
 use Rattle.cutting.specs.declared.Proposed.{Proposed}
 use Rattle.cutting.specs.declared.Checked.{Checked}
-use Rattle.cutting.specs.declared.Checked.TheVariants as Checked
 
 -- Rule M1: the TLVs of a message, each as its bytes. Where the walk refuses the message, so it is refused here, with
 -- the offset of the TLV that failed. Bytes after the marker: 4.

@@ -3,7 +3,6 @@ use Rattle.std.specs.Prelude.{Bool, true, cond, ◌&&◌, List, [], ◌∷◌, �
 use Rattle.numbers.specs.Numbers.{Answer, gives, refuses, told, number, values, and_then}
 use Rattle.cutting.specs.Cuts.{tlvs_of, longest_payload, most_fragments}
 use Rattle.cutting.specs.declared.Cutting.{Cutting}
-use Rattle.cutting.specs.declared.Cutting.TheVariants as Cutting
 
 -- Rule M5: where the fragments end, over TLVs of these lengths. The open fragment holds `used` bytes so far, and ends
 -- at the offset `at`. A TLV that it has no room for begins the next one.

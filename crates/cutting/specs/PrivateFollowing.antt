@@ -6,7 +6,6 @@ use Rattle.numbers.specs.Bytes.{is_same_lem}
 use Rattle.cutting.specs.Cuts.{longest_payload, most_fragments, payload_in, is_tlvs_lem, is_empty_one, is_alike_lem, no_fragment}
 use Rattle.cutting.specs.declared.Proposed.{Proposed}
 use Rattle.cutting.specs.declared.following.Own.{Own}
-use Rattle.cutting.specs.declared.following.Own.TheVariants as Own
 use Rattle.cutting.specs.declared.following.Reached.{Reached}
 
 -- what is answered, by what is said of the message alone and whether the fragments are fine

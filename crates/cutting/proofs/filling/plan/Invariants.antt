@@ -1,0 +1,11 @@
+-- `plan` meets its contract: what the loop keeps is `Planning`, and what is left of the message falls.
+use Prim.Native.Nat.{◌-◌}
+use lib.ListN.{length}
+use Rattle.cutting.proofs.Planning.{Planning}
+use Rattle.cutting.proofs.filling.plan.Given as goal
+
+abbrev pub invariant-loop-answer : goal.invariant-loop-answer
+invariant-loop-answer l = Planning l.message l.at l.current l.ends
+
+abbrev pub decreases-loop-answer : goal.decreases-loop-answer
+decreases-loop-answer l = length l.message - l.at
