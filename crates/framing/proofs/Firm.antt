@@ -6,11 +6,8 @@ use Rattle.framing.specs.Tlv.{TlvRead, read_of, written_of}
 use Rattle.framing.specs.Cmdu.{header_of_lem}
 use Rattle.framing.specs.declared.CmduHeader.{CmduHeader}
 use Rattle.framing.specs.declared.Read.{Read}
-use Rattle.framing.specs.declared.Read.TheVariants as Read
 use Rattle.framing.specs.declared.Written.{Written}
-use Rattle.framing.specs.declared.Written.TheVariants as Written
 use Rattle.framing.specs.declared.HeaderRead.{HeaderRead}
-use Rattle.framing.specs.declared.HeaderRead.TheVariants as HeaderRead
 
 pub read_one : (a b : Read) → read_of a ≡ read_of b → a ≡ b
 read_one (Read.Whole t n c) (Read.Whole t' n' c') e =

@@ -3,9 +3,7 @@ use Rattle.std.specs.Prelude.{cond, List, [], ◌∷◌, ◌++◌, ℕ, ◌+◌,
 use Rattle.numbers.specs.Numbers.{Answer, gives, refuses, told}
 use Rattle.numbers.specs.Bytes.{number_at, in_bytes}
 use Rattle.framing.specs.declared.Read.{Read}
-use Rattle.framing.specs.declared.Read.TheVariants as Read
 use Rattle.framing.specs.declared.Written.{Written}
-use Rattle.framing.specs.declared.Written.TheVariants as Written
 
 -- What reading returns (rule B3): the type, the length of the value that follows the first three bytes, and the bytes
 -- consumed.

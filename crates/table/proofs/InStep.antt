@@ -14,7 +14,7 @@ use Rattle.searching.proofs.Search.{lowest_holds, lowest_before, lowest_none, lo
 use Rattle.searching.proofs.Count.{count_none, count_same, count_more, count_sum}
 use Rattle.table.specs.declared.Table.{Table}
 use Rattle.table.specs.declared.Totals.{Totals}
-use Rattle.table.specs.Rows.{Place, owner_of, free_place, fresh_table, place_at, is_free, with_key, with_place, first_row_lem, no_totals, totals_in, totals_of, put_totals_lem, with_totals, cleared, sender_at, places_in, less_key, without}
+use Rattle.table.specs.Rows.{Place, owner_of, free_place, fresh_table, place_at, is_free, with_key, with_place, first_row_lem, no_totals, totals_in, totals_of, with_totals, cleared, sender_at, places_in, less_key, without}
 use Rattle.table.specs.Sound.{Long}
 pub use Rattle.table.specs.InStep.{of_sender, kept_for, counted_for, InStep, WithinShares}
 use Rattle.table.proofs.Places.{all_same, put_here, put_elsewhere, freed, freed_at}

@@ -3,7 +3,7 @@
 use mathlib.Core.Path.{◌≡◌, sym, ap, ◌∙◌}
 use mathlib.Core.Bool.{true, false}
 use mathlib.Core.List.{List, [], ◌++◌}
-use Prim.Native.Nat.{ℕ, zero, suc, ◌+◌, ◌≤◌}
+use Prim.Native.Nat.{ℕ, zero, suc, ◌≤◌}
 use native.Mathlib.Omega.{arith}
 use lib.ListN.{length, length-append, drop}
 use lib.Seq.{drop-append-le}
@@ -12,7 +12,7 @@ use Rattle.numbers.proofs.Firm.{never}
 use Rattle.framing.specs.Tlv.{read_tlv_lem}
 use Rattle.framing.proofs.Shortfall.{longer}
 use Rattle.walking.specs.declared.Tlv.{Tlv}
-use Rattle.walking.specs.Steps.{ended, passed, last}
+use Rattle.walking.specs.Steps.{passed, last}
 use Rattle.walking.specs.Walk.{is_marker_lem, step_at}
 use Rattle.walking.specs.Claims.{Unmarked}
 use Rattle.walking.proofs.Chained.{Has}

@@ -10,9 +10,7 @@ use Rattle.numbers.proofs.Firm.{firm_numbered, so_many, never}
 use Rattle.numbers.proofs.Answers.{given}
 use Rattle.walking.specs.Walk.{WalkCount, stepped_of, walked_of}
 use Rattle.walking.specs.declared.Stepped.{Stepped}
-use Rattle.walking.specs.declared.Stepped.TheVariants as Stepped
 use Rattle.walking.specs.declared.Walked.{Walked}
-use Rattle.walking.specs.declared.Walked.TheVariants as Walked
 
 -- a refusal with an offset, and one without: the first has a value more
 pub with_offset : {A : Type 0} (r r' : Refusal) (at at' : ℕ) → ◌≡◌ {A = Answer A} (refuses (number r) (at ∷ values r)) (refuses (number r') (at' ∷ values r')) → (r ≡ r') × (at ≡ at')

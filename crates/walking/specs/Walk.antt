@@ -5,9 +5,7 @@ use Rattle.framing.specs.Tlv.{TlvRead, read_tlv_lem}
 use Rattle.walking.specs.Steps.{Ahead, ended, passed, last, Walk, walk_from}
 use Rattle.walking.specs.declared.Tlv.{Tlv}
 use Rattle.walking.specs.declared.Stepped.{Stepped}
-use Rattle.walking.specs.declared.Stepped.TheVariants as Stepped
 use Rattle.walking.specs.declared.Walked.{Walked}
-use Rattle.walking.specs.declared.Walked.TheVariants as Walked
 
 -- Rule W2: the end marker is a TLV of type 0 with an empty value.
 abbrev pub is_marker_lem : Tlv → Bool

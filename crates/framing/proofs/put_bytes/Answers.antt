@@ -1,5 +1,5 @@
 -- `put_bytes` meets its contract: after i turns the first i bytes stand at the start, and what was lent after them.
-use Prim.Native.Nat.{ℕ, ◌-◌}
+use Prim.Native.Nat.{ℕ}
 use mathlib.Core.Path.{◌≡◌, refl, ◌∙◌, ap}
 use mathlib.Core.List.{List}
 use lib.ListN.{length, get_or, set, length-set}

@@ -1,5 +1,5 @@
 -- `put_bytes` meets its contract: after i turns the first i bytes stand at the start, and what was lent after them.
-use Prim.Native.Nat.{◌+◌, ◌≤◌, ◌-◌}
+use Prim.Native.Nat.{◌≤◌, ◌-◌}
 use mathlib.Core.Path.{◌≡◌}
 use mathlib.Core.List.{◌++◌}
 use lib.ListN.{length, take, drop}

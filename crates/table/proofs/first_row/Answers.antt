@@ -1,6 +1,5 @@
 -- The loop has passed i rows of which none is sought.
 use mathlib.Core.Path.{◌≡◌, sym, ap, ◌∙◌}
-use Prim.Native.Nat.{◌-◌}
 use native.Mathlib.Omega.{arith}
 use borrow.Author.Rules.{rules}
 use Rattle.searching.specs.Search.{lowest}

@@ -1,15 +1,14 @@
 -- The row is cleared; the loop has freed the places below i that the row owned, and counted them.
 use mathlib.Core.Path.{◌≡◌, ap, ◌∙◌}
 use mathlib.Core.Bool.{true, false}
-use Prim.Native.Nat.{ℕ, ◌≤◌, ◌<◌, ◌-◌}
+use Prim.Native.Nat.{ℕ, ◌≤◌, ◌-◌}
 use native.Mathlib.Omega.{arith}
 use lib.Dec.{eqb}
 use lib.ListN.{length, get_or, get_or-eq_default}
 use borrow.Author.Rules.{rules}
 use Rattle.searching.specs.Count.{how_many}
 use Rattle.searching.proofs.Count.{count_before_all}
-use Rattle.table.specs.declared.Table.{Table}
-use Rattle.table.specs.Rows.{owner_of, cleared, sender_at, places_in}
+use Rattle.table.specs.Rows.{owner_of}
 use Rattle.table.proofs.Freed.{row_cleared, freed_none, freed_met, freed_passed, counted_met, counted_passed, freed_all, lower_inside, lowered, none_left}
 use Rattle.table.proofs.without_key.Goals as goal
 use Rattle.table.proofs.without_key.Goals.{then-n-i, else-n-i}
@@ -37,16 +36,16 @@ loop-i-preserved c =
     let count = c.loop-i.invariant.2 in (
       search rules,
       elim c.if-n-i.branch [
-        then-n-i w ↦ w.n-is ∙ freed_met owner (omega arith) start n i so_far w.if-n-i.true
-      | else-n-i w ↦ w.n-is ∙ freed_passed owner (omega arith) start n i so_far w.if-n-i.false
+        | then-n-i w ↦ w.n-is ∙ freed_met owner (omega arith) start n i so_far w.if-n-i.true
+        | else-n-i w ↦ w.n-is ∙ freed_passed owner (omega arith) start n i so_far w.if-n-i.false
       ],
       elim c.if-n-i.branch [
-        then-n-i w ↦ w.freed-is ∙ counted_met owner (omega arith) start n i so_far w.if-n-i.true c.loop-i.freed count
-      | else-n-i w ↦ w.freed-is ∙ counted_passed owner (omega arith) start n i so_far w.if-n-i.false c.loop-i.freed count
+        | then-n-i w ↦ w.freed-is ∙ counted_met owner (omega arith) start n i so_far w.if-n-i.true c.loop-i.freed count
+        | else-n-i w ↦ w.freed-is ∙ counted_passed owner (omega arith) start n i so_far w.if-n-i.false c.loop-i.freed count
       ],
       elim c.if-n-i.branch [
-        then-n-i w ↦ omega (arith, w.freed-is, c.loop-i.invariant.3)
-      | else-n-i w ↦ omega (arith, w.freed-is, c.loop-i.invariant.3)
+        | then-n-i w ↦ omega (arith, w.freed-is, c.loop-i.invariant.3)
+        | else-n-i w ↦ omega (arith, w.freed-is, c.loop-i.invariant.3)
       ],
     )
 

@@ -1,6 +1,5 @@
 -- What is awaited of the bytes from i on decides over all.
 use mathlib.Core.Path.{sym, ◌∙◌}
-use Prim.Native.Nat.{◌-◌}
 use native.Mathlib.Omega.{arith}
 use Rattle.utf8.specs.PrivateUtf8.{awaits}
 use Rattle.utf8.proofs.Grammar.{goes_on, goes_off, comes_to_end}

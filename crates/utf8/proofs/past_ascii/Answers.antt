@@ -1,7 +1,6 @@
 -- Eight bytes below 0x80 are eight characters.
 use borrow.Author.Rules.{rules}
 use mathlib.Core.Path.{refl, ◌∙◌}
-use Prim.Native.Nat.{◌-◌}
 use native.Mathlib.Omega.{arith}
 use Rattle.utf8.proofs.Grammar.{ascii_eight}
 use Rattle.utf8.proofs.past_ascii.Goals as goal

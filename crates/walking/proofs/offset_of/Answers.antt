@@ -1,6 +1,5 @@
 -- `offset_of` meets its contract: after i turns the walk's TLV number i stands at `at`.
 use mathlib.Core.Path.{◌∙◌, ap}
-use Prim.Native.Nat.{◌-◌}
 use native.Mathlib.Omega.{arith}
 use Rattle.walking.specs.Walk.{walk_of, offset_at}
 use Rattle.walking.proofs.Chained.{stands_first, stands_at, stands_next}

@@ -1,6 +1,5 @@
 -- `walk` meets its contract: what the loop keeps is `Walking`, and what is left of the payload falls.
 use mathlib.Core.Path.{sym, ◌∙◌, ap}
-use Prim.Native.Nat.{◌-◌}
 use native.Mathlib.Omega.{arith}
 use Rattle.walking.specs.Walk.{stepped_of}
 use Rattle.walking.proofs.Stepping.{passes, lasts}
