@@ -1,5 +1,5 @@
 -- Calls of push and sweep that happened, by their contracts, with keys made by key_of.
-use Rattle.std.specs.Prelude.{◌≡◌, List, [], ◌∷◌, map, Bool, true, false, not, ◌&&◌, ◌||◌, ℕ, eqb, length, drop}
+use Rattle.std.specs.Prelude.{◌≡◌, List, [], map, Bool, false, not, ◌&&◌, ◌||◌, ℕ, eqb, length, drop}
 use Rattle.numbers.specs.Bytes.{is_same_lem}
 use Rattle.machines.specs.Machine.{those}
 use Rattle.machines.specs.Happened.{Outcome, Asks, asks_for, steps_of}

@@ -15,7 +15,7 @@ use table::Table;
 // output. The slices are those that push was lent.
 pub fn show<'a>(answer: Pushed, payload: &'a [u8], out: &'a [u8]) -> &'a [u8]
     ensures result_value { result.now ≡ shown (pushed_of answer) payload.now out.now }
-    ensures place { result.ref_ptr ≡ (shown_from (pushed_of answer) payload.entry out.entry).ptr }
+    ensures place { result.ref_ptr ≡ (shown_from (pushed_of answer) payload.entry out.entry).ref_ptr }
 {
     match answer {
         Pushed::Single(n) => {

@@ -1,6 +1,5 @@
 -- The loop has counted the rows that it has passed.
 use mathlib.Core.Path.{◌≡◌, sym, ap, ◌∙◌}
-use Prim.Native.Nat.{◌-◌}
 use native.Mathlib.Omega.{arith}
 use borrow.Author.Rules.{rules}
 use Rattle.searching.specs.Count.{how_many}

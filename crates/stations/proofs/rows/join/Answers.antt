@@ -20,4 +20,4 @@ returns-then-free-lt-STATIONS c =
 pub returns : goal.returns
 returns c =
     let a = c.args in
-    full a.t.now a.station a.point c..result c.row_with-free.result c..ensures.0 (search rules) c.row_with-free.ensures.0 (search rules)
+    full a.t.now a.station a.point c.row_with-known.result c.row_with-free.result c.row_with-known.ensures.0 (search rules) c.row_with-free.ensures.0 (search rules)
