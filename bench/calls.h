@@ -72,6 +72,8 @@ __typeof__(ashlar_capture_check) plain_capture_check;
 __typeof__(ashlar_capture_step) plain_capture_step;
 __typeof__(ashlar_capture_frames) plain_capture_frames;
 __typeof__(ashlar_capture_arrival) plain_capture_arrival;
+__typeof__(ashlar_radio) plain_radio;
+__typeof__(ashlar_radio_text) plain_radio_text;
 
 #ifdef PLAIN
 #define CALL(name) plain_##name

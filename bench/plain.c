@@ -40,9 +40,9 @@ AshlarWalk plain_walk_into(AshlarTlv *list, size_t room, const uint8_t *p, size_
 
 static AshlarKind refused(uint8_t number) { return (AshlarKind){0, 0, 0, false, number}; }
 
-static AshlarKind fixed(size_t size, size_t n) { return n < size ? refused(3) : (AshlarKind){0, size, n - size, true, 0}; }
+static AshlarKind fixed(size_t size, size_t n) { return n < size ? refused(3) : (AshlarKind){0, size, n - size, false, 0}; }
 
-static AshlarKind listed(size_t entries, size_t end, size_t n) { return (AshlarKind){entries, end, n - end, false, 0}; }
+static AshlarKind listed(size_t entries, size_t end, size_t n) { return (AshlarKind){entries, end, n - end, true, 0}; }
 
 /* a head, then entries to the end */
 static AshlarKind to_end(size_t head, size_t entry, size_t n) {

@@ -208,12 +208,20 @@ AshlarPart plain_entry_at(uint8_t code, AshlarPath path, const uint8_t *v, size_
     return (AshlarPart){start, end - start, 0};
 }
 
+/* a radio has an id of six bytes, the length of its text, and the text */
+AshlarPart plain_radio(size_t number, const uint8_t *v, size_t n) { return plain_entry_at(0xD4, (AshlarPath){1, number, 0, 0}, v, n); }
+
+AshlarPart plain_radio_text(size_t number, const uint8_t *v, size_t n) {
+    AshlarPart radio = plain_radio(number, v, n);
+    return radio.refusal ? radio : (AshlarPart){radio.start + 7, radio.length - 7, 0};
+}
+
 AshlarCount plain_entry_count(uint8_t code, AshlarPath path, const uint8_t *v, size_t n) {
     AshlarKind k = plain_read_kind(code, v, n);
     Row r = row_of(code);
     size_t at, many = 0;
     if (k.refusal) return (AshlarCount){.refusal = k.refusal};
-    if (k.is_record) return (AshlarCount){.refusal = 6};
+    if (!k.is_list) return (AshlarCount){.refusal = 6};
     if (!path.depth) return (AshlarCount){k.entries, 0};
     if (path.depth >= r.levels || entry_in(code, &r, path, v, n, &at)) return (AshlarCount){.refusal = 6};
     list_in(r, (int)path.depth, v, n, &at, &many);
@@ -224,7 +232,7 @@ AshlarBegun plain_entries(uint8_t code, uint8_t depth, const uint8_t *v, size_t 
     AshlarKind k = plain_read_kind(code, v, n);
     Row r = row_of(code);
     size_t many = 0, at = 0;
-    if (k.refusal || k.is_record) return (AshlarBegun){.refusal = k.refusal ? k.refusal : 6};
+    if (k.refusal || !k.is_list) return (AshlarBegun){.refusal = k.refusal ? k.refusal : 6};
     if (code == 0xD4) at = radios_at(v, &many);
     else if (r.levels) list_in(r, 0, v, n, &at, &many);
     else at = k.consumed;

@@ -143,8 +143,8 @@ static void put_tlv(AshlarTlv t, const uint8_t *value) {
     else printf("\n   type 0x%02x: %u bytes", t.tlv_type, t.length);
     if (name && kind.refusal) printf(" %s", ashlar_refusal_name(kind.refusal));
     else if (t.tlv_type == ASHLAR_CLIENT_ASSOCIATION) put_event(value, t.length);
-    else if (kind.is_record) put_record(t.tlv_type, value, t.length);
-    else if (!kind.refusal) put_list(t.tlv_type, value, t.length);
+    else if (kind.is_list) put_list(t.tlv_type, value, t.length);
+    else if (!kind.refusal) put_record(t.tlv_type, value, t.length);
 }
 
 /* only a message that walks to its end is believed */

@@ -63,11 +63,11 @@
      to the same call.
    - Pointers are aligned as their types require, and a bool is 0 or 1.
    - A fragment table is one that ashlar_fragments_fresh made and that only ashlar_fragments_push and
-     ashlar_fragments_sweep changed. One store belongs to it, always the same, which only
-     ashlar_fragments_push writes. What the store holds at first doesn't matter.
+     ashlar_fragments_sweep changed, or the same calls by their first names. One store belongs to it, always
+     the same, which only a push writes. What the store holds at first doesn't matter.
    - A station table is one that ashlar_stations_fresh made and that only ashlar_stations_event and
-     ashlar_stations_event_from changed. Other contents are safe, but the answers are then about those
-     contents: a station may be in two rows.
+     ashlar_stations_event_from changed, or the same calls by their first names. Other contents are safe,
+     but the answers are then about those contents: a station may be in two rows.
    - There are no globals. Threads need a lock only for what they share: a table, with its store, may be in
      one call at a time, and so may a station table. */
 #ifndef ASHLAR_H
@@ -377,7 +377,8 @@ typedef struct {
                         0 (21 and 22 have none) */
     size_t consumed; /* how many bytes of the value its kind's layout takes, from the first on */
     size_t rest;     /* how many bytes follow these: they belong to no field, and may be skipped (rule K4) */
-    bool is_record;  /* true for a record; false for a list and for a kind that holds text */
+    bool is_list;    /* true for a list and for a kind that holds text; false for a record, and where
+                        refused */
     uint8_t refusal; /* an AshlarRefusal */
 } AshlarKind;
 
@@ -1089,6 +1090,29 @@ AshlarCapture ashlar_capture_frames(AshlarFrame *list, size_t list_length, const
    rounded down (rules G3 and G9). */
 AshlarArrival ashlar_capture_arrival(AshlarFrame frame);
 
+/* ---- First names ---- */
+
+/* The calls on both tables, and on radios, by the names that they had first: who calls them still can (rule
+   C1). Each is the call of today's name, but that ashlar_fresh returns the table, and that ashlar_radio is
+   ashlar_entry_at of kind 0xD4 with one number. ashlar_radio_text says where the text of a radio lies. */
+#define ASHLAR_TABLE ASHLAR_FRAGMENT_TABLE
+typedef AshlarFragments AshlarTable;
+AshlarTable ashlar_fresh(void);
+AshlarPushed ashlar_push(AshlarTable *table, uint8_t *store, size_t store_length, uint8_t *out,
+                         size_t out_length, AshlarArrival arrival, const uint8_t *payload,
+                         size_t payload_length);
+AshlarShown ashlar_show(AshlarPushed pushed, const uint8_t *payload, size_t payload_length,
+                        const uint8_t *out, size_t out_length);
+size_t ashlar_sweep(AshlarTable *table, uint64_t time);
+AshlarHeard ashlar_station_event(AshlarStations *table, AshlarAddress station, AshlarAddress point,
+                                 bool joined);
+AshlarApplied ashlar_station_event_from(AshlarStations *table, const uint8_t *value, size_t value_length);
+AshlarAt ashlar_station_at(const AshlarStations *table, AshlarAddress station);
+size_t ashlar_station_count(const AshlarStations *table);
+AshlarRow ashlar_station_row(const AshlarStations *table, size_t n);
+AshlarPart ashlar_radio(size_t number, const uint8_t *value, size_t value_length);
+AshlarPart ashlar_radio_text(size_t number, const uint8_t *value, size_t value_length);
+
 #ifdef __cplusplus
 }
 #endif
@@ -1296,6 +1320,24 @@ ASHLAR_CALL(AshlarCapture, ashlar_capture_frames, (AshlarFrame *list, size_t lis
             *file, size_t file_length), (ASHLAR_LENT(AshlarFrame, list), list_length, ashlar_bytes(file),
             file_length))
 #define ashlar_capture_frames ashlar_capture_frames_of
+ASHLAR_CALL(AshlarPushed, ashlar_push, (AshlarTable *table, uint8_t *store, size_t store_length, uint8_t
+            *out, size_t out_length, AshlarArrival arrival, const uint8_t *payload, size_t payload_length),
+            (table, ASHLAR_LENT(uint8_t, store), store_length, ASHLAR_LENT(uint8_t, out), out_length, arrival,
+            ashlar_bytes(payload), payload_length))
+#define ashlar_push ashlar_push_of
+ASHLAR_CALL(AshlarShown, ashlar_show, (AshlarPushed pushed, const uint8_t *payload, size_t payload_length,
+            const uint8_t *out, size_t out_length), (pushed, ashlar_bytes(payload), payload_length,
+            ashlar_bytes(out), out_length))
+#define ashlar_show ashlar_show_of
+ASHLAR_CALL(AshlarApplied, ashlar_station_event_from, (AshlarStations *table, const uint8_t *value, size_t
+            value_length), (table, ashlar_bytes(value), value_length))
+#define ashlar_station_event_from ashlar_station_event_from_of
+ASHLAR_CALL(AshlarPart, ashlar_radio, (size_t number, const uint8_t *value, size_t value_length), (number,
+            ashlar_bytes(value), value_length))
+#define ashlar_radio ashlar_radio_of
+ASHLAR_CALL(AshlarPart, ashlar_radio_text, (size_t number, const uint8_t *value, size_t value_length),
+            (number, ashlar_bytes(value), value_length))
+#define ashlar_radio_text ashlar_radio_text_of
 
 /* ---- Names ---- */
 

@@ -148,35 +148,35 @@ static void paddings(void) {
 static const struct {
     const char *name;
     uint8_t code, cut;
-    bool is_record;
+    bool is_list;
     size_t entries, size;
     uint8_t value[192];
 } kinds[] = {
-    {"END_OF_MESSAGE", ASHLAR_END_OF_MESSAGE, 0, true, 0, 0, {0}},
-    {"AL_MAC_ADDRESS", ASHLAR_AL_MAC_ADDRESS, 3, true, 0, 6, {0}},
-    {"MAC_ADDRESS", ASHLAR_MAC_ADDRESS, 3, true, 0, 6, {0}},
-    {"DEVICE_BRIDGING_CAPABILITY", ASHLAR_DEVICE_BRIDGING_CAPABILITY, 3, false, 1, 8, {1, 1}},
-    {"NON_1905_NEIGHBOR_DEVICES", ASHLAR_NON_1905_NEIGHBOR_DEVICES, 4, false, 1, 12, {0}},
-    {"1905_NEIGHBOR_DEVICE", ASHLAR_1905_NEIGHBOR_DEVICE, 4, false, 1, 13, {0}},
-    {"LINK_METRIC_QUERY", ASHLAR_LINK_METRIC_QUERY, 3, true, 0, 8, {1}},
-    {"LINK_METRIC_TX", ASHLAR_LINK_METRIC_TX, 4, false, 1, 41, {0}},
-    {"LINK_METRIC_RX", ASHLAR_LINK_METRIC_RX, 4, false, 1, 35, {0}},
-    {"LINK_METRIC_RESULT_CODE", ASHLAR_LINK_METRIC_RESULT_CODE, 3, true, 0, 1, {9}},
-    {"SEARCHED_ROLE", ASHLAR_SEARCHED_ROLE, 3, true, 0, 1, {0}},
-    {"SUPPORTED_ROLE", ASHLAR_SUPPORTED_ROLE, 3, true, 0, 1, {0}},
-    {"SUPPORTED_FREQ_BAND", ASHLAR_SUPPORTED_FREQ_BAND, 3, true, 0, 1, {9}},
-    {"DEVICE_IDENTIFICATION_TYPE", ASHLAR_DEVICE_IDENTIFICATION_TYPE, 3, false, 0, 192, {'a', 0, 0xFF}},
-    {"CONTROL_URL", ASHLAR_CONTROL_URL, 18, false, 0, 2, {0xC3, 0xA9}},
-    {"IPV4", ASHLAR_IPV4, 3, false, 1, 17, {1, [7] = 1}},
-    {"IPV6", ASHLAR_IPV6, 3, false, 1, 57, {1, [23] = 1}},
-    {"PROFILE_VERSION", ASHLAR_PROFILE_VERSION, 3, true, 0, 1, {9}},
-    {"SUPPORTED_SERVICE", ASHLAR_SUPPORTED_SERVICE, 3, false, 1, 2, {1}},
-    {"AP_OPERATIONAL_BSS", ASHLAR_AP_OPERATIONAL_BSS, 3, false, 1, 16, {1, [7] = 1, [14] = 1}},
-    {"CLIENT_ASSOCIATION", ASHLAR_CLIENT_ASSOCIATION, 3, true, 0, 13, {[12] = 0x80}},
-    {"MULTI_AP_PROFILE", ASHLAR_MULTI_AP_PROFILE, 3, true, 0, 1, {9}},
-    {"PROFILE_2_AP_CAPABILITY", ASHLAR_PROFILE_2_AP_CAPABILITY, 3, true, 0, 4, {0}},
-    {"BSS_CONFIGURATION_REPORT", ASHLAR_BSS_CONFIGURATION_REPORT, 3, false, 1, 18, {1, [7] = 1, [16] = 1}},
-    {"DEVICE_INVENTORY", ASHLAR_DEVICE_INVENTORY, 3, false, 1, 12, {[3] = 1, [10] = 1, 'a'}},
+    {"END_OF_MESSAGE", ASHLAR_END_OF_MESSAGE, 0, false, 0, 0, {0}},
+    {"AL_MAC_ADDRESS", ASHLAR_AL_MAC_ADDRESS, 3, false, 0, 6, {0}},
+    {"MAC_ADDRESS", ASHLAR_MAC_ADDRESS, 3, false, 0, 6, {0}},
+    {"DEVICE_BRIDGING_CAPABILITY", ASHLAR_DEVICE_BRIDGING_CAPABILITY, 3, true, 1, 8, {1, 1}},
+    {"NON_1905_NEIGHBOR_DEVICES", ASHLAR_NON_1905_NEIGHBOR_DEVICES, 4, true, 1, 12, {0}},
+    {"1905_NEIGHBOR_DEVICE", ASHLAR_1905_NEIGHBOR_DEVICE, 4, true, 1, 13, {0}},
+    {"LINK_METRIC_QUERY", ASHLAR_LINK_METRIC_QUERY, 3, false, 0, 8, {1}},
+    {"LINK_METRIC_TX", ASHLAR_LINK_METRIC_TX, 4, true, 1, 41, {0}},
+    {"LINK_METRIC_RX", ASHLAR_LINK_METRIC_RX, 4, true, 1, 35, {0}},
+    {"LINK_METRIC_RESULT_CODE", ASHLAR_LINK_METRIC_RESULT_CODE, 3, false, 0, 1, {9}},
+    {"SEARCHED_ROLE", ASHLAR_SEARCHED_ROLE, 3, false, 0, 1, {0}},
+    {"SUPPORTED_ROLE", ASHLAR_SUPPORTED_ROLE, 3, false, 0, 1, {0}},
+    {"SUPPORTED_FREQ_BAND", ASHLAR_SUPPORTED_FREQ_BAND, 3, false, 0, 1, {9}},
+    {"DEVICE_IDENTIFICATION_TYPE", ASHLAR_DEVICE_IDENTIFICATION_TYPE, 3, true, 0, 192, {'a', 0, 0xFF}},
+    {"CONTROL_URL", ASHLAR_CONTROL_URL, 18, true, 0, 2, {0xC3, 0xA9}},
+    {"IPV4", ASHLAR_IPV4, 3, true, 1, 17, {1, [7] = 1}},
+    {"IPV6", ASHLAR_IPV6, 3, true, 1, 57, {1, [23] = 1}},
+    {"PROFILE_VERSION", ASHLAR_PROFILE_VERSION, 3, false, 0, 1, {9}},
+    {"SUPPORTED_SERVICE", ASHLAR_SUPPORTED_SERVICE, 3, true, 1, 2, {1}},
+    {"AP_OPERATIONAL_BSS", ASHLAR_AP_OPERATIONAL_BSS, 3, true, 1, 16, {1, [7] = 1, [14] = 1}},
+    {"CLIENT_ASSOCIATION", ASHLAR_CLIENT_ASSOCIATION, 3, false, 0, 13, {[12] = 0x80}},
+    {"MULTI_AP_PROFILE", ASHLAR_MULTI_AP_PROFILE, 3, false, 0, 1, {9}},
+    {"PROFILE_2_AP_CAPABILITY", ASHLAR_PROFILE_2_AP_CAPABILITY, 3, false, 0, 4, {0}},
+    {"BSS_CONFIGURATION_REPORT", ASHLAR_BSS_CONFIGURATION_REPORT, 3, true, 1, 18, {1, [7] = 1, [16] = 1}},
+    {"DEVICE_INVENTORY", ASHLAR_DEVICE_INVENTORY, 3, true, 1, 12, {[3] = 1, [10] = 1, 'a'}},
 };
 
 /* the TLV of an L2NeighborDevice (30), which is no kind: an interface, a neighbour, an address that it reaches */
@@ -185,7 +185,7 @@ static const uint8_t beyond[26] = {30, 0, 23, 1, [11] = 1, [19] = 1};
 static uint8_t refusal_of(uint8_t code, const char *value, size_t size) {
     AshlarKind k = ashlar_read_kind(code, (const uint8_t *)value, size);
     refusals |= 1u << k.refusal;
-    return k.entries || k.consumed || k.rest || k.is_record ? 255 : k.refusal;
+    return k.entries || k.consumed || k.rest || k.is_list ? 255 : k.refusal;
 }
 
 static void reads(void) {
@@ -193,15 +193,15 @@ static void reads(void) {
     for (size_t i = 0; i < sizeof kinds / sizeof *kinds; i++) {
         size_t size = kinds[i].size;
         AshlarKind k = ashlar_read_kind(kinds[i].code, kinds[i].value, size);
-        bool good = k.refusal == ASHLAR_OK && k.consumed == size && k.rest == 0 && k.is_record == kinds[i].is_record && k.entries == kinds[i].entries;
+        bool good = k.refusal == ASHLAR_OK && k.consumed == size && k.rest == 0 && k.is_list == kinds[i].is_list && k.entries == kinds[i].entries;
         if (size) good &= ashlar_read_kind(kinds[i].code, kinds[i].value, size - 1).refusal == kinds[i].cut;
         snprintf(name, sizeof name, "AshlarCode: %s", kinds[i].name);
         check(name, good);
     }
     AshlarKind k = ashlar_read_kind(ASHLAR_MAC_ADDRESS, row, 8);
-    check("AshlarKind of a record with a rest", k.entries == 0 && k.consumed == 6 && k.rest == 2 && k.is_record && k.refusal == ASHLAR_OK);
+    check("AshlarKind of a record with a rest", k.entries == 0 && k.consumed == 6 && k.rest == 2 && !k.is_list && k.refusal == ASHLAR_OK);
     k = ashlar_read_kind(ASHLAR_SUPPORTED_SERVICE, (const uint8_t *)"\3abcde", 6);
-    check("AshlarKind of a list with a rest", k.entries == 3 && k.consumed == 4 && k.rest == 2 && !k.is_record && k.refusal == ASHLAR_OK);
+    check("AshlarKind of a list with a rest", k.entries == 3 && k.consumed == 4 && k.rest == 2 && k.is_list && k.refusal == ASHLAR_OK);
     check("ashlar_read_kind: 3", refusal_of(ASHLAR_SUPPORTED_SERVICE, "\5abcde", 5) == ASHLAR_CUT_SHORT);
     check("ashlar_read_kind: 4", refusal_of(ASHLAR_END_OF_MESSAGE, "a", 1) == ASHLAR_LEFT_OVER);
     check("ashlar_read_kind: 5", refusal_of(ASHLAR_MULTI_AP_PROFILE, "\0", 1) == ASHLAR_BAD_VALUE);
@@ -225,7 +225,7 @@ static bool no_part(AshlarPart p, uint8_t refusal) {
 static void texts(void) {
     size_t size = sizeof device;
     AshlarKind k = ashlar_read_kind(ASHLAR_DEVICE_INVENTORY, device, size);
-    check("AshlarKind of an inventory: its radios are its entries", !k.is_record && k.entries == 2 && k.consumed == 31 && k.rest == 2 && k.refusal == ASHLAR_OK);
+    check("AshlarKind of an inventory: its radios are its entries", k.is_list && k.entries == 2 && k.consumed == 31 && k.rest == 2 && k.refusal == ASHLAR_OK);
     check("ashlar_text: each text of an inventory", lies(ashlar_text(ASHLAR_DEVICE_INVENTORY, 0, device, size), 1, 7) &&
           lies(ashlar_text(ASHLAR_DEVICE_INVENTORY, 1, device, size), 9, 0) && lies(ashlar_text(ASHLAR_DEVICE_INVENTORY, 2, device, size), 10, 1));
     check("ashlar_text: 6", no_part(ashlar_text(ASHLAR_DEVICE_INVENTORY, 3, device, size), ASHLAR_NO_ENTRY) && no_part(ashlar_text(ASHLAR_CONTROL_URL, 1, device, 9), ASHLAR_NO_ENTRY));
@@ -594,6 +594,51 @@ static void values(void) {
     check("ashlar_stations_event_from: a leave", heard(a.heard, ASHLAR_REMOVED, none) && a.consumed == 13 && a.rest == 0 && is_nowhere(phone));
 }
 
+/* the calls by their first names: each gives what the call of today's name gives, or what it gave */
+static void first_tables(void) {
+    static const AshlarTable nothing;
+    AshlarTable first = ashlar_fresh();
+    check("ASHLAR_TABLE, ashlar_fresh: all its bytes are 0", sizeof first == ASHLAR_TABLE && !memcmp(&first, &nothing, sizeof first));
+    AshlarPushed p = ashlar_push(&first, store, sizeof store, out, sizeof out, piece(of(1, 7), 0, false), payload, 4);
+    check("ashlar_push: waiting", answered(p, ASHLAR_WAITING, 0) && first.used[0] && first.row_keys[0] == of(1, 7));
+    p = ashlar_push(&first, store, sizeof store, out, 7, piece(of(1, 7), 1, true), payload + 4, 4);
+    check("ashlar_push: 13", p.answer == ASHLAR_REFUSED && p.refusal == ASHLAR_OUTPUT_TOO_SMALL && p.length == 8);
+    p = ashlar_push(&first, store, sizeof store, out, sizeof out, piece(of(1, 7), 1, true), payload + 4, 4);
+    check("ashlar_push: joined", answered(p, ASHLAR_JOINED, 8) && !memcmp(out, payload, 8) && !memcmp(&first, &nothing, sizeof first));
+    AshlarShown s = ashlar_show(p, payload + 4, 4, out, sizeof out), t = ashlar_show((AshlarPushed){.length = 5, .answer = ASHLAR_SINGLE}, payload, 5, out, 4);
+    check("ashlar_show: of the output, and of the payload", s.length == 8 && s.in_output && t.length == 5 && !t.in_output);
+    ashlar_push(&first, store, sizeof store, out, sizeof out, piece(of(1, 8), 0, false), payload, 4);
+    check("ashlar_sweep: how many keys", ashlar_sweep(&first, 5000 + ASHLAR_OLD - 1) == 0 && ashlar_sweep(&first, 5000 + ASHLAR_OLD) == 1 && !memcmp(&first, &nothing, sizeof first));
+}
+
+static void first_stations(void) {
+    ashlar_stations_fresh(&stations);
+    check("ashlar_station_event: placed", heard(ashlar_station_event(&stations, phone, kitchen, true), ASHLAR_PLACED, none) && is_at(phone, kitchen));
+    check("ashlar_station_event: moved", heard(ashlar_station_event(&stations, phone, attic, true), ASHLAR_MOVED, kitchen) && is_at(phone, attic));
+    check("ashlar_station_event: stale", heard(ashlar_station_event(&stations, phone, kitchen, false), ASHLAR_STALE, none) && is_at(phone, attic));
+    AshlarAt a = ashlar_station_at(&stations, phone), b = ashlar_station_at(&stations, kitchen);
+    check("ashlar_station_at", a.held && same_address(a.point, attic) && !b.held && same_address(b.point, none));
+    AshlarRow r = ashlar_station_row(&stations, 0), q = ashlar_station_row(&stations, ASHLAR_STATIONS);
+    check("ashlar_station_row", r.held && same_address(r.station, phone) && same_address(r.point, attic) && !q.held && same_address(q.station, none) && same_address(q.point, none));
+    check("ashlar_station_count", ashlar_station_count(&stations) == 1);
+    AshlarApplied v = ashlar_station_event_from(&stations, association, 14);
+    check("ashlar_station_event_from: the same, and a rest", heard(v.heard, ASHLAR_SAME, none) && v.consumed == 13 && v.rest == 1);
+    v = ashlar_station_event_from(&stations, association, 12);
+    check("ashlar_station_event_from: 3", v.heard.refusal == ASHLAR_CUT_SHORT && v.heard.answer == ASHLAR_REFUSED && v.consumed == 0 && v.rest == 0 && is_at(phone, attic));
+}
+
+static void first_radios(void) {
+    size_t size = sizeof device;
+    check("ashlar_radio: its id and its text", lies(ashlar_radio(0, device, size), 12, 12) && lies(ashlar_radio(1, device, size), 24, 7));
+    check("ashlar_radio_text: its text", lies(ashlar_radio_text(0, device, size), 19, 5) && lies(ashlar_radio_text(1, device, size), 31, 0));
+    check("ashlar_radio: 6", no_part(ashlar_radio(2, device, size), ASHLAR_NO_ENTRY) && no_part(ashlar_radio_text(2, device, size), ASHLAR_NO_ENTRY));
+    check("ashlar_radio: 3", no_part(ashlar_radio(0, device, 30), ASHLAR_CUT_SHORT) && no_part(ashlar_radio_text(0, device, 30), ASHLAR_CUT_SHORT));
+    uint8_t spoilt[sizeof device];
+    memcpy(spoilt, device, sizeof device);
+    spoilt[20] = 0xED;
+    check("ashlar_radio: 18, of another radio's text", no_part(ashlar_radio(1, spoilt, size), ASHLAR_NOT_TEXT) && no_part(ashlar_radio_text(1, spoilt, size), ASHLAR_NOT_TEXT));
+}
+
 static AshlarAddress station_number(int n) { return (AshlarAddress){{0, 0, 0, 0, (uint8_t)(n >> 8), (uint8_t)n}}; }
 
 static void crowd(void) {
@@ -803,7 +848,7 @@ static void read_captures(void) {
 
 int main(void) {
     for (size_t i = 0; i < sizeof payload; i++) payload[i] = (uint8_t)(i + 1);
-    headings(), written_headings(), walks(), paddings(), reads(), texts(), finds(), fields(), duplicates(), pushes(), limits(), sweeps(), cuts(), proposals(), moves(), values(), crowd(), link_reports(), merges(), written_captures(), read_captures(), values_by_fields();
+    headings(), written_headings(), walks(), paddings(), reads(), texts(), finds(), fields(), duplicates(), pushes(), limits(), sweeps(), cuts(), proposals(), moves(), values(), crowd(), first_tables(), first_stations(), first_radios(), link_reports(), merges(), written_captures(), read_captures(), values_by_fields();
     check("every refusal came: 1 to 23", (refusals & ~1u) == 0xFFFFFE);
     check("every answer of push came: 0 to 7", answers == 0xFF);
     check("every answer of an event came: 0 to 5", events == 0x3F);

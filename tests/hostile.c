@@ -78,6 +78,17 @@ enum { PAGE = 4096 };
     X(CAPTURE_STEP, "capture_step", 0 N(0) N(2) N(22) N(23)) \
     X(CAPTURE_FRAMES, "capture_frames", 0 N(0) N(2) N(14) N(22) N(23)) \
     X(CAPTURE_ARRIVAL, "capture_arrival", 0 N(0)) \
+    X(FIRST_FRESH, "fresh", 0 N(0)) \
+    X(FIRST_PUSH, "push", 0 N(0) N(10) N(11) N(12) N(13) N(20)) \
+    X(FIRST_SHOW, "show", 0 N(0)) \
+    X(FIRST_SWEEP, "sweep", 0 N(0)) \
+    X(FIRST_EVENT, "station_event", 0 N(0) N(17)) \
+    X(FIRST_EVENT_FROM, "station_event_from", 0 N(0) N(3) N(5) N(17)) \
+    X(FIRST_AT, "station_at", 0 N(0)) \
+    X(FIRST_COUNT, "station_count", 0 N(0)) \
+    X(FIRST_ROW, "station_row", 0 N(0)) \
+    X(RADIO, "radio", 0 N(0) N(3) N(6) N(18)) \
+    X(RADIO_TEXT, "radio_text", 0 N(0) N(3) N(6) N(18)) \
 
 enum {
 #define X(call, name, given) call,
@@ -240,7 +251,7 @@ static void walk_into(void) {
     listed(bytes(n), n, &list);
 }
 
-static bool same_kind(AshlarKind a, AshlarKind b) { return a.entries == b.entries && a.consumed == b.consumed && a.rest == b.rest && a.is_record == b.is_record && a.refusal == b.refusal; }
+static bool same_kind(AshlarKind a, AshlarKind b) { return a.entries == b.entries && a.consumed == b.consumed && a.rest == b.rest && a.is_list == b.is_list && a.refusal == b.refusal; }
 
 static void read_kind(void) {
     size_t n;
@@ -278,6 +289,11 @@ static void text(void) {
     uint8_t k = below(3) ? codes[below(3)] : code(), *p = value(k, &n);
     AshlarPart a = ashlar_text(k, number, p, n);
     told(TEXT, a.refusal, same_part(a, plain_text(k, number, p, n), n));
+    if (k != 0xD4) return;
+    a = ashlar_radio(number, p, n);
+    told(RADIO, a.refusal, same_part(a, plain_radio(number, p, n), n));
+    a = ashlar_radio_text(number, p, n);
+    told(RADIO_TEXT, a.refusal, same_part(a, plain_radio_text(number, p, n), n));
 }
 
 /* The totals are what counting gives, in the lowest row of each sender and nowhere else, and no more than a share (rules
@@ -305,27 +321,32 @@ static void push(void) {
     AshlarArrival a = {below(8) << 16 | below(6), any() % 8000, {(uint16_t)(2 + !below(30)), (uint8_t)!below(40), (uint8_t)(below(20) ? below(4) : any()), !below(4)}};
     uint8_t *out[2];
     for (int i = 0; i < 2; i++) out[i] = outs[i].end - space;
-    AshlarPushed x = ashlar_fragments_push(&tables[0], stores[0].end - kept, kept, out[0], space, a, p, n);
+    bool first = below(2); /* by its first name */
+    AshlarPushed x = (first ? ashlar_push : ashlar_fragments_push)(&tables[0], stores[0].end - kept, kept, out[0], space, a, p, n);
     AshlarPushed y = plain_fragments_push(&tables[1], stores[1].end - kept, kept, out[1], space, a, p, n);
     bool same = x.length == y.length && x.answer == y.answer && x.refusal == y.refusal && !memcmp(&tables[0], &tables[1], sizeof tables[0]) && !memcmp(out[0], out[1], space);
     if (!below(16)) same &= !memcmp(stores[0].end - kept, stores[1].end - kept, kept);
     same &= in_step(&tables[0]);
-    told(PUSH, x.refusal, same && x.answer <= ASHLAR_JOINED && (x.answer == ASHLAR_REFUSED) == (x.refusal != 0));
+    told(first ? FIRST_PUSH : PUSH, x.refusal, same && x.answer <= ASHLAR_JOINED && (x.answer == ASHLAR_REFUSED) == (x.refusal != 0));
     answers |= 1u << x.answer;
     if (below(2)) x = (AshlarPushed){(size_t)any() >> below(48), (uint8_t)any(), (uint8_t)any()};
-    AshlarShown s = ashlar_fragments_show(x, p, n, out[0], space), t = plain_fragments_show(x, p, n, out[0], space);
-    told(SHOW, 0, s.length == t.length && s.in_output == t.in_output && s.length <= (s.in_output ? space : n));
+    first = below(2);
+    AshlarShown s = (first ? ashlar_show : ashlar_fragments_show)(x, p, n, out[0], space), t = plain_fragments_show(x, p, n, out[0], space);
+    told(first ? FIRST_SHOW : SHOW, 0, s.length == t.length && s.in_output == t.in_output && s.length <= (s.in_output ? space : n));
 }
 
 static void sweep(void) {
     uint64_t time = below(20) ? any() % 11000 : any() << 40;
-    size_t a = ashlar_fragments_sweep(&tables[0], time), b = plain_fragments_sweep(&tables[1], time);
-    told(SWEEP, 0, a == b && !memcmp(&tables[0], &tables[1], sizeof tables[0]) && in_step(&tables[0]));
+    bool first = below(2);
+    size_t a = (first ? ashlar_sweep : ashlar_fragments_sweep)(&tables[0], time), b = plain_fragments_sweep(&tables[1], time);
+    told(first ? FIRST_SWEEP : SWEEP, 0, a == b && !memcmp(&tables[0], &tables[1], sizeof tables[0]) && in_step(&tables[0]));
 }
 
 static void fresh(void) {
     ashlar_fragments_fresh(&tables[0]);
     plain_fragments_fresh(&tables[1]);
+    AshlarTable first = ashlar_fresh();
+    told(FIRST_FRESH, 0, !memcmp(&first, &tables[1], sizeof first));
 }
 
 /* ---- Cutting ---- */
@@ -476,8 +497,9 @@ static bool same_stations(void) { return !memcmp(stations[0], stations[1], sizeo
 static void station_event(void) {
     AshlarAddress s = station(), p = point();
     bool joined = below(5);
-    AshlarHeard a = ashlar_stations_event(stations[0], s, p, joined), b = plain_stations_event(stations[1], s, p, joined);
-    told(EVENT, a.refusal, same_heard(a, b) && same_stations());
+    bool first = below(2);
+    AshlarHeard a = (first ? ashlar_station_event : ashlar_stations_event)(stations[0], s, p, joined), b = plain_stations_event(stations[1], s, p, joined);
+    told(first ? FIRST_EVENT : EVENT, a.refusal, same_heard(a, b) && same_stations());
 }
 
 static void station_event_from(void) {
@@ -485,21 +507,25 @@ static void station_event_from(void) {
     AshlarAddress s = station(), p = point();
     uint8_t *v = bytes(n);
     if (n > 12) memcpy(v, &s, 6), memcpy(v + 6, &p, 6), v[12] = (uint8_t)(below(4) ? below(5) ? 0x80 : 0 : any());
-    AshlarApplied a = ashlar_stations_event_from(stations[0], v, n), b = plain_stations_event_from(stations[1], v, n);
-    told(EVENT_FROM, a.heard.refusal, a.consumed == b.consumed && a.rest == b.rest && same_heard(a.heard, b.heard) && same_stations());
+    bool first = below(2);
+    AshlarApplied a = (first ? ashlar_station_event_from : ashlar_stations_event_from)(stations[0], v, n), b = plain_stations_event_from(stations[1], v, n);
+    told(first ? FIRST_EVENT_FROM : EVENT_FROM, a.heard.refusal, a.consumed == b.consumed && a.rest == b.rest && same_heard(a.heard, b.heard) && same_stations());
 }
 
 static void station_at(void) {
     AshlarAddress s = station();
-    AshlarAt a = ashlar_stations_at(stations[0], s), b = plain_stations_at(stations[1], s);
-    told(STATION_AT, 0, a.held == b.held && same_address(a.point, b.point));
+    bool first = below(2);
+    AshlarAt a = (first ? ashlar_station_at : ashlar_stations_at)(stations[0], s), b = plain_stations_at(stations[1], s);
+    told(first ? FIRST_AT : STATION_AT, 0, a.held == b.held && same_address(a.point, b.point));
 }
 
 static void station_rows(void) {
     size_t n = below(4) ? below(ASHLAR_STATIONS) : below(4) ? ASHLAR_STATIONS + below(9) : (size_t)any() << 40;
-    AshlarRow a = ashlar_stations_row(stations[0], n), b = plain_stations_row(stations[1], n);
-    told(STATION_ROW, 0, a.held == b.held && same_address(a.station, b.station) && same_address(a.point, b.point));
-    told(STATION_COUNT, 0, ashlar_stations_count(stations[0]) == plain_stations_count(stations[1]) && same_stations());
+    bool first = below(2);
+    AshlarRow a = (first ? ashlar_station_row : ashlar_stations_row)(stations[0], n), b = plain_stations_row(stations[1], n);
+    told(first ? FIRST_ROW : STATION_ROW, 0, a.held == b.held && same_address(a.station, b.station) && same_address(a.point, b.point));
+    size_t count = (first ? ashlar_station_count : ashlar_stations_count)(stations[0]);
+    told(first ? FIRST_COUNT : STATION_COUNT, 0, count == plain_stations_count(stations[1]) && same_stations());
 }
 
 static void of_stations(void) {
