@@ -7,9 +7,7 @@ use Rattle.numbers.proofs.Firm.{firm, never}
 use Rattle.walking.specs.Steps.{Ahead}
 use Rattle.captures.specs.Reading.{Captured, reached_of, FrameCount, file_checked_of}
 use Rattle.captures.specs.declared.Reached.{Reached}
-use Rattle.captures.specs.declared.Reached.TheVariants as Reached
 use Rattle.captures.specs.declared.FileChecked.{FileChecked}
-use Rattle.captures.specs.declared.FileChecked.TheVariants as FileChecked
 
 pub reached_one : (a b : Reached) → reached_of a ≡ reached_of b → a ≡ b
 reached_one Reached.FileEnd Reached.FileEnd e = refl

@@ -7,7 +7,6 @@ pub mod Walks
 pub mod Checking
 pub mod Handing
 pub mod Planning
-pub mod Elem
 pub mod Forms
 pub mod Returned
 pub mod Pushes

@@ -4,7 +4,7 @@ use mathlib.Core.List.{List, [], ◌++◌, append_assoc}
 use Prim.Native.Nat.{ℕ, ◌+◌, ◌-◌, ◌<◌, ◌≤◌}
 use native.Mathlib.Omega.{arith}
 use lib.ListN.{length, take, drop, length-append, length-take, length-drop}
-use lib.Seq.{take_at, drop_at, drop-drop, take-length}
+use lib.Seq.{take_at, drop_at, drop-drop}
 use borrow.Author.Tests.{lt-ltb, le-ltb, le-leb, lt-leb}
 use borrow.Rule.Slice.PartMut.{mid_of, put_mid}
 use Rattle.numbers.specs.Numbers.{gives, refuses}
@@ -60,10 +60,14 @@ module _ (begun out₀ out ys : List ℕ) (a : ℕ) (l : length begun ≡ a) (e 
       ∙ ap (λ (b : List ℕ). take a b ++ (v ++ drop (a + length v) b)) e
       ∙ rw (take_at begun (drop a out₀) a l, rest) (sym (append_assoc begun v (drop (a + length v) out₀)))
 
-  -- by a copy, and by writing a CMDU header
-  pub copied : (v : List ℕ) → ys ≡ take (length v) v ++ drop (length v) part → Holds v
-  copied v f = added v (f ∙ rw take-length)
+  -- by a copy, into as many elements as the piece has
+  pub copied : (v : List ℕ) (k : ℕ) → k ≡ length v → ys ≡ v → put_mid a k out ys ≡ (begun ++ v) ++ drop (a + length v) out₀
+  copied v k n f =
+      let rest = drop-drop (length v) a out₀ in
+      rw (f, n, e, take_at begun (drop a out₀) a l, drop_at begun (drop a out₀) a l, rest)
+      (sym (append_assoc begun v (drop (a + length v) out₀)))
 
+  -- by writing a CMDU header
   pub headed : (f g : CmduFields) → f ≡ g → a + 8 ≤ length out₀ → ys ≡ leaves (header_size (length part)) (header_bytes_lem f) part → Holds (header_bytes_lem g)
   headed f g i h k =
       let same : length out ≡ length begun + (length out₀ - a) = ap length e ∙ rw (length-append, length-drop) in

@@ -5,7 +5,6 @@ use Rattle.walking.specs.Steps.{walk_from}
 use Rattle.captures.specs.Reading.{file_order, record_at_lem, frames_in, Capture, capture_in, FrameCount, frames_counted, with_room_lem}
 use Rattle.captures.specs.declared.Frame.{Frame}
 use Rattle.captures.specs.declared.reading.Ordered.{Ordered}
-use Rattle.captures.specs.declared.reading.Ordered.TheVariants as Ordered
 
 -- what each answer about the file header says
 abbrev pub ordered_of : Ordered → Answer Bool

@@ -9,9 +9,7 @@ use Rattle.pushing.specs.declared.Arrival.{Arrival}
 use Rattle.captures.specs.Form.{field_at, magic, major, minor, link_type, Stored, is1905, milliseconds_of}
 use Rattle.captures.specs.declared.Frame.{Frame}
 use Rattle.captures.specs.declared.Reached.{Reached}
-use Rattle.captures.specs.declared.Reached.TheVariants as Reached
 use Rattle.captures.specs.declared.FileChecked.{FileChecked}
-use Rattle.captures.specs.declared.FileChecked.TheVariants as FileChecked
 
 -- Rules G1 and G6: the byte order of a file, by its magic; true is the highest byte first. Another magic: 22.
 abbrev pub order_by : List ℕ → Answer Bool

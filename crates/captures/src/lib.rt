@@ -62,7 +62,7 @@ pub fn write_file_header(out: &mut [u8]) -> Written
     }
     // the magic, the version, zone and accuracy, snap length and link type
     let header = b"\xD4\xC3\xB2\xA1\x02\0\x04\0\0\0\0\0\0\0\0\0\xFF\xFF\0\0\x01\0\0\0";
-    bytes::copy(header, out);
+    out[..24].copy_from_slice(header);
     Written::Bytes(24)
 }
 

@@ -83,9 +83,9 @@ pub(crate) fn put_frame(a: Arrival, payload: &[u8], out: &mut [u8])
     ensures { out.new ≡ frame_record a payload.now ++ drop (38 + length payload.now) out.old }
 {
     let stamp = record_header(a.time, (22 + payload.len()) as u64);
-    bytes::copy(&stamp, out);
+    out[..16].copy_from_slice(&stamp);
     let ethernet = ethernet_header(a.key);
-    bytes::copy(&ethernet, &mut out[16..]);
+    out[16..30].copy_from_slice(&ethernet);
     framing::write_cmdu_header(fields_of(a), &mut out[30..]);
-    bytes::copy(payload, &mut out[38..]);
+    out[38..38 + payload.len()].copy_from_slice(payload);
 }
