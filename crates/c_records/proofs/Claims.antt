@@ -6,7 +6,6 @@ use Rattle.framing.specs.Tlv.{written_of}
 use Rattle.framing.proofs.Firm.{written_one}
 use Rattle.records.specs.declared.Record.{Record}
 use Rattle.c_records.specs.declared.Meant.{Meant}
-use Rattle.c_records.specs.declared.Meant.TheVariants as Meant
 use Rattle.c_records.specs.Writing.{meant_of}
 use Rattle.c_records.specs.Claims.{Firmness, Claims}
 use Rattle.c_records.proofs.OneByte.{bytes_by_code}

@@ -19,7 +19,6 @@ use Rattle.c_records.specs.declared.AshlarQuery.{AshlarQuery}
 use Rattle.c_records.specs.declared.AshlarAssociation.{AshlarAssociation}
 use Rattle.c_records.specs.declared.AshlarCapability.{AshlarCapability}
 use Rattle.c_records.specs.declared.Meant.{Meant}
-use Rattle.c_records.specs.declared.Meant.TheVariants as Meant
 
 -- what each answer says
 abbrev pub meant_of : Meant → Answer Record
