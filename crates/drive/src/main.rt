@@ -155,7 +155,7 @@ fn answered(
 // Moves what is not answered yet to the start, and reads more after it.
 fn fill(reader: &mut impl Read, input: &mut [u8], at: usize, have: usize) -> Filled {
     let kept = command_lines::moved(input, at, have);
-    let more = reading::read_some(reader, &mut input[kept..]);
+    let more = incoming::read_some(reader, &mut input[kept..]);
     Filled {
         have: kept + more,
         ended: more == 0,

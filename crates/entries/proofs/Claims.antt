@@ -25,9 +25,7 @@ use Rattle.kinds.specs.Kinds.{Typed, one_record, one_list, read_kind_lem, locate
 use Rattle.kinds.proofs.Apart.{apart}
 use Rattle.kinds.proofs.Laws.{as_list, as_text, as_record}
 use Rattle.entries.specs.declared.Begun.{Begun}
-use Rattle.entries.specs.declared.Begun.TheVariants as Begun
 use Rattle.entries.specs.declared.Went.{Went}
-use Rattle.entries.specs.declared.Went.TheVariants as Went
 use Rattle.entries.specs.Entries.{Start, first_cursor_lem, entries_in_lem, list_in, beginning, begun_of, Step, next_is, none_left_lem, went_of}
 use Rattle.entries.specs.Claims.{Firmness, GoesOver, by_numbers, AsAsked, AsCounted, Claims}
 use Rattle.entries.proofs.Laws.{begun_not, begun_on}

@@ -10,9 +10,7 @@ use Rattle.kinds.specs.Kinds.{Contents, one, list, read_kind_lem}
 use Rattle.entries.specs.declared.Cursor.{Cursor}
 use Rattle.entries.specs.declared.EntryAt.{EntryAt}
 use Rattle.entries.specs.declared.Begun.{Begun}
-use Rattle.entries.specs.declared.Begun.TheVariants as Begun
 use Rattle.entries.specs.declared.Went.{Went}
-use Rattle.entries.specs.declared.Went.TheVariants as Went
 
 -- what beginning gives: the cursor at the first entry, the entries of the outermost list, and the bytes (rule K1)
 pub record Start : Type 0 where

@@ -6,17 +6,16 @@ use Prim.Native.Nat.{ℕ, suc, ◌+◌}
 use borrow.Author.Tests.{eqb-true}
 use lib.Dec.{eqb, T}
 use lib.ListN.{length, length-append}
-use Rattle.numbers.specs.Numbers.{Answer, gives}
-use Rattle.numbers.specs.Firmness.{Firm}
+use Rattle.numbers.specs.Numbers.{gives}
 use Rattle.numbers.proofs.Firm.{by_equation, by_telling, both, never}
-use Rattle.framing.specs.Tlv.{written_of, leaves}
+use Rattle.framing.specs.Tlv.{written_of}
 use Rattle.framing.proofs.Firm.{written_one}
 use Rattle.records.specs.Values.{octets}
 use Rattle.layouts.specs.Layouts.{Layout, radio_fields, layout_of}
 use Rattle.texts.specs.Texts.{inventory_code}
 use Rattle.fields.specs.Fields.{nothing_there, Fielded, front_rows, neighbour_rows, interface_rows, ipv4_rows, ipv6_rows, byte_rows, radio_rows, bss_rows, row_for, fields_for}
 use Rattle.fields.specs.Answers.{crossing, front_with, front_of_lem, neighbour_with, neighbour_at, interface_with, interface_at, ipv4_with, ipv4_at, ipv6_with, ipv6_at, byte_with, byte_at, radio_with, radio_at, bss_with, bss_at}
-use Rattle.fields.specs.Writing.{front_bytes, neighbour_bytes, interface_bytes, ipv4_bytes, ipv6_bytes, byte_bytes, radio_bytes, bss_bytes, front_made, neighbour_made, interface_made, ipv4_made, ipv6_made, byte_made, radio_made, bss_made, count_made, put_size, made_bytes}
+use Rattle.fields.specs.Writing.{front_bytes, neighbour_bytes, interface_bytes, ipv4_bytes, ipv6_bytes, byte_bytes, radio_bytes, bss_bytes}
 use Rattle.fields.specs.Claims.{Firmness, WhereFound, EveryEntry, InOrder, OwnBytesSaid, ReadBack, Claims}
 use Rattle.fields.proofs.Laws.{by_bytes, tested, every, each}
 use Rattle.fields.proofs.Found.{reads, heads, fields_there, entry_there, text_follows, found_inside, found_texted, front_inside, radio_texted}

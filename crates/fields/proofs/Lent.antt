@@ -8,11 +8,11 @@ use native.Mathlib.Numerals.{add-one}
 use borrow.Author.Tests.{eq-eqb, ne_eqb, lt-ltb, le-ltb, leb-true}
 use borrow.Rule.Slice.PartMut.{mid_of, put_mid}
 use lib.Dec.{eqb, leb, T}
-use lib.ListN.{length, take, drop, get_or, set, length-append, length-drop, drop_of_length-le}
+use lib.ListN.{length, take, drop, get_or, length-append, drop_of_length-le}
 use lib.Seq.{take-length, take-append_seam, drop-append_seam, drop-drop, drop-cons}
 use Rattle.numbers.specs.Numbers.{Answer, gives, refuses, and_then}
 use Rattle.framing.specs.Tlv.{leaves}
-use Rattle.framing.proofs.Writing.{put, tail_put}
+use Rattle.framing.proofs.Writing.{tail_put}
 use Rattle.layouts.specs.Layouts.{size_of}
 use Rattle.fields.specs.Fields.{Fielded, row_for}
 use Rattle.fields.specs.Writing.{only_zeros_lem, text_bytes, longest_text_lem, entry_of, entry_in, count_made, put_size, made_bytes}
@@ -43,14 +43,6 @@ module _ (bytes out : List ℕ) where
 pub copied : (bytes out after : List ℕ) → after ≡ take (length bytes) bytes ++ drop (length bytes) out → after ≡ bytes ++ drop (length bytes) out
 copied bytes out after e = e ∙ ap (λ t. t ++ drop (length bytes) out) (take-length bytes)
 
--- the length of a text at the start, and the text in the part after it that was lent
-pub text_put : (t out ys : List ℕ) → 1 + length t ≤ length out →
-    (let between = set out 0 (length t) in ys ≡ take (length t) t ++ drop (length t) (mid_of 1 (length between - 1) between) →
-    put_mid 1 (length between - 1) between ys ≡ text_bytes true t ++ drop (length (text_bytes true t)) out)
-text_put t [] ys h e = absurd (omega (arith, h))
-text_put t (b ∷ out) ys h e =
-    tail_put 1 (length t ∷ out) t ys (copied t _ ys e) ∙ ap (λ r. length t ∷ (t ++ r)) (sym (drop-drop (length t) 1 (length t ∷ out)))
-
 -- fields at the start, and the text in the part after them that was lent
 pub both_put : (own v out between ys : List ℕ) → between ≡ take (length own) own ++ drop (length own) out →
     ys ≡ v ++ drop (length v) (mid_of (length own) (length between - length own) between) →
@@ -64,13 +56,6 @@ both_put own v out between ys e e' =
     ap (drop (length v)) (drop-append_seam own (drop (length own) out)) ∙ drop-drop (length v) (length own) out in
     tail_put (length own) between v ys e' ∙ (λ i. start i ++ (v ++ rest i)) ∙
     ap (λ n. own ++ (v ++ drop n out)) (sym (length-append own v)) ∙ sym (append_assoc own v (drop (length (own ++ v)) out))
-
--- bytes at the start keep the length
-pub same_long : (bytes out after : List ℕ) → after ≡ bytes ++ drop (length bytes) out → length bytes ≤ length out → length after ≡ length out
-same_long bytes out after e h = ap length e ∙ length-append bytes (drop (length bytes) out) ∙ omega (arith, h, length-drop (length bytes) out)
-
-pub as_long : (own out between : List ℕ) → between ≡ take (length own) own ++ drop (length own) out → length own ≤ length out → length between ≡ length out
-as_long own out between e h = same_long own out between (copied own out between e) h
 
 -- the test for zeros, byte by byte
 pub zeros_end : (s : List ℕ) (i : ℕ) → length s ≤ i → true ≡ only_zeros_lem (drop i s)

@@ -23,7 +23,7 @@ pub fn put_bytes(own: &[u8], out: &mut [u8]) -> Written
     if out.len() < own.len() {
         return Written::Refused(Refusal::NoRoom);
     }
-    bytes::copy(own, out);
+    out[..own.len()].copy_from_slice(own);
     Written::Bytes(own.len())
 }
 
@@ -34,7 +34,7 @@ fn put_text(text: &[u8], out: &mut [u8])
     ensures { out.new ≡ text_bytes true text.now ++ drop (length (text_bytes true text.now)) out.old }
 {
     out[0] = text.len() as u8;
-    bytes::copy(text, &mut out[1..]);
+    out[1..1 + text.len()].copy_from_slice(text);
 }
 
 // Puts fields and the text after them at the start of `out`, if it has room for both.
@@ -49,7 +49,7 @@ fn put_both(own: &[u8], text: &[u8], out: &mut [u8]) -> Written
     if out.len() - own.len() < 1 + text.len() {
         return Written::Refused(Refusal::NoRoom);
     }
-    bytes::copy(own, out);
+    out[..own.len()].copy_from_slice(own);
     put_text(text, &mut out[own.len()..]);
     Written::Bytes(own.len() + (1 + text.len()))
 }

@@ -6,9 +6,7 @@ use Rattle.numbers.proofs.Answers.{given}
 use Rattle.records.specs.declared.Record.{Record}
 use Rattle.kinds.specs.Kinds.{Contents, one, list, Typed, kind_read_of, kind_size_of}
 use Rattle.kinds.specs.declared.KindRead.{KindRead}
-use Rattle.kinds.specs.declared.KindRead.TheVariants as KindRead
 use Rattle.kinds.specs.declared.KindSize.{KindSize}
-use Rattle.kinds.specs.declared.KindSize.TheVariants as KindSize
 
 -- what was given is the answer that is made of it
 abbrev read_as_lem : Contents Record → ℕ → ℕ → KindRead

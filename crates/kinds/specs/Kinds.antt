@@ -13,9 +13,7 @@ use Rattle.texts.specs.Reading as texts
 use Rattle.texts.specs.Access.{locate_radio, count_radios, locate_text_lem}
 use Rattle.kinds.specs.declared.Family.{Family}
 use Rattle.kinds.specs.declared.KindRead.{KindRead}
-use Rattle.kinds.specs.declared.KindRead.TheVariants as KindRead
 use Rattle.kinds.specs.declared.KindSize.{KindSize}
-use Rattle.kinds.specs.declared.KindSize.TheVariants as KindSize
 
 -- The family of a code. No code is of two families (`Apart`, in Claims). A code that is no list's and no text's is left
 -- to the records, which have it or refuse it by 16.

@@ -8,7 +8,7 @@ use native.Mathlib.Nat.{pow-suc, mul-le-mul_left, mul-le-mul_right, min-le_right
 use borrow.Author.Tests.{le-leb}
 use lib.ListN.{length, take, drop, get_or}
 use lib.Seq.{get_or-drop}
-use lib.IntN.{ℤ, pos, negsuc, sub_ℕ, ◌+ℤ◌}
+use lib.IntN.{pos, negsuc, sub_ℕ, ◌+ℤ◌}
 use lib.Signed.{le_z}
 use mir.Syntax.{w32}
 use mir.Val.{SFits}

@@ -1,6 +1,5 @@
 -- For private functions alone; no contract of a public call cites this file. How long a pair is.
 use Rattle.std.specs.Prelude.{ℕ}
-use Rattle.layouts.specs.Layouts.{size_of, tx_pair_fields, rx_pair_fields}
 use Rattle.links.specs.declared.LinkKind.{LinkKind}
 use Rattle.links.specs.declared.LinkKind.TheVariants.{Tx, Rx}
 

@@ -124,7 +124,7 @@ const MOST_INPUT: usize = 47744;
 fn main(rt: HostRuntime) {
     let mut payload = [0u8; 47745];
     let mut text = [0u8; 4096];
-    let n = reading::read_full(&mut rt.stdin(), &mut payload);
+    let n = incoming::read_full(&mut rt.stdin(), &mut payload);
     if MOST_INPUT < n {
         let used = put_bad(&mut text, 0, 12, 0, 0);
         flush(&rt, &text, used);

@@ -73,7 +73,7 @@ fn read_on(input: &mut impl Read, room: &mut [u8], from: usize) -> usize
     if room.len() < from {
         return 0;
     }
-    reading::read_some(input, &mut room[from..])
+    incoming::read_some(input, &mut room[from..])
 }
 
 // The window as it goes on, and how many bytes came.
@@ -107,7 +107,7 @@ pub(crate) fn start<R: Read + Seek>(input: &mut R, room: &mut Room) -> Window
     ensures { result.at ≡ 24 }
 {
     let _ = input.rewind();
-    let have = reading::read_full(input, room);
+    let have = incoming::read_full(input, room);
     Window {
         at: HEADER,
         have,
