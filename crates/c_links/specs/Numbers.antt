@@ -1,5 +1,5 @@
 -- Rule C4: link reports (part Q) in the numbers that cross to C, and the reports that come back.
-use Rattle.std.specs.Prelude.{Bool, true, false, cond, [], ℕ, eqb, ℤ, pos}
+use Rattle.std.specs.Prelude.{Bool, true, false, cond, [], eqb, ℤ, pos}
 use Rattle.numbers.specs.Numbers.{Answer, gives, refuses, and_then}
 use Rattle.links.specs.declared.LinkKind.{LinkKind}
 use Rattle.links.specs.declared.LinkKind.TheVariants.{Tx, Rx}
