@@ -8,11 +8,8 @@ use Rattle.kinds.specs.Kinds.{Contents, one, list}
 use Rattle.walking.specs.declared.Tlv.{Tlv}
 use Rattle.walking.proofs.Firm.{with_offset, offset_apart}
 use Rattle.finding.specs.declared.Found.{Found}
-use Rattle.finding.specs.declared.Found.TheVariants as Found
 use Rattle.finding.specs.declared.Placed.{Placed}
-use Rattle.finding.specs.declared.Placed.TheVariants as Placed
 use Rattle.finding.specs.declared.Searched.{Searched}
-use Rattle.finding.specs.declared.Searched.TheVariants as Searched
 use Rattle.finding.specs.Finding.{Hit, Sought, found_of, placed_of, searched_of}
 
 -- what was found is the answer that is made of it

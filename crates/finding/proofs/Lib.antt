@@ -1,5 +1,4 @@
 pub mod All
-pub mod Branch
 pub mod Claims
 pub mod Firm
 pub mod First

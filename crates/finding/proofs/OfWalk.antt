@@ -3,16 +3,15 @@
 use mathlib.Core.Path.{◌≡◌, refl, sym, ap, ◌∙◌}
 use mathlib.Core.Bool.{Bool, true, false, cond}
 use mathlib.Core.List.{List, [], ◌∷◌, ◌++◌}
-use mathlib.Core.Option.{Option, none, some}
+use mathlib.Core.Option.{Option, none}
 use Prim.Native.Nat.{ℕ, ◌+◌, ◌-◌, ◌≤◌, ◌<◌}
 use native.Mathlib.Omega.{arith}
 use lib.Dec.{eqb}
 use lib.ListN.{length, take, drop, get_or}
 use lib.Seq.{drop-drop}
 use borrow.Author.Tests.{le-leb}
-use Rattle.numbers.specs.Numbers.{Answer, gives, refuses, mapped}
+use Rattle.numbers.specs.Numbers.{gives, refuses, mapped}
 use Rattle.numbers.proofs.Firm.{never}
-use Rattle.framing.specs.Tlv.{TlvRead, value_in_lem}
 use Rattle.records.specs.declared.Record.{Record}
 use Rattle.kinds.specs.Kinds.{is_kind_lem, Typed, read_kind_lem}
 use Rattle.walking.specs.declared.Tlv.{Tlv}

@@ -2,19 +2,18 @@
 use mathlib.Core.Path.{◌≡◌, refl, sym, ap, ◌∙◌, subst}
 use mathlib.Core.Bool.{Bool, true, false, cond}
 use mathlib.Core.List.{List, [], ◌∷◌}
-use mathlib.Core.Option.{Option}
 use Prim.Native.Nat.{ℕ, zero, suc, ◌+◌, ◌-◌, ◌≤◌, ◌<◌}
 use native.Mathlib.Omega.{arith}
 use lib.Dec.{ltb}
 use lib.ListN.{length, drop, get_or, length-drop, drop_of_length-le}
 use lib.Seq.{drop-cons}
-use borrow.Author.Tests.{lt-ltb, le-ltb, ltb-false}
-use Rattle.numbers.specs.Numbers.{Answer, gives, refuses, and_then, mapped}
+use borrow.Author.Tests.{ltb-false}
+use Rattle.numbers.specs.Numbers.{Answer, gives, refuses, mapped}
 use Rattle.numbers.proofs.Answers.{given, mapped_gave}
 use Rattle.kinds.specs.Kinds.{is_kind_lem}
 use Rattle.walking.specs.declared.Tlv.{Tlv}
-use Rattle.walking.specs.Steps.{Ahead, ended, passed, last, Walk}
-use Rattle.walking.specs.Walk.{is_marker_lem, step_at, walk_of, walk_on, no_tlv}
+use Rattle.walking.specs.Steps.{Ahead, ended, passed, last}
+use Rattle.walking.specs.Walk.{step_at, walk_of, walk_on, no_tlv}
 use Rattle.walking.proofs.Chained.{Has, the_walk_on}
 use Rattle.walking.proofs.Going.{turned, at_end_lem}
 use Rattle.walking.proofs.Stepping as step

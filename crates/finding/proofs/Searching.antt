@@ -14,15 +14,14 @@ use Rattle.records.specs.declared.Record.{Record}
 use Rattle.kinds.specs.Kinds.{is_kind_lem, Typed}
 use Rattle.walking.specs.declared.Tlv.{Tlv}
 use Rattle.walking.specs.Steps.{ended, passed, last, Walk}
-use Rattle.walking.specs.Walk.{is_marker_lem, WalkCount, step_at, walk_of, walk_on, counted}
+use Rattle.walking.specs.Walk.{WalkCount, step_at, walk_of, walk_on, counted}
 use Rattle.walking.proofs.Chained.{of_walk_on, the_walk_on, from_the_start}
 use Rattle.walking.proofs.Going.{at_end_lem, onward, final, stopped}
 use Rattle.walking.proofs.Listed as Counts
 use Rattle.walking.proofs.Stepping.{Steps, steps}
-use Rattle.finding.specs.Finding.{Hit, Sought, is_there_lem, reads_as_lem, there_or, first_of, found_or, offset_after, with_next, first_in_lem, find_from, find_in_payload_lem, find_onward_lem}
+use Rattle.finding.specs.Finding.{Hit, Sought, is_there_lem, reads_as_lem, there_or, first_of, found_or, offset_after, with_next, find_from, find_in_payload_lem, find_onward_lem}
 use Rattle.finding.specs.Private.{looked_as, going_on_lem, spot_as, rest_of, sought_in}
 use Rattle.finding.specs.declared.Spot.{Spot}
-use Rattle.finding.specs.declared.Spot.TheVariants as Spot
 use Rattle.finding.proofs.Passing.{first_nil, first_cons}
 
 -- whether the record at this place is the one that is looked for

@@ -9,11 +9,8 @@ use Rattle.walking.specs.declared.Tlv.{Tlv}
 use Rattle.walking.specs.Steps.{Walk}
 use Rattle.walking.specs.Walk.{is_marker_lem, walk_of, walk_on}
 use Rattle.finding.specs.declared.Found.{Found}
-use Rattle.finding.specs.declared.Found.TheVariants as Found
 use Rattle.finding.specs.declared.Placed.{Placed}
-use Rattle.finding.specs.declared.Placed.TheVariants as Placed
 use Rattle.finding.specs.declared.Searched.{Searched}
-use Rattle.finding.specs.declared.Searched.TheVariants as Searched
 
 -- Rule F1: what is found. It is how many records were looked at up to it, which is its place in the list counted from
 -- 1, the record, and what its value reads as.

@@ -7,7 +7,6 @@ use Rattle.kinds.specs.Kinds.{is_kind_lem, Typed}
 use Rattle.walking.specs.declared.Tlv.{Tlv}
 use Rattle.walking.specs.Steps.{Walk}
 use Rattle.finding.specs.declared.Spot.{Spot}
-use Rattle.finding.specs.declared.Spot.TheVariants as Spot
 use Rattle.finding.specs.Finding.{Hit, Sought, reads_as_lem, there_or, first_of, found_or, with_next}
 
 -- what is refused where nothing was found among so many records

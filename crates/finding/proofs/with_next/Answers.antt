@@ -1,0 +1,11 @@
+-- Case by case: what each says.
+use Rattle.finding.proofs.with_next.Goals as goal
+
+pub returns-in-Record : goal.returns-in-Record
+returns-in-Record c = rw c.in-Record.is
+
+pub returns-in-List : goal.returns-in-List
+returns-in-List c = rw c.in-List.is
+
+pub returns-in-Refused : goal.returns-in-Refused
+returns-in-Refused c = rw c.in-Refused.is
