@@ -204,13 +204,15 @@ AshlarFound plain_find(const AshlarTlv *list, size_t count, const uint8_t *p, si
 
 static AshlarPart no_part(uint8_t number) { return (AshlarPart){0, 0, number}; }
 
-/* the text number i of those that stand one after the other from the start, each after its length */
-static AshlarPart text_of(size_t i, const uint8_t *v, size_t n) {
+/* string number i of those that start at p, behind so many bytes each; the text alone, or the whole */
+static AshlarPart string_of(size_t i, size_t head, bool whole, const uint8_t *v, size_t n, size_t p) {
     AshlarPart text;
-    size_t p = 0;
-    do string(0, v, n, &p, &text);
-    while (i--);
-    return text;
+    size_t start;
+    do {
+        start = p;
+        string(head, v, n, &p, &text);
+    } while (i--);
+    return whole ? (AshlarPart){start, p - start, 0} : text;
 }
 
 AshlarPart plain_text(uint8_t code, size_t number, const uint8_t *v, size_t n) {
@@ -218,25 +220,37 @@ AshlarPart plain_text(uint8_t code, size_t number, const uint8_t *v, size_t n) {
     if (k.refusal) return no_part(k.refusal);
     size_t texts = code == 21 || code == 0xD4 ? 3 : code == 22;
     if (number >= texts) return no_part(6);
-    return code == 21 ? field(number, v) : code == 22 ? (AshlarPart){0, n, 0} : text_of(number, v, n);
+    return code == 21 ? field(number, v) : code == 22 ? (AshlarPart){0, n, 0} : string_of(number, 0, false, v, n, 0);
 }
 
-void plain_fragments_fresh(AshlarFragments *t) { *t = (AshlarFragments){0}; }
+static AshlarPart radio(size_t number, bool whole, const uint8_t *v, size_t n) {
+    AshlarKind k = kind_in(0xD4, v, n);
+    if (k.refusal) return no_part(k.refusal);
+    if (number >= k.entries) return no_part(6);
+    AshlarPart third = string_of(2, 0, false, v, n, 0);
+    return string_of(number, 6, whole, v, n, third.start + third.length + 1);
+}
 
-static int place_of(const AshlarFragments *t, int owner, int number) {
+AshlarPart plain_radio(size_t number, const uint8_t *v, size_t n) { return radio(number, true, v, n); }
+
+AshlarPart plain_radio_text(size_t number, const uint8_t *v, size_t n) { return radio(number, false, v, n); }
+
+AshlarTable plain_fresh(void) { return (AshlarTable){0}; }
+
+static int place_of(const AshlarTable *t, int owner, int number) {
     for (int i = 0; i < 32; i++)
         if (t->owners[i] == owner && t->numbers[i] == number) return i;
     return -1;
 }
 
 /* The lowest row of a sender, which has its totals. */
-static int first_row(const AshlarFragments *t, uint64_t sender) {
+static int first_row(const AshlarTable *t, uint64_t sender) {
     for (int i = 0; i < 16; i++)
         if (t->used[i] && t->row_keys[i] >> 16 == sender) return i;
     return -1;
 }
 
-static void drop(AshlarFragments *t, int row) {
+static void drop(AshlarTable *t, int row) {
     uint64_t sender = t->row_keys[row] >> 16;
     int first = first_row(t, sender), keys = 1, places = 0, freed = 0;
     if (first >= 0) keys = t->sender_keys[first], places = t->sender_places[first];
@@ -255,7 +269,7 @@ static void drop(AshlarFragments *t, int row) {
     t->sender_places[first] = (uint8_t)(places > freed ? places - freed : 0);
 }
 
-static void put(AshlarFragments *t, uint8_t *store, int place, int row, const AshlarFragment *f, const uint8_t *payload, size_t n) {
+static void put(AshlarTable *t, uint8_t *store, int place, int row, const AshlarFragment *f, const uint8_t *payload, size_t n) {
     t->message_types[place] = f->message_type;
     t->sizes[place] = (uint16_t)n;
     t->owners[place] = (uint8_t)(row + 1);
@@ -264,13 +278,13 @@ static void put(AshlarFragments *t, uint8_t *store, int place, int row, const As
     memcpy(store + (size_t)place * ASHLAR_PAYLOAD, payload, n);
 }
 
-static AshlarPushed end(AshlarFragments *t, int row, uint8_t answer, size_t length) {
+static AshlarPushed end(AshlarTable *t, int row, uint8_t answer, size_t length) {
     if (row >= 0) drop(t, row);
     return (AshlarPushed){length, answer, 0};
 }
 
 /* A last fragment: what is kept is joined with it. */
-static AshlarPushed finish(AshlarFragments *t, const uint8_t *store, uint8_t *out, size_t room, int row, const AshlarFragment *f, const uint8_t *payload, size_t n) {
+static AshlarPushed finish(AshlarTable *t, const uint8_t *store, uint8_t *out, size_t room, int row, const AshlarFragment *f, const uint8_t *payload, size_t n) {
     int place[9], kept = 0, highest = f->number;
     size_t total = n;
     bool unlike = false;
@@ -300,7 +314,7 @@ static AshlarPushed finish(AshlarFragments *t, const uint8_t *store, uint8_t *ou
     return end(t, row, ASHLAR_JOINED, total);
 }
 
-AshlarPushed plain_fragments_push(AshlarFragments *t, uint8_t *store, size_t store_length, uint8_t *out, size_t room, AshlarArrival a, const uint8_t *payload, size_t n) {
+AshlarPushed plain_push(AshlarTable *t, uint8_t *store, size_t store_length, uint8_t *out, size_t room, AshlarArrival a, const uint8_t *payload, size_t n) {
     if (store_length < ASHLAR_STORE) return (AshlarPushed){0, ASHLAR_REFUSED, 11};
     if (n > ASHLAR_PAYLOAD) return (AshlarPushed){0, ASHLAR_REFUSED, 12};
     int row = -1, spare = -1, first = -1, keys = 0, places = 0;
@@ -334,7 +348,7 @@ AshlarPushed plain_fragments_push(AshlarFragments *t, uint8_t *store, size_t sto
     return (AshlarPushed){0, ASHLAR_WAITING, 0};
 }
 
-AshlarShown plain_fragments_show(AshlarPushed pushed, const uint8_t *payload, size_t n, const uint8_t *out, size_t room) {
+AshlarShown plain_show(AshlarPushed pushed, const uint8_t *payload, size_t n, const uint8_t *out, size_t room) {
     (void)payload;
     (void)out;
     if (pushed.answer == ASHLAR_SINGLE) return (AshlarShown){pushed.length <= n ? pushed.length : 0, false};
@@ -342,7 +356,7 @@ AshlarShown plain_fragments_show(AshlarPushed pushed, const uint8_t *payload, si
     return (AshlarShown){0, false};
 }
 
-size_t plain_fragments_sweep(AshlarFragments *t, uint64_t time) {
+size_t plain_sweep(AshlarTable *t, uint64_t time) {
     size_t dropped = 0;
     for (int row = 0; row < 16; row++) {
         if (!t->used[row] || time < t->firsts[row] || time - t->firsts[row] < 3000) continue;
@@ -395,32 +409,32 @@ static AshlarHeard leave(AshlarStations *t, uint64_t code, uint64_t point) {
     return (AshlarHeard){.answer = ASHLAR_REMOVED};
 }
 
-AshlarHeard plain_stations_event(AshlarStations *t, AshlarAddress station, AshlarAddress point, bool joined) {
+AshlarHeard plain_station_event(AshlarStations *t, AshlarAddress station, AshlarAddress point, bool joined) {
     return joined ? join(t, number_of(station) + 1, number_of(point)) : leave(t, number_of(station) + 1, number_of(point));
 }
 
-AshlarApplied plain_stations_event_from(AshlarStations *t, const uint8_t *v, size_t n) {
+AshlarApplied plain_station_event_from(AshlarStations *t, const uint8_t *v, size_t n) {
     AshlarAddress station, point;
     if (n < 13) return (AshlarApplied){.heard.refusal = ASHLAR_CUT_SHORT};
     if (v[12] & 0x7f) return (AshlarApplied){.heard.refusal = ASHLAR_BAD_VALUE};
     memcpy(station.bytes, v, 6);
     memcpy(point.bytes, v + 6, 6);
-    AshlarHeard h = plain_stations_event(t, station, point, v[12] & 0x80);
+    AshlarHeard h = plain_station_event(t, station, point, v[12] & 0x80);
     return h.refusal ? (AshlarApplied){.heard = h} : (AshlarApplied){13, n - 13, h};
 }
 
-AshlarAt plain_stations_at(const AshlarStations *t, AshlarAddress station) {
+AshlarAt plain_station_at(const AshlarStations *t, AshlarAddress station) {
     int row = row_with(t, number_of(station) + 1);
     return row < 0 ? (AshlarAt){.held = false} : (AshlarAt){address_of(t->points[row]), true};
 }
 
-size_t plain_stations_count(const AshlarStations *t) {
+size_t plain_station_count(const AshlarStations *t) {
     size_t n = 0;
     for (int i = 0; i < ASHLAR_STATIONS; i++) n += t->stations[i] != 0;
     return n;
 }
 
-AshlarRow plain_stations_row(const AshlarStations *t, size_t n) {
+AshlarRow plain_station_row(const AshlarStations *t, size_t n) {
     if (n >= ASHLAR_STATIONS || !t->stations[n]) return (AshlarRow){.held = false};
     return (AshlarRow){address_of(t->stations[n] - 1), address_of(t->points[n]), true};
 }
@@ -645,3 +659,32 @@ AshlarArrival plain_capture_arrival(AshlarFrame f) {
     for (int i = 0; i < 6; i++) key = key << 8 | f.sender.bytes[i];
     return (AshlarArrival){key << 16 | f.cmdu.message_id, f.seconds * 1000ull + f.microseconds / 1000, {f.cmdu.message_type, f.cmdu.version, f.cmdu.number, f.cmdu.last}};
 }
+
+/* ---- Today's names of calls on both tables ---- */
+
+void plain_fragments_fresh(AshlarFragments *t) { *t = plain_fresh(); }
+
+AshlarPushed plain_fragments_push(AshlarFragments *t, uint8_t *store, size_t store_length, uint8_t *out, size_t room,
+                                  AshlarArrival a, const uint8_t *payload, size_t n) {
+    return plain_push(t, store, store_length, out, room, a, payload, n);
+}
+
+AshlarShown plain_fragments_show(AshlarPushed pushed, const uint8_t *payload, size_t n, const uint8_t *out, size_t room) {
+    return plain_show(pushed, payload, n, out, room);
+}
+
+size_t plain_fragments_sweep(AshlarFragments *t, uint64_t time) { return plain_sweep(t, time); }
+
+AshlarHeard plain_stations_event(AshlarStations *t, AshlarAddress station, AshlarAddress point, bool joined) {
+    return plain_station_event(t, station, point, joined);
+}
+
+AshlarApplied plain_stations_event_from(AshlarStations *t, const uint8_t *v, size_t n) {
+    return plain_station_event_from(t, v, n);
+}
+
+AshlarAt plain_stations_at(const AshlarStations *t, AshlarAddress station) { return plain_station_at(t, station); }
+
+size_t plain_stations_count(const AshlarStations *t) { return plain_station_count(t); }
+
+AshlarRow plain_stations_row(const AshlarStations *t, size_t n) { return plain_station_row(t, n); }

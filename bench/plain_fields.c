@@ -208,14 +208,6 @@ AshlarPart plain_entry_at(uint8_t code, AshlarPath path, const uint8_t *v, size_
     return (AshlarPart){start, end - start, 0};
 }
 
-/* a radio has an id of six bytes, the length of its text, and the text */
-AshlarPart plain_radio(size_t number, const uint8_t *v, size_t n) { return plain_entry_at(0xD4, (AshlarPath){1, number, 0, 0}, v, n); }
-
-AshlarPart plain_radio_text(size_t number, const uint8_t *v, size_t n) {
-    AshlarPart radio = plain_radio(number, v, n);
-    return radio.refusal ? radio : (AshlarPart){radio.start + 7, radio.length - 7, 0};
-}
-
 AshlarCount plain_entry_count(uint8_t code, AshlarPath path, const uint8_t *v, size_t n) {
     AshlarKind k = plain_read_kind(code, v, n);
     Row r = row_of(code);

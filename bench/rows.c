@@ -10,7 +10,7 @@ enum { MOST = 64, TLVS = 15914, LONGEST = 9 * TLVS };
 
 static uint8_t payload[LONGEST], store[ASHLAR_STORE], out[3 * ASHLAR_PAYLOAD];
 static AshlarTlv list[TLVS];
-static AshlarFragments tables[MOST];
+static AshlarTable tables[MOST];
 static AshlarStations stations[MOST];
 static size_t size;
 
@@ -69,13 +69,12 @@ static AshlarArrival piece(int key, int number, bool last) {
 
 /* every table gets the first so many of: numbers 0 and 1 of key 0, of key 1, .. */
 static void filled(int places) {
-    AshlarFragments t;
-    CALL(fragments_fresh)(&t);
-    for (int i = 0; i < places; i++) CALL(fragments_push)(&t, store, sizeof store, out, sizeof out, piece(i / 2, i % 2, false), payload, 16);
+    AshlarTable t = CALL(fresh)();
+    for (int i = 0; i < places; i++) CALL(push)(&t, store, sizeof store, out, sizeof out, piece(i / 2, i % 2, false), payload, 16);
     for (int i = 0; i < MOST; i++) tables[i] = t;
 }
 
-static int keys(const AshlarFragments *t) {
+static int keys(const AshlarTable *t) {
     int n = 0;
     for (int i = 0; i < 16; i++) n += t->used[i];
     return n;
@@ -153,10 +152,10 @@ static void complete(int turns, size_t n) {
     AshlarPushed r = {0};
     AshlarShown s = {0};
     for (int i = 0; i < turns; i++) {
-        CALL(fragments_push)(tables, store, sizeof store, out, sizeof out, piece(1, 0, false), payload, n);
-        CALL(fragments_push)(tables, store, sizeof store, out, sizeof out, piece(1, 1, false), payload + n, n);
-        r = CALL(fragments_push)(tables, store, sizeof store, out, sizeof out, piece(1, 2, true), payload + 2 * n, n);
-        s = CALL(fragments_show)(r, payload + 2 * n, n, out, sizeof out);
+        CALL(push)(tables, store, sizeof store, out, sizeof out, piece(1, 0, false), payload, n);
+        CALL(push)(tables, store, sizeof store, out, sizeof out, piece(1, 1, false), payload + n, n);
+        r = CALL(push)(tables, store, sizeof store, out, sizeof out, piece(1, 2, true), payload + 2 * n, n);
+        s = CALL(show)(r, payload + 2 * n, n, out, sizeof out);
     }
     printf("%zu %lu, keys %d\n", s.length, sum(out, s.length), keys(tables));
 }
@@ -164,14 +163,14 @@ static void complete(int turns, size_t n) {
 static void waiting(int turns, int places, size_t n) {
     filled(places);
     AshlarPushed r = {0};
-    for (int i = 0; i < turns; i++) r = CALL(fragments_push)(&tables[i], store, sizeof store, out, sizeof out, piece(places / 2, places % 2, false), payload, n);
+    for (int i = 0; i < turns; i++) r = CALL(push)(&tables[i], store, sizeof store, out, sizeof out, piece(places / 2, places % 2, false), payload, n);
     printf("%s, keys %d\n", r.answer == ASHLAR_WAITING ? "waiting" : "something else", keys(&tables[turns - 1]));
 }
 
 static void sweep(int turns, uint64_t time) {
     filled(32);
     size_t dropped = 0;
-    for (int i = 0; i < turns; i++) dropped = CALL(fragments_sweep)(&tables[i], time);
+    for (int i = 0; i < turns; i++) dropped = CALL(sweep)(&tables[i], time);
     printf("dropped %zu, keys %d\n", dropped, keys(&tables[turns - 1]));
 }
 
@@ -181,22 +180,22 @@ static AshlarAddress address(uint8_t last) { return (AshlarAddress){{2, 0, 0, 0,
 static void stationed(int many) {
     AshlarStations t;
     CALL(stations_fresh)(&t);
-    for (int i = 0; i < many; i++) CALL(stations_event)(&t, address((uint8_t)i), address(200), true);
+    for (int i = 0; i < many; i++) CALL(station_event)(&t, address((uint8_t)i), address(200), true);
     for (int i = 0; i < MOST; i++) stations[i] = t;
 }
 
 static void event(int turns, int held, uint8_t station, uint8_t point, bool joined) {
     stationed(held);
     AshlarHeard h = {0};
-    for (int i = 0; i < turns; i++) h = CALL(stations_event)(&stations[i], address(station), address(point), joined);
+    for (int i = 0; i < turns; i++) h = CALL(station_event)(&stations[i], address(station), address(point), joined);
     AshlarStations *t = &stations[turns - 1];
-    printf("%d from %d, %d; %zu held, %d at %d\n", h.answer, h.from.bytes[5], h.refusal, CALL(stations_count)(t), station, CALL(stations_at)(t, address(station)).point.bytes[5]);
+    printf("%d from %d, %d; %zu held, %d at %d\n", h.answer, h.from.bytes[5], h.refusal, CALL(station_count)(t), station, CALL(station_at)(t, address(station)).point.bytes[5]);
 }
 
 static void lookup(int turns, uint8_t station) {
     stationed(ASHLAR_STATIONS);
     AshlarAt a = {0};
-    for (int i = 0; i < turns; i++) a = CALL(stations_at)(stations, address(station));
+    for (int i = 0; i < turns; i++) a = CALL(station_at)(stations, address(station));
     printf("%d %d\n", a.held, a.point.bytes[5]);
 }
 

@@ -374,11 +374,10 @@ typedef struct {
 /* What a value reads as (rule K1). Where refused, everything else is 0. */
 typedef struct {
     size_t entries;  /* for a list, how many entries its outermost level has; for 0xD4, how many radios; else
-                        0 (21 and 22 have none) */
+                        0 */
     size_t consumed; /* how many bytes of the value its kind's layout takes, from the first on */
     size_t rest;     /* how many bytes follow these: they belong to no field, and may be skipped (rule K4) */
-    bool is_list;    /* true for a list and for a kind that holds text; false for a record, and where
-                        refused */
+    bool is_list;    /* true for a list and for a kind that holds text (21 and 22 have no entries) */
     uint8_t refusal; /* an AshlarRefusal */
 } AshlarKind;
 
@@ -1093,24 +1092,36 @@ AshlarArrival ashlar_capture_arrival(AshlarFrame frame);
 /* ---- First names ---- */
 
 /* The calls on both tables, and on radios, by the names that they had first: who calls them still can (rule
-   C1). Each is the call of today's name, but that ashlar_fresh returns the table, and that ashlar_radio is
-   ashlar_entry_at of kind 0xD4 with one number. ashlar_radio_text says where the text of a radio lies. */
-#define ASHLAR_TABLE ASHLAR_FRAGMENT_TABLE
+   C1). Each is the call of today's name, refuses with the same numbers, and may be given the same table. */
+#define ASHLAR_TABLE 528                /* bytes of an AshlarTable */
 typedef AshlarFragments AshlarTable;
+
+/* Returns a table that holds nothing: the one that ashlar_fragments_fresh makes in place. */
 AshlarTable ashlar_fresh(void);
+
+/* ashlar_fragments_push, _show and _sweep. Refusals of the first: 11, 12, 20, 10, 13. */
 AshlarPushed ashlar_push(AshlarTable *table, uint8_t *store, size_t store_length, uint8_t *out,
                          size_t out_length, AshlarArrival arrival, const uint8_t *payload,
                          size_t payload_length);
 AshlarShown ashlar_show(AshlarPushed pushed, const uint8_t *payload, size_t payload_length,
                         const uint8_t *out, size_t out_length);
 size_t ashlar_sweep(AshlarTable *table, uint64_t time);
+
+/* ashlar_stations_event, _event_from, _at, _count and _row. Refusals of the first: 17, for a join only; of the
+   second: 3, 5, 17, in this order. */
 AshlarHeard ashlar_station_event(AshlarStations *table, AshlarAddress station, AshlarAddress point,
                                  bool joined);
 AshlarApplied ashlar_station_event_from(AshlarStations *table, const uint8_t *value, size_t value_length);
 AshlarAt ashlar_station_at(const AshlarStations *table, AshlarAddress station);
 size_t ashlar_station_count(const AshlarStations *table);
 AshlarRow ashlar_station_row(const AshlarStations *table, size_t n);
+
+/* Says where the radio with this number, from 0, lies in a value of kind 0xD4: its id of 6 bytes, the length
+   of its text in one byte, and its text (rule E8). It is ashlar_entry_at with one number. Refusals: 3, 18,
+   6. */
 AshlarPart ashlar_radio(size_t number, const uint8_t *value, size_t value_length);
+
+/* Says where the text of that radio lies. Refusals: 3, 18, 6. */
 AshlarPart ashlar_radio_text(size_t number, const uint8_t *value, size_t value_length);
 
 #ifdef __cplusplus

@@ -176,11 +176,8 @@ def look_for_fault(data):
         if there < 16:
             raise Fault("the record header at %d is cut, %s (2)" % (at, are_missing(16 - there)))
         stored, original = struct.unpack_from(order + "8xII", data, at)
-        if stored < original:
+        if stored != original:
             raise Fault("the frame at %d was captured with %d of its %d bytes (23)" % (at, stored, original))
-        if stored > original:
-            said = "the frame at %d is stored with more bytes than it had: %d, not %d (23)"
-            raise Fault(said % (at, stored, original))
         if there - 16 < stored:
             raise Fault("the frame at %d is cut, %s (2)" % (at, are_missing(stored - (there - 16))))
         at += 16 + stored

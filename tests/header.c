@@ -6,9 +6,7 @@
 #include <string.h>
 
 static int failed;
-/* the answers of push and those of events that were seen, a bit for each */
-static unsigned answers, events;
-unsigned refusals;
+unsigned refusals, answers, events;
 
 void check(const char *name, bool good) {
     failed += !good;
@@ -228,8 +226,12 @@ static void texts(void) {
     check("AshlarKind of an inventory: its radios are its entries", k.is_list && k.entries == 2 && k.consumed == 31 && k.rest == 2 && k.refusal == ASHLAR_OK);
     check("ashlar_text: each text of an inventory", lies(ashlar_text(ASHLAR_DEVICE_INVENTORY, 0, device, size), 1, 7) &&
           lies(ashlar_text(ASHLAR_DEVICE_INVENTORY, 1, device, size), 9, 0) && lies(ashlar_text(ASHLAR_DEVICE_INVENTORY, 2, device, size), 10, 1));
+    check("ashlar_radio: its id and its string", lies(ashlar_radio(0, device, size), 12, 12) && lies(ashlar_radio(1, device, size), 24, 7));
+    check("ashlar_radio_text: its text", lies(ashlar_radio_text(0, device, size), 19, 5) && lies(ashlar_radio_text(1, device, size), 31, 0));
     check("ashlar_text: 6", no_part(ashlar_text(ASHLAR_DEVICE_INVENTORY, 3, device, size), ASHLAR_NO_ENTRY) && no_part(ashlar_text(ASHLAR_CONTROL_URL, 1, device, 9), ASHLAR_NO_ENTRY));
+    check("ashlar_radio: 6", no_part(ashlar_radio(2, device, size), ASHLAR_NO_ENTRY) && no_part(ashlar_radio_text(2, device, size), ASHLAR_NO_ENTRY));
     check("ashlar_text: 3 before 6", no_part(ashlar_text(ASHLAR_DEVICE_INVENTORY, 3, device, 30), ASHLAR_CUT_SHORT));
+    check("ashlar_radio: 3", no_part(ashlar_radio(0, device, 30), ASHLAR_CUT_SHORT) && no_part(ashlar_radio_text(0, device, 30), ASHLAR_CUT_SHORT));
     check("ashlar_text: 6 where a kind holds no text", no_part(ashlar_text(ASHLAR_MAC_ADDRESS, 0, device, 6), ASHLAR_NO_ENTRY) && no_part(ashlar_text(ASHLAR_SUPPORTED_SERVICE, 0, device + 8, 1), ASHLAR_NO_ENTRY));
     check("ashlar_text: its value's own refusal before 6", no_part(ashlar_text(ASHLAR_MAC_ADDRESS, 0, device, 5), ASHLAR_CUT_SHORT) && no_part(ashlar_text(ASHLAR_END_OF_MESSAGE, 0, device, 1), ASHLAR_LEFT_OVER));
     check("ashlar_text: 16, a code that no kind has", no_part(ashlar_text(30, 0, beyond + 3, 23), ASHLAR_UNKNOWN_KIND));
@@ -245,6 +247,7 @@ static void texts(void) {
     uint8_t spoilt[sizeof device];
     memcpy(spoilt, device, sizeof device);
     spoilt[20] = 0xED;
+    check("ashlar_radio: 18, of another radio's text", no_part(ashlar_radio(1, spoilt, size), ASHLAR_NOT_TEXT) && no_part(ashlar_radio_text(1, spoilt, size), ASHLAR_NOT_TEXT));
     check("ashlar_text: 18, of a radio's text", no_part(ashlar_text(ASHLAR_DEVICE_INVENTORY, 0, spoilt, size), ASHLAR_NOT_TEXT));
 }
 
@@ -272,7 +275,7 @@ static void finds(void) {
 
 /* ---- The table ---- */
 
-static AshlarFragments table;
+static AshlarTable table;
 
 static AshlarArrival piece(uint64_t key, uint8_t number, bool last) { return (AshlarArrival){.key = key, .time = 5000, .fragment = {.message_type = 0x1234, .version = 0x56, .number = number, .last = last}}; }
 
@@ -280,7 +283,7 @@ static AshlarArrival piece(uint64_t key, uint8_t number, bool last) { return (As
 static uint64_t of(uint64_t sender, uint64_t id) { return sender * 65536 + id; }
 
 static AshlarPushed pushed(AshlarArrival a, size_t size) {
-    AshlarPushed p = ashlar_fragments_push(&table, store, sizeof store, out, sizeof out, a, payload, size);
+    AshlarPushed p = ashlar_push(&table, store, sizeof store, out, sizeof out, a, payload, size);
     answers |= 1u << p.answer;
     refusals |= 1u << p.refusal;
     return p;
@@ -290,31 +293,31 @@ static bool answered(AshlarPushed p, uint8_t answer, size_t length) { return p.a
 
 /* a refusal is answered so, and leaves the table as it was (rule A3) */
 static void refused(const char *name, AshlarArrival a, size_t store_size, size_t out_size, size_t size, uint8_t refusal, size_t length) {
-    AshlarFragments before = table;
-    AshlarPushed p = ashlar_fragments_push(&table, store, store_size, out, out_size, a, payload, size);
+    AshlarTable before = table;
+    AshlarPushed p = ashlar_push(&table, store, store_size, out, out_size, a, payload, size);
     answers |= 1u << p.answer;
     refusals |= 1u << p.refusal;
     check(name, p.refusal == refusal && p.answer == ASHLAR_REFUSED && p.length == length && !memcmp(&before, &table, sizeof table));
 }
 
 static void fields(void) {
-    static const AshlarFragments nothing;
-    ashlar_fragments_fresh(&table);
-    check("ASHLAR_FRAGMENT_TABLE, ashlar_fragments_fresh: all its bytes are 0", sizeof table == ASHLAR_FRAGMENT_TABLE && !memcmp(&table, &nothing, sizeof table));
+    static const AshlarTable nothing;
+    table = ashlar_fresh();
+    check("ASHLAR_TABLE, ashlar_fresh: all its bytes are 0", sizeof table == ASHLAR_TABLE && !memcmp(&table, &nothing, sizeof table));
     check("AshlarAnswer: waiting", answered(pushed(piece(0x1122334455667788, 7, false), 10), ASHLAR_WAITING, 0));
     AshlarArrival other = {.key = 99, .time = 6000, .fragment = {.message_type = 0x4321, .version = 0x65, .number = 8}};
     check("AshlarAnswer: waiting, another key", answered(pushed(other, 20), ASHLAR_WAITING, 0));
-    check("AshlarFragments: row_keys, AshlarArrival: key", table.row_keys[0] == 0x1122334455667788 && table.row_keys[1] == 99);
-    check("AshlarFragments: firsts, AshlarArrival: time", table.firsts[0] == 5000 && table.firsts[1] == 6000);
-    check("AshlarFragments: message_types, AshlarFragment: message_type", table.message_types[0] == 0x1234 && table.message_types[1] == 0x4321);
-    check("AshlarFragments: sizes", table.sizes[0] == 10 && table.sizes[1] == 20);
-    check("AshlarFragments: owners", table.owners[0] == 1 && table.owners[1] == 2 && table.owners[2] == 0);
-    check("AshlarFragments: numbers, AshlarFragment: number", table.numbers[0] == 7 && table.numbers[1] == 8);
-    check("AshlarFragments: versions, AshlarFragment: version", table.versions[0] == 0x56 && table.versions[1] == 0x65);
-    check("AshlarFragments: used", table.used[0] && table.used[1] && !table.used[2]);
+    check("AshlarTable: row_keys, AshlarArrival: key", table.row_keys[0] == 0x1122334455667788 && table.row_keys[1] == 99);
+    check("AshlarTable: firsts, AshlarArrival: time", table.firsts[0] == 5000 && table.firsts[1] == 6000);
+    check("AshlarTable: message_types, AshlarFragment: message_type", table.message_types[0] == 0x1234 && table.message_types[1] == 0x4321);
+    check("AshlarTable: sizes", table.sizes[0] == 10 && table.sizes[1] == 20);
+    check("AshlarTable: owners", table.owners[0] == 1 && table.owners[1] == 2 && table.owners[2] == 0);
+    check("AshlarTable: numbers, AshlarFragment: number", table.numbers[0] == 7 && table.numbers[1] == 8);
+    check("AshlarTable: versions, AshlarFragment: version", table.versions[0] == 0x56 && table.versions[1] == 0x65);
+    check("AshlarTable: used", table.used[0] && table.used[1] && !table.used[2]);
     pushed(piece(100, 0, false), 1), pushed(piece(99, 9, false), 1);
-    check("AshlarFragments: sender_keys", table.sender_keys[0] == 1 && table.sender_keys[1] == 2 && table.sender_keys[2] == 0);
-    check("AshlarFragments: sender_places", table.sender_places[0] == 1 && table.sender_places[1] == 3 && table.sender_places[2] == 0);
+    check("AshlarTable: sender_keys", table.sender_keys[0] == 1 && table.sender_keys[1] == 2 && table.sender_keys[2] == 0);
+    check("AshlarTable: sender_places", table.sender_places[0] == 1 && table.sender_places[1] == 3 && table.sender_places[2] == 0);
     check("ASHLAR_PAYLOAD: a place in the store", !memcmp(store, payload, 10) && store[10] == 0 && !memcmp(store + ASHLAR_PAYLOAD, payload, 20));
 }
 
@@ -322,7 +325,7 @@ static void fields(void) {
    output changes (rule T5) */
 static void duplicates(void) {
     static uint8_t stored[sizeof store], lent[sizeof out];
-    AshlarFragments before = table;
+    AshlarTable before = table;
     for (size_t i = 0; i < sizeof out; i++) out[i] = (uint8_t)(i * 7);
     memcpy(stored, store, sizeof store), memcpy(lent, out, sizeof out);
     for (size_t size = 0; size <= ASHLAR_PAYLOAD; size += size ? ASHLAR_PAYLOAD - 1 : 1) {
@@ -338,7 +341,7 @@ static void duplicates(void) {
 }
 
 static void pushes(void) {
-    ashlar_fragments_fresh(&table);
+    table = ashlar_fresh();
     pushed(piece(1, 0, false), 5);
     AshlarArrival a = piece(1, 1, true);
     a.fragment.version = 1;
@@ -348,31 +351,31 @@ static void pushes(void) {
     check("AshlarAnswer: missing the last", answered(pushed(piece(1, 0, true), 5), ASHLAR_MISSING_LAST, 0));
 
     AshlarPushed p = pushed(piece(1, 0, true), 11);
-    AshlarShown s = ashlar_fragments_show(p, payload, 11, out, sizeof out);
+    AshlarShown s = ashlar_show(p, payload, 11, out, sizeof out);
     check("AshlarAnswer: single, and its length", answered(p, ASHLAR_SINGLE, 11) && out[0] == 0);
     check("AshlarShown of a single", s.length == 11 && !s.in_output);
     pushed(piece(1, 0, false), 5);
     refused("AshlarPushed: 13, and the length that it wants", piece(1, 1, true), sizeof store, 11, 7, ASHLAR_OUTPUT_TOO_SMALL, 12);
     p = pushed(piece(1, 1, true), 7);
-    s = ashlar_fragments_show(p, payload, 7, out, sizeof out);
+    s = ashlar_show(p, payload, 7, out, sizeof out);
     check("AshlarAnswer: joined, and its length", answered(p, ASHLAR_JOINED, 12) && !memcmp(out, payload, 5) && !memcmp(out + 5, payload, 7) && out[12] == 0);
     check("AshlarShown of a joined one", s.length == 12 && s.in_output);
-    s = ashlar_fragments_show((AshlarPushed){.length = 5, .answer = ASHLAR_SINGLE}, payload, 5, out, 4);
-    AshlarShown t = ashlar_fragments_show((AshlarPushed){.length = 5, .answer = ASHLAR_JOINED}, payload, 4, out, 5);
-    check("ashlar_fragments_show: the payload comes before the output", s.length == 5 && !s.in_output && t.length == 5 && t.in_output);
-    s = ashlar_fragments_show((AshlarPushed){.length = 5, .answer = ASHLAR_SINGLE}, payload, 4, out, 5);
-    t = ashlar_fragments_show((AshlarPushed){.length = 5, .answer = ASHLAR_JOINED}, payload, 5, out, 4);
-    check("ashlar_fragments_show: nothing of a slice that is too short", s.length == 0 && !s.in_output && t.length == 0 && t.in_output);
+    s = ashlar_show((AshlarPushed){.length = 5, .answer = ASHLAR_SINGLE}, payload, 5, out, 4);
+    AshlarShown t = ashlar_show((AshlarPushed){.length = 5, .answer = ASHLAR_JOINED}, payload, 4, out, 5);
+    check("ashlar_show: the payload comes before the output", s.length == 5 && !s.in_output && t.length == 5 && t.in_output);
+    s = ashlar_show((AshlarPushed){.length = 5, .answer = ASHLAR_SINGLE}, payload, 4, out, 5);
+    t = ashlar_show((AshlarPushed){.length = 5, .answer = ASHLAR_JOINED}, payload, 5, out, 4);
+    check("ashlar_show: nothing of a slice that is too short", s.length == 0 && !s.in_output && t.length == 0 && t.in_output);
 }
 
 static void limits(void) {
-    ashlar_fragments_fresh(&table);
+    table = ashlar_fresh();
     refused("ASHLAR_STORE: 11 with a byte less", piece(1, 0, false), ASHLAR_STORE - 1, sizeof out, 5, ASHLAR_STORE_TOO_SMALL, 0);
     refused("ASHLAR_PAYLOAD: 12 with a byte more", piece(1, 0, false), sizeof store, sizeof out, ASHLAR_PAYLOAD + 1, ASHLAR_PAYLOAD_TOO_LONG, 0);
     for (uint64_t n = 0; n < ASHLAR_KEYS; n++) pushed(piece(of(n / ASHLAR_SENDER_KEYS, n), 0, false), 5);
     refused("ASHLAR_SENDER_KEYS: 20 with one more, before 10", piece(of(0, ASHLAR_KEYS), 0, false), sizeof store, sizeof out, 5, ASHLAR_SENDER_FULL, 0);
     refused("ASHLAR_KEYS: 10 with one more", piece(of(ASHLAR_KEYS, 0), 0, false), sizeof store, sizeof out, 5, ASHLAR_TABLE_FULL, 0);
-    ashlar_fragments_fresh(&table);
+    table = ashlar_fresh();
     for (int n = 0; n < ASHLAR_PLACES; n++) pushed(piece(of((uint64_t)n / ASHLAR_SENDER_PLACES, 1), (uint8_t)(n % ASHLAR_SENDER_PLACES), false), ASHLAR_PAYLOAD);
     refused("ASHLAR_SENDER_PLACES: 20 with one more, before 10", piece(of(0, 1), ASHLAR_SENDER_PLACES, false), sizeof store, sizeof out, 5, ASHLAR_SENDER_FULL, 0);
     refused("ASHLAR_PLACES: 10 with one more", piece(of(ASHLAR_PLACES, 1), 0, false), sizeof store, sizeof out, 5, ASHLAR_TABLE_FULL, 0);
@@ -381,16 +384,16 @@ static void limits(void) {
 
 /* sixteen keys are due, or none; a key that holds nothing, which no call leaves, is dropped and counted like others */
 static void sweeps(void) {
-    ashlar_fragments_fresh(&table);
+    table = ashlar_fresh();
     for (uint64_t n = 0; n + 1 < ASHLAR_KEYS; n++) pushed(piece(of(n, 0), 0, false), 5), pushed(piece(of(n, 0), 1, false), 5);
     table.used[ASHLAR_KEYS - 1] = true, table.firsts[ASHLAR_KEYS - 1] = 5000;
-    AshlarFragments before = table;
-    check("ASHLAR_OLD: none a millisecond before", ashlar_fragments_sweep(&table, 5000 + ASHLAR_OLD - 1) == 0 && !memcmp(&before, &table, sizeof table));
-    check("ashlar_fragments_sweep: none where the clock went back", ashlar_fragments_sweep(&table, 0) == 0 && !memcmp(&before, &table, sizeof table));
-    check("ashlar_fragments_sweep: how many keys", ashlar_fragments_sweep(&table, 5000 + ASHLAR_OLD) == ASHLAR_KEYS);
-    ashlar_fragments_fresh(&before);
-    check("ashlar_fragments_sweep: what is dropped leaves nothing", !memcmp(&before, &table, sizeof table));
-    check("ashlar_fragments_sweep: nothing is left to drop", ashlar_fragments_sweep(&table, UINT64_MAX) == 0);
+    AshlarTable before = table;
+    check("ASHLAR_OLD: none a millisecond before", ashlar_sweep(&table, 5000 + ASHLAR_OLD - 1) == 0 && !memcmp(&before, &table, sizeof table));
+    check("ashlar_sweep: none where the clock went back", ashlar_sweep(&table, 0) == 0 && !memcmp(&before, &table, sizeof table));
+    check("ashlar_sweep: how many keys", ashlar_sweep(&table, 5000 + ASHLAR_OLD) == ASHLAR_KEYS);
+    before = ashlar_fresh();
+    check("ashlar_sweep: what is dropped leaves nothing", !memcmp(&before, &table, sizeof table));
+    check("ashlar_sweep: nothing is left to drop", ashlar_sweep(&table, UINT64_MAX) == 0);
 }
 
 /* ---- Cutting ---- */
@@ -527,22 +530,22 @@ static bool heard(AshlarHeard h, uint8_t answer, AshlarAddress from) {
 }
 
 static bool is_at(AshlarAddress station, AshlarAddress point) {
-    AshlarAt a = ashlar_stations_at(&stations, station);
+    AshlarAt a = ashlar_station_at(&stations, station);
     return a.held && same_address(a.point, point);
 }
 
 static bool is_nowhere(AshlarAddress station) {
-    AshlarAt a = ashlar_stations_at(&stations, station);
+    AshlarAt a = ashlar_station_at(&stations, station);
     return !a.held && same_address(a.point, none);
 }
 
 static bool holds(size_t row, AshlarAddress station, AshlarAddress point) {
-    AshlarRow r = ashlar_stations_row(&stations, row);
+    AshlarRow r = ashlar_station_row(&stations, row);
     return r.held && same_address(r.station, station) && same_address(r.point, point);
 }
 
 static bool is_free(size_t row) {
-    AshlarRow r = ashlar_stations_row(&stations, row);
+    AshlarRow r = ashlar_station_row(&stations, row);
     return !r.held && same_address(r.station, none) && same_address(r.point, none);
 }
 
@@ -552,18 +555,18 @@ static void moves(void) {
     ashlar_stations_fresh(&stations);
     check("ASHLAR_STATION_TABLE, ashlar_stations_fresh: all its bytes are 0", sizeof stations == ASHLAR_STATION_TABLE && !memcmp(&stations, &nothing, sizeof stations));
     check("AshlarAddress: six bytes", sizeof(AshlarAddress) == 6);
-    check("ashlar_stations_at: nowhere", is_nowhere(phone));
-    check("AshlarEventAnswer: placed", heard(ashlar_stations_event(&stations, phone, kitchen, true), ASHLAR_PLACED, none) && is_at(phone, kitchen) && is_nowhere(kitchen));
+    check("ashlar_station_at: nowhere", is_nowhere(phone));
+    check("AshlarEventAnswer: placed", heard(ashlar_station_event(&stations, phone, kitchen, true), ASHLAR_PLACED, none) && is_at(phone, kitchen) && is_nowhere(kitchen));
     check("AshlarStations: stations, points", stations.stations[0] == 0x021122334456 && stations.points[0] == 0x06AABBCCDDEE && stations.stations[1] == 0 && stations.points[1] == 0);
-    check("AshlarEventAnswer: the same", heard(ashlar_stations_event(&stations, phone, kitchen, true), ASHLAR_SAME, none) && is_at(phone, kitchen));
-    check("AshlarEventAnswer: moved, and from where", heard(ashlar_stations_event(&stations, phone, attic, true), ASHLAR_MOVED, kitchen) && is_at(phone, attic));
+    check("AshlarEventAnswer: the same", heard(ashlar_station_event(&stations, phone, kitchen, true), ASHLAR_SAME, none) && is_at(phone, kitchen));
+    check("AshlarEventAnswer: moved, and from where", heard(ashlar_station_event(&stations, phone, attic, true), ASHLAR_MOVED, kitchen) && is_at(phone, attic));
     AshlarStations before = stations;
-    check("AshlarEventAnswer: stale, a leave that comes late", heard(ashlar_stations_event(&stations, phone, kitchen, false), ASHLAR_STALE, none) && !memcmp(&before, &stations, sizeof stations));
-    check("AshlarEventAnswer: stale, a station that is not held", heard(ashlar_stations_event(&stations, attic, phone, false), ASHLAR_STALE, none) && !memcmp(&before, &stations, sizeof stations));
-    check("AshlarRow: station, point, held", holds(0, phone, attic) && is_free(1) && ashlar_stations_count(&stations) == 1);
-    check("AshlarEventAnswer: removed", heard(ashlar_stations_event(&stations, phone, attic, false), ASHLAR_REMOVED, none) && is_nowhere(phone) && ashlar_stations_count(&stations) == 0);
-    check("ashlar_stations_event: a freed row is as a fresh one", !memcmp(&stations, &nothing, sizeof stations));
-    check("AshlarAt, AshlarRow: addresses of zeros are held", heard(ashlar_stations_event(&stations, none, none, true), ASHLAR_PLACED, none) && is_at(none, none) && holds(0, none, none) && ashlar_stations_count(&stations) == 1);
+    check("AshlarEventAnswer: stale, a leave that comes late", heard(ashlar_station_event(&stations, phone, kitchen, false), ASHLAR_STALE, none) && !memcmp(&before, &stations, sizeof stations));
+    check("AshlarEventAnswer: stale, a station that is not held", heard(ashlar_station_event(&stations, attic, phone, false), ASHLAR_STALE, none) && !memcmp(&before, &stations, sizeof stations));
+    check("AshlarRow: station, point, held", holds(0, phone, attic) && is_free(1) && ashlar_station_count(&stations) == 1);
+    check("AshlarEventAnswer: removed", heard(ashlar_station_event(&stations, phone, attic, false), ASHLAR_REMOVED, none) && is_nowhere(phone) && ashlar_station_count(&stations) == 0);
+    check("ashlar_station_event: a freed row is as a fresh one", !memcmp(&stations, &nothing, sizeof stations));
+    check("AshlarAt, AshlarRow: addresses of zeros are held", heard(ashlar_station_event(&stations, none, none, true), ASHLAR_PLACED, none) && is_at(none, none) && holds(0, none, none) && ashlar_station_count(&stations) == 1);
 }
 
 /* a value that joins the phone to the attic, and a byte after it */
@@ -573,7 +576,7 @@ static uint8_t association[14] = {0x02, 0x11, 0x22, 0x33, 0x44, 0x55, 0x0A, 0x0F
 static void refused_value(const char *name, uint8_t last, size_t size, uint8_t refusal) {
     AshlarStations before = stations;
     association[12] = last;
-    AshlarApplied a = ashlar_stations_event_from(&stations, association, size);
+    AshlarApplied a = ashlar_station_event_from(&stations, association, size);
     association[12] = 0x80;
     events |= 1u << a.heard.answer;
     refusals |= 1u << a.heard.refusal;
@@ -582,61 +585,16 @@ static void refused_value(const char *name, uint8_t last, size_t size, uint8_t r
 
 static void values(void) {
     ashlar_stations_fresh(&stations);
-    ashlar_stations_event(&stations, phone, kitchen, true);
-    AshlarApplied a = ashlar_stations_event_from(&stations, association, 14);
+    ashlar_station_event(&stations, phone, kitchen, true);
+    AshlarApplied a = ashlar_station_event_from(&stations, association, 14);
     check("AshlarApplied: heard", heard(a.heard, ASHLAR_MOVED, kitchen) && is_at(phone, attic));
     check("AshlarApplied: consumed, rest", a.consumed == 13 && a.rest == 1);
-    refused_value("ashlar_stations_event_from: 3, a byte too few", 0x80, 12, ASHLAR_CUT_SHORT);
-    refused_value("ashlar_stations_event_from: 5, bits that have no meaning", 0x81, 13, ASHLAR_BAD_VALUE);
+    refused_value("ashlar_station_event_from: 3, a byte too few", 0x80, 12, ASHLAR_CUT_SHORT);
+    refused_value("ashlar_station_event_from: 5, bits that have no meaning", 0x81, 13, ASHLAR_BAD_VALUE);
     association[12] = 0;
-    a = ashlar_stations_event_from(&stations, association, 13);
+    a = ashlar_station_event_from(&stations, association, 13);
     association[12] = 0x80;
-    check("ashlar_stations_event_from: a leave", heard(a.heard, ASHLAR_REMOVED, none) && a.consumed == 13 && a.rest == 0 && is_nowhere(phone));
-}
-
-/* the calls by their first names: each gives what the call of today's name gives, or what it gave */
-static void first_tables(void) {
-    static const AshlarTable nothing;
-    AshlarTable first = ashlar_fresh();
-    check("ASHLAR_TABLE, ashlar_fresh: all its bytes are 0", sizeof first == ASHLAR_TABLE && !memcmp(&first, &nothing, sizeof first));
-    AshlarPushed p = ashlar_push(&first, store, sizeof store, out, sizeof out, piece(of(1, 7), 0, false), payload, 4);
-    check("ashlar_push: waiting", answered(p, ASHLAR_WAITING, 0) && first.used[0] && first.row_keys[0] == of(1, 7));
-    p = ashlar_push(&first, store, sizeof store, out, 7, piece(of(1, 7), 1, true), payload + 4, 4);
-    check("ashlar_push: 13", p.answer == ASHLAR_REFUSED && p.refusal == ASHLAR_OUTPUT_TOO_SMALL && p.length == 8);
-    p = ashlar_push(&first, store, sizeof store, out, sizeof out, piece(of(1, 7), 1, true), payload + 4, 4);
-    check("ashlar_push: joined", answered(p, ASHLAR_JOINED, 8) && !memcmp(out, payload, 8) && !memcmp(&first, &nothing, sizeof first));
-    AshlarShown s = ashlar_show(p, payload + 4, 4, out, sizeof out), t = ashlar_show((AshlarPushed){.length = 5, .answer = ASHLAR_SINGLE}, payload, 5, out, 4);
-    check("ashlar_show: of the output, and of the payload", s.length == 8 && s.in_output && t.length == 5 && !t.in_output);
-    ashlar_push(&first, store, sizeof store, out, sizeof out, piece(of(1, 8), 0, false), payload, 4);
-    check("ashlar_sweep: how many keys", ashlar_sweep(&first, 5000 + ASHLAR_OLD - 1) == 0 && ashlar_sweep(&first, 5000 + ASHLAR_OLD) == 1 && !memcmp(&first, &nothing, sizeof first));
-}
-
-static void first_stations(void) {
-    ashlar_stations_fresh(&stations);
-    check("ashlar_station_event: placed", heard(ashlar_station_event(&stations, phone, kitchen, true), ASHLAR_PLACED, none) && is_at(phone, kitchen));
-    check("ashlar_station_event: moved", heard(ashlar_station_event(&stations, phone, attic, true), ASHLAR_MOVED, kitchen) && is_at(phone, attic));
-    check("ashlar_station_event: stale", heard(ashlar_station_event(&stations, phone, kitchen, false), ASHLAR_STALE, none) && is_at(phone, attic));
-    AshlarAt a = ashlar_station_at(&stations, phone), b = ashlar_station_at(&stations, kitchen);
-    check("ashlar_station_at", a.held && same_address(a.point, attic) && !b.held && same_address(b.point, none));
-    AshlarRow r = ashlar_station_row(&stations, 0), q = ashlar_station_row(&stations, ASHLAR_STATIONS);
-    check("ashlar_station_row", r.held && same_address(r.station, phone) && same_address(r.point, attic) && !q.held && same_address(q.station, none) && same_address(q.point, none));
-    check("ashlar_station_count", ashlar_station_count(&stations) == 1);
-    AshlarApplied v = ashlar_station_event_from(&stations, association, 14);
-    check("ashlar_station_event_from: the same, and a rest", heard(v.heard, ASHLAR_SAME, none) && v.consumed == 13 && v.rest == 1);
-    v = ashlar_station_event_from(&stations, association, 12);
-    check("ashlar_station_event_from: 3", v.heard.refusal == ASHLAR_CUT_SHORT && v.heard.answer == ASHLAR_REFUSED && v.consumed == 0 && v.rest == 0 && is_at(phone, attic));
-}
-
-static void first_radios(void) {
-    size_t size = sizeof device;
-    check("ashlar_radio: its id and its text", lies(ashlar_radio(0, device, size), 12, 12) && lies(ashlar_radio(1, device, size), 24, 7));
-    check("ashlar_radio_text: its text", lies(ashlar_radio_text(0, device, size), 19, 5) && lies(ashlar_radio_text(1, device, size), 31, 0));
-    check("ashlar_radio: 6", no_part(ashlar_radio(2, device, size), ASHLAR_NO_ENTRY) && no_part(ashlar_radio_text(2, device, size), ASHLAR_NO_ENTRY));
-    check("ashlar_radio: 3", no_part(ashlar_radio(0, device, 30), ASHLAR_CUT_SHORT) && no_part(ashlar_radio_text(0, device, 30), ASHLAR_CUT_SHORT));
-    uint8_t spoilt[sizeof device];
-    memcpy(spoilt, device, sizeof device);
-    spoilt[20] = 0xED;
-    check("ashlar_radio: 18, of another radio's text", no_part(ashlar_radio(1, spoilt, size), ASHLAR_NOT_TEXT) && no_part(ashlar_radio_text(1, spoilt, size), ASHLAR_NOT_TEXT));
+    check("ashlar_station_event_from: a leave", heard(a.heard, ASHLAR_REMOVED, none) && a.consumed == 13 && a.rest == 0 && is_nowhere(phone));
 }
 
 static AshlarAddress station_number(int n) { return (AshlarAddress){{0, 0, 0, 0, (uint8_t)(n >> 8), (uint8_t)n}}; }
@@ -644,21 +602,21 @@ static AshlarAddress station_number(int n) { return (AshlarAddress){{0, 0, 0, 0,
 static void crowd(void) {
     bool good = true;
     ashlar_stations_fresh(&stations);
-    for (int n = 0; n < ASHLAR_STATIONS; n++) good &= heard(ashlar_stations_event(&stations, station_number(n), kitchen, true), ASHLAR_PLACED, none) && holds((size_t)n, station_number(n), kitchen);
-    check("ASHLAR_STATIONS: so many are held", good && ashlar_stations_count(&stations) == ASHLAR_STATIONS);
-    check("ashlar_stations_row: past the rows there is none", is_free(ASHLAR_STATIONS) && is_free((size_t)-1));
+    for (int n = 0; n < ASHLAR_STATIONS; n++) good &= heard(ashlar_station_event(&stations, station_number(n), kitchen, true), ASHLAR_PLACED, none) && holds((size_t)n, station_number(n), kitchen);
+    check("ASHLAR_STATIONS: so many are held", good && ashlar_station_count(&stations) == ASHLAR_STATIONS);
+    check("ashlar_station_row: past the rows there is none", is_free(ASHLAR_STATIONS) && is_free((size_t)-1));
     AshlarStations before = stations;
-    AshlarHeard h = ashlar_stations_event(&stations, phone, kitchen, true);
-    check("ashlar_stations_event: 17 with one more", h.refusal == ASHLAR_NO_STATION_ROOM && h.answer == ASHLAR_REFUSED && same_address(h.from, none) && !memcmp(&before, &stations, sizeof stations));
+    AshlarHeard h = ashlar_station_event(&stations, phone, kitchen, true);
+    check("ashlar_station_event: 17 with one more", h.refusal == ASHLAR_NO_STATION_ROOM && h.answer == ASHLAR_REFUSED && same_address(h.from, none) && !memcmp(&before, &stations, sizeof stations));
     events |= 1u << h.answer;
     refusals |= 1u << h.refusal;
-    refused_value("ashlar_stations_event_from: 17 with one more", 0x80, 13, ASHLAR_NO_STATION_ROOM);
-    refused_value("ashlar_stations_event_from: 3 before 17", 0x80, 12, ASHLAR_CUT_SHORT);
-    refused_value("ashlar_stations_event_from: 5 before 17", 0x81, 14, ASHLAR_BAD_VALUE);
-    check("a full table: one that is held moves", heard(ashlar_stations_event(&stations, station_number(127), attic, true), ASHLAR_MOVED, kitchen) && is_at(station_number(127), attic));
-    ashlar_stations_event(&stations, station_number(77), kitchen, false), ashlar_stations_event(&stations, station_number(7), kitchen, false);
-    check("a full table: two leave, and the lowest row is used again", heard(ashlar_stations_event(&stations, phone, attic, true), ASHLAR_PLACED, none) && holds(7, phone, attic) && is_free(77));
-    check("ashlar_stations_count: with a free row", ashlar_stations_count(&stations) == ASHLAR_STATIONS - 1);
+    refused_value("ashlar_station_event_from: 17 with one more", 0x80, 13, ASHLAR_NO_STATION_ROOM);
+    refused_value("ashlar_station_event_from: 3 before 17", 0x80, 12, ASHLAR_CUT_SHORT);
+    refused_value("ashlar_station_event_from: 5 before 17", 0x81, 14, ASHLAR_BAD_VALUE);
+    check("a full table: one that is held moves", heard(ashlar_station_event(&stations, station_number(127), attic, true), ASHLAR_MOVED, kitchen) && is_at(station_number(127), attic));
+    ashlar_station_event(&stations, station_number(77), kitchen, false), ashlar_station_event(&stations, station_number(7), kitchen, false);
+    check("a full table: two leave, and the lowest row is used again", heard(ashlar_station_event(&stations, phone, attic, true), ASHLAR_PLACED, none) && holds(7, phone, attic) && is_free(77));
+    check("ashlar_station_count: with a free row", ashlar_station_count(&stations) == ASHLAR_STATIONS - 1);
 }
 
 /* ---- Link reports ---- */
@@ -848,9 +806,12 @@ static void read_captures(void) {
 
 int main(void) {
     for (size_t i = 0; i < sizeof payload; i++) payload[i] = (uint8_t)(i + 1);
-    headings(), written_headings(), walks(), paddings(), reads(), texts(), finds(), fields(), duplicates(), pushes(), limits(), sweeps(), cuts(), proposals(), moves(), values(), crowd(), first_tables(), first_stations(), first_radios(), link_reports(), merges(), written_captures(), read_captures(), values_by_fields();
-    check("every refusal came: 1 to 23", (refusals & ~1u) == 0xFFFFFE);
+    headings(), written_headings(), walks(), paddings(), reads(), texts(), finds(), fields(), duplicates(), pushes(), limits(), sweeps(), cuts(), proposals(), moves(), values(), crowd(), link_reports(), merges(), written_captures(), read_captures();
+    /* but for those of the calls that write TLVs, which come next */
+    check("every refusal that a call can give came: 1 to 7 and 10 to 23", (refusals & ~1u) == 0xFFFCFE);
     check("every answer of push came: 0 to 7", answers == 0xFF);
     check("every answer of an event came: 0 to 5", events == 0x3F);
+    values_by_fields(), tables_by_todays_names();
+    check("every refusal came: 1 to 23", (refusals & ~1u) == 0xFFFFFE);
     return failed != 0;
 }

@@ -25,6 +25,8 @@ enum { PAGE = 4096 };
     X(READ_KIND, "read_kind", 0 N(0) N(3) N(4) N(5) N(16) N(18)) \
     X(FIND, "find", 0 N(0) N(15) N(16)) \
     X(TEXT, "text", 0 N(0) N(3) N(4) N(5) N(6) N(16) N(18)) \
+    X(RADIO, "radio", 0 N(0) N(3) N(6) N(18)) \
+    X(RADIO_TEXT, "radio_text", 0 N(0) N(3) N(6) N(18)) \
     X(READ_ADDRESS, "read_address", 0 N(0) N(3) N(4) N(5) N(16)) \
     X(READ_BYTE, "read_byte", 0 N(0) N(3) N(4) N(5) N(16)) \
     X(READ_QUERY, "read_query", 0 N(0) N(3)) \
@@ -61,16 +63,25 @@ enum { PAGE = 4096 };
     X(PUT_TX_PAIR, "put_tx_pair", 0 N(0) N(7)) \
     X(PUT_RX_PAIR, "put_rx_pair", 0 N(0) N(7)) \
     X(KEY, "key", 0 N(0)) \
-    X(PUSH, "fragments_push", 0 N(0) N(10) N(11) N(12) N(13) N(20)) \
-    X(SHOW, "fragments_show", 0 N(0)) \
-    X(SWEEP, "fragments_sweep", 0 N(0)) \
+    X(FRESH, "fresh", 0 N(0)) \
+    X(PUSH, "push", 0 N(0) N(10) N(11) N(12) N(13) N(20)) \
+    X(SHOW, "show", 0 N(0)) \
+    X(SWEEP, "sweep", 0 N(0)) \
+    X(FRAGMENTS_PUSH, "fragments_push", 0 N(0) N(10) N(11) N(12) N(13) N(20)) \
+    X(FRAGMENTS_SHOW, "fragments_show", 0 N(0)) \
+    X(FRAGMENTS_SWEEP, "fragments_sweep", 0 N(0)) \
     X(CHECK, "check", 0 N(0) N(1) N(2) N(4)) \
     X(CUT, "cut", 0 N(0) N(1) N(2) N(4) N(7) N(21)) \
-    X(EVENT, "stations_event", 0 N(0) N(17)) \
-    X(EVENT_FROM, "stations_event_from", 0 N(0) N(3) N(5) N(17)) \
-    X(STATION_AT, "stations_at", 0 N(0)) \
-    X(STATION_COUNT, "stations_count", 0 N(0)) \
-    X(STATION_ROW, "stations_row", 0 N(0)) \
+    X(STATION_EVENT, "station_event", 0 N(0) N(17)) \
+    X(STATION_EVENT_FROM, "station_event_from", 0 N(0) N(3) N(5) N(17)) \
+    X(STATION_AT, "station_at", 0 N(0)) \
+    X(STATION_COUNT, "station_count", 0 N(0)) \
+    X(STATION_ROW, "station_row", 0 N(0)) \
+    X(STATIONS_EVENT, "stations_event", 0 N(0) N(17)) \
+    X(STATIONS_EVENT_FROM, "stations_event_from", 0 N(0) N(3) N(5) N(17)) \
+    X(STATIONS_AT, "stations_at", 0 N(0)) \
+    X(STATIONS_COUNT, "stations_count", 0 N(0)) \
+    X(STATIONS_ROW, "stations_row", 0 N(0)) \
     X(LINK_REPORT_TX, "link_report_tx", 0 N(0) N(3) N(4) N(19)) \
     X(LINK_REPORT_RX, "link_report_rx", 0 N(0) N(3) N(4) N(19)) \
     X(LINK_MERGE, "link_merge", 0 N(0) N(19)) \
@@ -78,17 +89,6 @@ enum { PAGE = 4096 };
     X(CAPTURE_STEP, "capture_step", 0 N(0) N(2) N(22) N(23)) \
     X(CAPTURE_FRAMES, "capture_frames", 0 N(0) N(2) N(14) N(22) N(23)) \
     X(CAPTURE_ARRIVAL, "capture_arrival", 0 N(0)) \
-    X(FIRST_FRESH, "fresh", 0 N(0)) \
-    X(FIRST_PUSH, "push", 0 N(0) N(10) N(11) N(12) N(13) N(20)) \
-    X(FIRST_SHOW, "show", 0 N(0)) \
-    X(FIRST_SWEEP, "sweep", 0 N(0)) \
-    X(FIRST_EVENT, "station_event", 0 N(0) N(17)) \
-    X(FIRST_EVENT_FROM, "station_event_from", 0 N(0) N(3) N(5) N(17)) \
-    X(FIRST_AT, "station_at", 0 N(0)) \
-    X(FIRST_COUNT, "station_count", 0 N(0)) \
-    X(FIRST_ROW, "station_row", 0 N(0)) \
-    X(RADIO, "radio", 0 N(0) N(3) N(6) N(18)) \
-    X(RADIO_TEXT, "radio_text", 0 N(0) N(3) N(6) N(18)) \
 
 enum {
 #define X(call, name, given) call,
@@ -139,7 +139,7 @@ static void told(int call, unsigned number, bool same) {
 }
 
 static Room payloads, lists, expected, stores[2], outs[2];
-static AshlarFragments tables[2];
+static AshlarTable tables[2];
 
 /* bytes that often read: TLVs and counts are mostly short */
 static uint8_t *bytes(size_t n) {
@@ -289,7 +289,7 @@ static void text(void) {
     uint8_t k = below(3) ? codes[below(3)] : code(), *p = value(k, &n);
     AshlarPart a = ashlar_text(k, number, p, n);
     told(TEXT, a.refusal, same_part(a, plain_text(k, number, p, n), n));
-    if (k != 0xD4) return;
+    p = value(0xD4, &n);
     a = ashlar_radio(number, p, n);
     told(RADIO, a.refusal, same_part(a, plain_radio(number, p, n), n));
     a = ashlar_radio_text(number, p, n);
@@ -298,7 +298,7 @@ static void text(void) {
 
 /* The totals are what counting gives, in the lowest row of each sender and nowhere else, and no more than a share (rules
    T6 and T15). */
-static bool in_step(const AshlarFragments *t) {
+static bool in_step(const AshlarTable *t) {
     for (int row = 0; row < ASHLAR_KEYS; row++) {
         int keys = 0, places = 0;
         bool lowest = t->used[row];
@@ -321,32 +321,28 @@ static void push(void) {
     AshlarArrival a = {below(8) << 16 | below(6), any() % 8000, {(uint16_t)(2 + !below(30)), (uint8_t)!below(40), (uint8_t)(below(20) ? below(4) : any()), !below(4)}};
     uint8_t *out[2];
     for (int i = 0; i < 2; i++) out[i] = outs[i].end - space;
-    bool first = below(2); /* by its first name */
-    AshlarPushed x = (first ? ashlar_push : ashlar_fragments_push)(&tables[0], stores[0].end - kept, kept, out[0], space, a, p, n);
-    AshlarPushed y = plain_fragments_push(&tables[1], stores[1].end - kept, kept, out[1], space, a, p, n);
+    AshlarPushed x = ashlar_push(&tables[0], stores[0].end - kept, kept, out[0], space, a, p, n);
+    AshlarPushed y = plain_push(&tables[1], stores[1].end - kept, kept, out[1], space, a, p, n);
     bool same = x.length == y.length && x.answer == y.answer && x.refusal == y.refusal && !memcmp(&tables[0], &tables[1], sizeof tables[0]) && !memcmp(out[0], out[1], space);
     if (!below(16)) same &= !memcmp(stores[0].end - kept, stores[1].end - kept, kept);
     same &= in_step(&tables[0]);
-    told(first ? FIRST_PUSH : PUSH, x.refusal, same && x.answer <= ASHLAR_JOINED && (x.answer == ASHLAR_REFUSED) == (x.refusal != 0));
+    told(PUSH, x.refusal, same && x.answer <= ASHLAR_JOINED && (x.answer == ASHLAR_REFUSED) == (x.refusal != 0));
     answers |= 1u << x.answer;
     if (below(2)) x = (AshlarPushed){(size_t)any() >> below(48), (uint8_t)any(), (uint8_t)any()};
-    first = below(2);
-    AshlarShown s = (first ? ashlar_show : ashlar_fragments_show)(x, p, n, out[0], space), t = plain_fragments_show(x, p, n, out[0], space);
-    told(first ? FIRST_SHOW : SHOW, 0, s.length == t.length && s.in_output == t.in_output && s.length <= (s.in_output ? space : n));
+    AshlarShown s = ashlar_show(x, p, n, out[0], space), t = plain_show(x, p, n, out[0], space);
+    told(SHOW, 0, s.length == t.length && s.in_output == t.in_output && s.length <= (s.in_output ? space : n));
 }
 
 static void sweep(void) {
     uint64_t time = below(20) ? any() % 11000 : any() << 40;
-    bool first = below(2);
-    size_t a = (first ? ashlar_sweep : ashlar_fragments_sweep)(&tables[0], time), b = plain_fragments_sweep(&tables[1], time);
-    told(first ? FIRST_SWEEP : SWEEP, 0, a == b && !memcmp(&tables[0], &tables[1], sizeof tables[0]) && in_step(&tables[0]));
+    size_t a = ashlar_sweep(&tables[0], time), b = plain_sweep(&tables[1], time);
+    told(SWEEP, 0, a == b && !memcmp(&tables[0], &tables[1], sizeof tables[0]) && in_step(&tables[0]));
 }
 
 static void fresh(void) {
-    ashlar_fragments_fresh(&tables[0]);
-    plain_fragments_fresh(&tables[1]);
-    AshlarTable first = ashlar_fresh();
-    told(FIRST_FRESH, 0, !memcmp(&first, &tables[1], sizeof first));
+    tables[0] = ashlar_fresh();
+    tables[1] = plain_fresh();
+    told(FRESH, 0, !memcmp(&tables[0], &tables[1], sizeof tables[0]));
 }
 
 /* ---- Cutting ---- */
@@ -497,9 +493,8 @@ static bool same_stations(void) { return !memcmp(stations[0], stations[1], sizeo
 static void station_event(void) {
     AshlarAddress s = station(), p = point();
     bool joined = below(5);
-    bool first = below(2);
-    AshlarHeard a = (first ? ashlar_station_event : ashlar_stations_event)(stations[0], s, p, joined), b = plain_stations_event(stations[1], s, p, joined);
-    told(first ? FIRST_EVENT : EVENT, a.refusal, same_heard(a, b) && same_stations());
+    AshlarHeard a = ashlar_station_event(stations[0], s, p, joined), b = plain_station_event(stations[1], s, p, joined);
+    told(STATION_EVENT, a.refusal, same_heard(a, b) && same_stations());
 }
 
 static void station_event_from(void) {
@@ -507,25 +502,21 @@ static void station_event_from(void) {
     AshlarAddress s = station(), p = point();
     uint8_t *v = bytes(n);
     if (n > 12) memcpy(v, &s, 6), memcpy(v + 6, &p, 6), v[12] = (uint8_t)(below(4) ? below(5) ? 0x80 : 0 : any());
-    bool first = below(2);
-    AshlarApplied a = (first ? ashlar_station_event_from : ashlar_stations_event_from)(stations[0], v, n), b = plain_stations_event_from(stations[1], v, n);
-    told(first ? FIRST_EVENT_FROM : EVENT_FROM, a.heard.refusal, a.consumed == b.consumed && a.rest == b.rest && same_heard(a.heard, b.heard) && same_stations());
+    AshlarApplied a = ashlar_station_event_from(stations[0], v, n), b = plain_station_event_from(stations[1], v, n);
+    told(STATION_EVENT_FROM, a.heard.refusal, a.consumed == b.consumed && a.rest == b.rest && same_heard(a.heard, b.heard) && same_stations());
 }
 
 static void station_at(void) {
     AshlarAddress s = station();
-    bool first = below(2);
-    AshlarAt a = (first ? ashlar_station_at : ashlar_stations_at)(stations[0], s), b = plain_stations_at(stations[1], s);
-    told(first ? FIRST_AT : STATION_AT, 0, a.held == b.held && same_address(a.point, b.point));
+    AshlarAt a = ashlar_station_at(stations[0], s), b = plain_station_at(stations[1], s);
+    told(STATION_AT, 0, a.held == b.held && same_address(a.point, b.point));
 }
 
 static void station_rows(void) {
     size_t n = below(4) ? below(ASHLAR_STATIONS) : below(4) ? ASHLAR_STATIONS + below(9) : (size_t)any() << 40;
-    bool first = below(2);
-    AshlarRow a = (first ? ashlar_station_row : ashlar_stations_row)(stations[0], n), b = plain_stations_row(stations[1], n);
-    told(first ? FIRST_ROW : STATION_ROW, 0, a.held == b.held && same_address(a.station, b.station) && same_address(a.point, b.point));
-    size_t count = (first ? ashlar_station_count : ashlar_stations_count)(stations[0]);
-    told(first ? FIRST_COUNT : STATION_COUNT, 0, count == plain_stations_count(stations[1]) && same_stations());
+    AshlarRow a = ashlar_station_row(stations[0], n), b = plain_station_row(stations[1], n);
+    told(STATION_ROW, 0, a.held == b.held && same_address(a.station, b.station) && same_address(a.point, b.point));
+    told(STATION_COUNT, 0, ashlar_station_count(stations[0]) == plain_station_count(stations[1]) && same_stations());
 }
 
 static void of_stations(void) {
@@ -692,31 +683,25 @@ static void list_capture(void) {
 }
 
 #include "hostile_fields.h"
+#include "hostile_tables.h"
 
 int main(int argc, char **argv) {
-    unsigned long many = argc > 1 ? strtoul(argv[1], 0, 10) : 60000, seed = argc > 2 ? strtoul(argv[2], 0, 10) : 1;
+    unsigned long many = argc > 1 ? strtoul(argv[1], 0, 10) : 99000, seed = argc > 2 ? strtoul(argv[2], 0, 10) : 1;
     state = seed * 0x9E3779B97F4A7C15ull | 1;
     payloads = room(8 * PAGE), lists = room(1100 * sizeof(AshlarTlv)), expected = room(1100 * sizeof(AshlarTlv));
     proposals = room(MOST_PROPOSED * sizeof(AshlarProposed)), parts = room(24000);
     for (int i = 0; i < 2; i++) ends[i] = room(MOST_ENDS * sizeof(size_t)), stores[i] = room(ASHLAR_STORE + 1), outs[i] = room(6000), stations[i] = (AshlarStations *)(room(sizeof(AshlarStations)).end - sizeof(AshlarStations));
+    tables_of_todays_names();
     fresh();
     fresh_stations();
     for (unsigned long i = 0; i < many; i++) {
-        size_t which = below(100);
+        size_t which = below(165);
         if (which < 4) read_header();
         else if (which < 12) walk();
         else if (which < 20) walk_into();
-        else if (which < 29) read_kind();
-        else if (which < 38) find();
-        else if (which < 42) text();
-        else if (which < 44) step();
-        else if (which < 46) read_records();
-        else if (which < 48) write_records();
-        else if (which < 50) write_values();
-        else if (which < 53) go_over();
-        else if (which < 55) by_number();
-        else if (which < 57) fields_at();
-        else if (which < 60) put_fields();
+        else if (which < 35) read_kind();
+        else if (which < 46) find();
+        else if (which < 50) text();
         else if (which < 78) push();
         else if (which < 79) check();
         else if (which < 80) cut();
@@ -725,8 +710,18 @@ int main(int argc, char **argv) {
         else if (which < 95) link_merge();
         else if (which < 96) write_room();
         else if (which < 98) below(2) ? read_capture() : list_capture();
-        else if (below(200)) sweep();
-        else fresh();
+        else if (which < 100) below(200) ? sweep() : fresh();
+        else if (which < 102) step();
+        else if (which < 104) read_records();
+        else if (which < 106) write_records();
+        else if (which < 108) write_values();
+        else if (which < 111) go_over();
+        else if (which < 113) by_number();
+        else if (which < 115) fields_at();
+        else if (which < 124) put_fields();
+        else if (which < 152) push_fragment();
+        else if (which < 163) of_todays_stations();
+        else below(200) ? sweep_fragments() : fresh_fragments();
     }
     int failed = 0;
     for (int k = 0; k < KINDS; k++) {
@@ -736,7 +731,7 @@ int main(int argc, char **argv) {
             if (seen[k] >> n & 1) printf(" %d", n);
         printf("\n");
     }
-    bool all = answers == 0xff && events == 0x3f && verdicts == 3 && records == 0xf;
+    bool all = answers == 0xff && events == 0x3f && fragment_answers == 0xff && event_answers == 0x3f && verdicts == 3 && records == 0xf;
     for (int k = 0; k < KINDS; k++) all &= seen[k] == numbers[k];
     printf("%s every number that a call can give came, every answer of push, of an event and of a step, and both of a check\n", all ? "ok" : "FAILED");
     return failed || !all;

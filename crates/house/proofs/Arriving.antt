@@ -1,10 +1,8 @@
 -- What a fragment that comes in does, from what the sweep, the push and the taking of events ensure.
-use mathlib.Core.Path.{◌≡◌, refl, sym, ap, ◌∙◌, subst}
-use mathlib.Core.List.{List, [], ◌∷◌}
+use mathlib.Core.Path.{◌≡◌, refl, ap, ◌∙◌, subst}
+use mathlib.Core.List.{List}
 use Prim.Native.Nat.{ℕ, ◌<◌}
 use lib.ListN.{length}
-use denote.Enum.Declared.{tag_of}
-use types.Run.{OneOf, miss}
 use Rattle.machines.specs.Happened.{Asks, asks_for, asks_nothing}
 use Rattle.table.specs.declared.Table.{Table}
 use Rattle.pushing.specs.declared.Arrival.{Arrival}
@@ -17,8 +15,6 @@ use Rattle.pushing.proofs.Calls.{push_made}
 use Rattle.pushing.proofs.Ways.{shown_same}
 use Rattle.stations.specs.Rows.{Stations}
 use Rattle.captures.specs.declared.Reached.{Reached}
-use Rattle.captures.specs.declared.Reached.TheVariants as Reached
-use Rattle.captures.specs.contracts.Reached.{the_type}
 use Rattle.captures.specs.declared.Frame.{Frame}
 use Rattle.captures.specs.Reading.{file_step, reached_of, frame_payload, arrival_of_lem}
 use Rattle.captures.specs.HandedBack.{Arrived}
@@ -58,11 +54,11 @@ module _ (s : List ℕ) (at : ℕ) (out : List ℕ) (z : House) where
       (e, subst (λ (b : Asks Arrived). Heard out z b answer table' store' out' stations') brought h)
 
   -- whatever else the step goes over
-  none_brought : (r : Reached) → OneOf (0 ∷ 2 ∷ 3 ∷ []) (tag_of the_type r) → asks_nothing ≡ brought_by s (reached_of r)
+  none_brought : (r : Reached) → ((f : Frame) (next : ℕ) → r ≡ Reached.Ours f next → ⊥) → asks_nothing ≡ brought_by s (reached_of r)
   none_brought Reached.FileEnd h = refl
-  none_brought (Reached.Ours f next) h = absurd (miss (0 ∷ 2 ∷ 3 ∷ []) 1 tt h)
+  none_brought (Reached.Ours f next) h = absurd (h f next refl)
   none_brought (Reached.Other next) h = refl
   none_brought (Reached.Refused r) h = refl
 
-  pub hears_nothing : (r : Reached) → OneOf (0 ∷ 2 ∷ 3 ∷ []) (tag_of the_type r) → reached_of r ≡ file_step s at → Made z.table → Hears r WaitingForMoreFragments z.table z.store out z.stations
+  pub hears_nothing : (r : Reached) → ((f : Frame) (next : ℕ) → r ≡ Reached.Ours f next → ⊥) → reached_of r ≡ file_step s at → Made z.table → Hears r WaitingForMoreFragments z.table z.store out z.stations
   hears_nothing r h e made = (e, subst (λ (b : Asks Arrived). Heard out z b WaitingForMoreFragments z.table z.store out z.stations) (none_brought r h ∙ ap (brought_by s) e) (refl, ((refl, refl), made)))

@@ -1,7 +1,7 @@
 -- Filtered is true (rule H6): frames that are passed over make no difference, and one key's frames are answered as they are
 -- alone.
 use mathlib.Core.Path.{◌≡◌, refl, sym, ap, ◌∙◌}
-use mathlib.Core.Bool.{Bool, true, false, cond, not, ◌&&◌}
+use mathlib.Core.Bool.{Bool, true, cond, not, ◌&&◌}
 use mathlib.Core.List.{List, [], ◌∷◌, ◌++◌, append-nil, map}
 use Prim.Native.Nat.{ℕ}
 use lib.Dec.{eqb}

@@ -1,8 +1,7 @@
 -- The contract of `hear` allows one outcome.
-use mathlib.Core.Path.{◌≡◌, sym, ap, ◌∙◌}
+use mathlib.Core.Path.{sym, ◌∙◌}
 use Rattle.captures.proofs.Firm.{reached_one}
 use Rattle.pushing.proofs.Firm.{one_answer}
-use Rattle.house.specs.House.{House}
 use Rattle.house.specs.Claims.{Firmness}
 
 pub firmness : Firmness

@@ -3,26 +3,24 @@ use mathlib.Core.Path.{◌≡◌, refl, sym, ap, ◌∙◌, subst}
 use mathlib.Core.Bool.{Bool, true, false, cond, ◌&&◌, true≢false}
 use mathlib.Core.List.{List, [], ◌∷◌, ◌++◌, map, flatten}
 use Prim.Native.Nat.{ℕ}
-use Rattle.numbers.specs.Numbers.{Answer, gives, refuses, is_given}
+use Rattle.numbers.specs.Numbers.{Answer, gives, refuses}
 use Rattle.numbers.specs.declared.Refusal.TheVariants.{NoStationRoom}
 use Rattle.machines.specs.Machine.{those, run, remaining, gathered}
 use Rattle.machines.specs.Happened.{Happened, no_call, next_call, Asks, asks_for, asks_nothing, and_steps, steps_of}
 use Rattle.walking.specs.Steps.{walk_from}
 use Rattle.walking.specs.Walk.{walk_of}
 use Rattle.records.specs.declared.ClientAssociation.{ClientAssociation}
-use Rattle.pushing.specs.Push.{PushAnswer, waiting, duplicated, inconsistent, missing, missing_last, single, joined, Way, output_by, answer_by}
+use Rattle.pushing.specs.Push.{PushAnswer, waiting, duplicated, inconsistent, missing, missing_last, single, joined, output_by, answer_by}
 use Rattle.pushing.specs.Show.{shown}
-use Rattle.orders.specs.Runs.{finished_by}
 use Rattle.stations.specs.declared.EventAnswer.{EventAnswer}
-use Rattle.stations.specs.declared.EventAnswer.TheVariants as EventAnswer
-use Rattle.stations.specs.Whereabouts.{Whereabouts, is_nowhere, heard_of, answer_at, Event, event_of}
+use Rattle.stations.specs.Whereabouts.{Whereabouts, is_nowhere, heard_of, Event, event_of}
 use Rattle.stations.specs.Rows.{Stations, fresh_stations, all_held, where_of, answer_to, table_after}
 use Rattle.stations.specs.Events.{answered_of, AssociationRead, association_read, table_from}
 use Rattle.stations.specs.Runs.{StationCall, of_record, of_value, from_event, station_contract, event_read_lem, event_by, events_of, was_heard, takes_event}
 use Rattle.stations.proofs.Claims.{claims}
 use Rattle.captures.specs.HandedBack.{Arrived}
 use Rattle.house.specs.House.{House, fresh_house, event_values, events_in, way_in, message_of_lem, after_arrival}
-use Rattle.house.specs.Story.{after_all, is_whole, messages_in, events_from, events_of_all}
+use Rattle.house.specs.Story.{after_all, is_whole, messages_in, events_from}
 use Rattle.house.specs.Claims.{ExactlyAt, TheStory}
 
 run_join : {S E : Type 0} (step : S → E → S) (s : S) (xs ys : List E) → run step s (xs ++ ys) ≡ run step (run step s xs) ys

@@ -2,8 +2,8 @@
 -- taken yet.
 use mathlib.Core.Path.{◌≡◌, refl, sym, ap, ◌∙◌}
 use mathlib.Core.Bool.{Bool, true, false, cond, true≢false}
-use mathlib.Core.List.{List, [], ◌∷◌, ◌++◌, map}
-use Prim.Native.Nat.{ℕ, ◌+◌, ◌-◌, ◌≤◌}
+use mathlib.Core.List.{List, [], ◌∷◌, map}
+use Prim.Native.Nat.{ℕ, ◌+◌, ◌-◌}
 use native.Mathlib.Omega.{arith}
 use lib.Dec.{eqb}
 use lib.ListN.{length, take, drop}
@@ -17,7 +17,7 @@ use Rattle.walking.proofs.Chained.{Has, of_walk}
 use Rattle.walking.proofs.Going.{turned}
 use Rattle.walking.proofs.Stepping.{steps}
 use Rattle.stations.specs.Rows.{Stations}
-use Rattle.stations.specs.Events.{association_code, table_from}
+use Rattle.stations.specs.Events.{table_from}
 use Rattle.house.specs.House.{is_event, event_value, event_values, events_by, events_in, after_message}
 
 module _ (m : List ℕ) (t : Stations) (v : Tlv) where

@@ -1,6 +1,6 @@
 -- The house (rules H1 to H4): what the records of a capture do, one after the other, to a fragment table with its store
 -- and to a station table.
-use Rattle.std.specs.Prelude.{Bool, List, [], ◌∷◌, map, ℕ, ◌+◌, eqb, length, take, drop}
+use Rattle.std.specs.Prelude.{Bool, List, [], map, ℕ, ◌+◌, eqb, length, take, drop}
 use Rattle.numbers.specs.Numbers.{Answer, gives, refuses}
 use Rattle.walking.specs.Steps.{Ahead, ended, passed, last}
 use Rattle.walking.specs.declared.Tlv.{Tlv}

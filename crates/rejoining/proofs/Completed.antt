@@ -16,7 +16,7 @@ use Rattle.cutting.proofs.Asked.{AsAsked}
 use Rattle.cutting.proofs.Accepted.{Fine, Accepted, accepted}
 use Rattle.machines.specs.Machine.{gathered}
 use Rattle.keys.specs.Keys.{Origin, key_for}
-use Rattle.pushing.specs.Push.{waiting, joined}
+use Rattle.pushing.specs.Push.{waiting}
 use Rattle.pushing.specs.declared.Fragment.{Fragment}
 use Rattle.pushing.specs.Joining.{held_of}
 use Rattle.orders.specs.Runs.{State, Push, Call, push, sweep, pushed, start, after, reply_to, replies_to}

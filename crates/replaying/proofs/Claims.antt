@@ -1,12 +1,9 @@
 -- The claims of specs/Claims.antt, proved.
 use mathlib.Core.Path.{◌≡◌, sym, ap, ◌∙◌}
-use mathlib.Core.List.{List, map}
-use Prim.Native.Nat.{ℕ}
-use lib.ListN.{length}
-use Rattle.numbers.specs.Numbers.{gives}
+use mathlib.Core.List.{map}
 use Rattle.numbers.proofs.Answers.{given}
 use Rattle.captures.specs.Reading.{Capture}
-use Rattle.captures.specs.HandedBack.{Arrived, arrived_in}
+use Rattle.captures.specs.HandedBack.{arrived_in}
 use Rattle.captures.proofs.Claims as captures
 use Rattle.orders.specs.Runs.{start}
 use Rattle.orders.specs.Happened.{calls_of}

@@ -5,14 +5,14 @@ use mathlib.Core.Bool.{Bool, true, false, not}
 use mathlib.Core.List.{List, [], ◌∷◌}
 use Prim.Native.Nat.{ℕ, min, ◌≤◌, ◌<◌}
 use lib.Dec.{eqb, ltb}
-use lib.ListN.{length, take, length-take}
+use lib.ListN.{length, length-take}
 use borrow.Author.Tests.{ltb-true, ltb-false, eqb-true, eqb-false}
 use Rattle.machines.specs.Machine.{gathered}
 use Rattle.table.specs.declared.Table.{Table}
 use Rattle.table.specs.Rows.{row_of}
 use Rattle.sweeping.specs.Sweep.{swept}
 use Rattle.pushing.specs.declared.Arrival.{Arrival}
-use Rattle.pushing.specs.Joining.{Fragments, held_of, held_in_lem, held_by_lem, and_new}
+use Rattle.pushing.specs.Joining.{held_of, held_in_lem, held_by_lem, and_new}
 use Rattle.pushing.specs.Push.{Way, way_by, keep_way, join_way, looked_up, own_totals, way, table_by, answer_by}
 use Rattle.pushing.proofs.Ways.{way_11}
 use Rattle.pushing.proofs.Sound.{sound}

@@ -10,8 +10,6 @@ use Rattle.numbers.specs.Numbers.{Answer, gives, refuses}
 use Rattle.table.specs.Rows.{place_size}
 use Rattle.captures.specs.Form.{seconds_in}
 use Rattle.captures.specs.Writing.{frame_size}
-use Rattle.captures.specs.HandedBack.{Arrived}
-use Rattle.captures.specs.Claims.{Writable}
 use Rattle.replaying.specs.Claims.{TakenIsWritable}
 
 -- a refusal gives nothing

@@ -36,7 +36,7 @@ fn fault_in(reached: Reached, seen: &[u8], w: Window) -> Fault {
     match reached {
         Reached::Refused(refusal) => match numbers::number_of(refusal) {
             22 => Fault::NoCapture,
-            23 => Fault::Lengths {
+            23 => Fault::Partial {
                 at: window::place_of(w),
                 stored: window::four_at(seen, std::num::wrapping_add_usize(w.at, 8)),
                 original: window::four_at(seen, std::num::wrapping_add_usize(w.at, 12)),

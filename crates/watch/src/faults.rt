@@ -8,7 +8,7 @@ pub(crate) enum Fault {
     HeaderCut { missing: u64 },
     NoCapture,
     RecordCut { at: u64, missing: u64 },
-    Lengths { at: u64, stored: u64, original: u64 },
+    Partial { at: u64, stored: u64, original: u64 },
     FrameCut { at: u64, missing: u64 },
 }
 
@@ -26,22 +26,14 @@ fn put_cut(text: &mut Answers, used: usize, missing: u64) -> usize {
     answer_lines::put(text, b, b" (2)\n")
 }
 
-// A frame that isn't stored as it was: fewer bytes of it, or more.
-fn put_lengths(text: &mut Answers, at: u64, stored: u64, original: u64) -> usize {
+fn put_partial(text: &mut Answers, at: u64, stored: u64, original: u64) -> usize {
     let a = answer_lines::put(text, 0, b"the frame at");
     let b = answer_lines::put_next(text, a, at);
-    if stored < original {
-        let c = answer_lines::put(text, b, b" was captured with");
-        let d = answer_lines::put_next(text, c, stored);
-        let e = answer_lines::put(text, d, b" of its");
-        let f = answer_lines::put_next(text, e, original);
-        return answer_lines::put(text, f, b" bytes (23)\n");
-    }
-    let c = answer_lines::put(text, b, b" is stored with more bytes than it had:");
+    let c = answer_lines::put(text, b, b" was captured with");
     let d = answer_lines::put_next(text, c, stored);
-    let e = answer_lines::put(text, d, b", not");
+    let e = answer_lines::put(text, d, b" of its");
     let f = answer_lines::put_next(text, e, original);
-    answer_lines::put(text, f, b" (23)\n")
+    answer_lines::put(text, f, b" bytes (23)\n")
 }
 
 fn put_cut_at(text: &mut Answers, what: &[u8], at: u64, missing: u64) -> usize {
@@ -70,11 +62,11 @@ fn put_fault(text: &mut Answers, fault: Fault) -> usize {
         Fault::RecordCut { at, missing } => {
             put_cut_at(text, b"the record header at", at, missing)
         }
-        Fault::Lengths {
+        Fault::Partial {
             at,
             stored,
             original,
-        } => put_lengths(text, at, stored, original),
+        } => put_partial(text, at, stored, original),
         Fault::FrameCut { at, missing } => put_cut_at(text, b"the frame at", at, missing),
     }
 }

@@ -1,4 +1,5 @@
--- The loop has swept the rows below `row`, whose key is too old if it is one, and has dropped no more keys than it has passed rows.
+-- The loop has swept the rows below `row`, whose key is too old if it is one, and has dropped no more keys than it has
+-- passed rows.
 use mathlib.Core.Path.{◌≡◌, sym, ap, ◌∙◌}
 use mathlib.Core.Bool.{true, false}
 use Prim.Native.Nat.{ℕ, ◌+◌, ◌≤◌, ◌<◌}
