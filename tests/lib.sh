@@ -5,8 +5,8 @@ shopt -s lastpipe
 passed=0
 failed=0
 
-# The programs that a check runs: `rt ci` leaves them, and they are proved and built anew where a file that they are made
-# of is newer. Where that fails the check fails, with its counts.
+# The programs that a check runs: `rt ci` leaves them, and they are proved and built anew where a file that they are
+# made of is newer. Where that fails the check fails, with its counts.
 needs() { # NAMES..
     local log
     log=$(tools/build "$@") && return
