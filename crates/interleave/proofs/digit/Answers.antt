@@ -1,5 +1,5 @@
 -- `digit` meets its contract.
-use Rattle.std.proofs.Common.{◌-◌, arith}
+use Rattle.std.proofs.Common.{arith}
 use Rattle.interleave.proofs.digit.Goals as goal
 
 pub loop-i-init : goal.loop-i-init

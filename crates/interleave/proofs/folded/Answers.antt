@@ -1,5 +1,5 @@
 -- `folded` meets its contract: the sum stays small.
-use Rattle.std.proofs.Common.{◌-◌, arith}
+use Rattle.std.proofs.Common.{arith}
 use Rattle.interleave.proofs.folded.Goals as goal
 
 pub loop-i-init : goal.loop-i-init

@@ -1,5 +1,5 @@
 -- `play` meets its contract: the table stays one that these calls made.
-use Rattle.std.proofs.Common.{◌-◌, refl, arith, rules}
+use Rattle.std.proofs.Common.{refl, arith, rules}
 use Rattle.pushing.proofs.Calls.{fresh_made}
 use Rattle.interleave.proofs.play.Goals as goal
 

@@ -1,5 +1,4 @@
 -- `all_entries` is safe and ends: it counts its turns.
-use Rattle.std.proofs.Common.{◌-◌}
 use Rattle.kind_commands.proofs.typed.all_entries.Goals as goal
 
 pub loop-turn-init : goal.loop-turn-init
