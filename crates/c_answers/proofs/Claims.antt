@@ -5,7 +5,7 @@ use mathlib.Core.List.{List, []}
 use Prim.Native.Nat.{ℕ}
 use lib.Dec.{leb}
 use lib.ListN.{length, take}
-use Rattle.numbers.specs.Numbers.{Answer, gives, refuses}
+use Rattle.numbers.specs.Numbers.{gives, refuses}
 use Rattle.numbers.proofs.Firm.{by_equation}
 use Rattle.pushing.specs.Push.{waiting, duplicated, inconsistent, missing, missing_last, single, joined}
 use Rattle.records.specs.declared.Record.{Record}

@@ -1,12 +1,10 @@
 -- `refused` meets its contract: no refusal carries two values.
 use mathlib.Core.Path.{◌≡◌, refl}
 use lib.ListN.{get_or}
-use borrow.Author.Rules.{rules}
 use Rattle.numbers.specs.Numbers.{values}
 use Rattle.numbers.specs.declared.Refusal.{Refusal}
 use Rattle.numbers.specs.declared.Refusal.TheVariants.{TooFewBytes, RunsPastEnd, CutShort, LeftOver, BadValue, NoEntry, NoRoom, ValueTooLong, NeverRead, TableFull, StoreTooSmall, PayloadTooLong, OutputTooSmall, ListTooShort, NotFound, UnknownKind, NoStationRoom, NotText, NoReport, SenderFull, NoCutting, NotACapture, BadFrame}
-use Rattle.c_answers.proofs.refused.Statement.{statement}
-use Rattle.c_answers.proofs.refused.Tie as tie
+use Rattle.c_answers.proofs.refused.Goals as goal
 
 one_value : (r : Refusal) → get_or (values r) 1 0 ≡ 0
 one_value (TooFewBytes missing) = refl
@@ -33,8 +31,5 @@ one_value NoCutting = refl
 one_value NotACapture = refl
 one_value BadFrame = refl
 
-returns : tie.Need-returns
-returns c = rw (c.number_of.ensures, c.before.carried_by.ensures, one_value c.before.before.args.refusal)
-
-pub refused-spec : {M : Type 1} → statement M
-refused-spec = tie.close (tie.spec (λ c κs. search rules) (λ c κs. search rules) returns)
+pub returns : goal.returns
+returns c = rw (c.number_of.ensures, c.carried_by.ensures, one_value c.args.refusal)
