@@ -113,7 +113,7 @@ pub extern "C" fn ashlar_step(payload: &[u8], at: usize) -> AshlarStep
 pub extern "C" fn ashlar_read_kind(code: u8, value: &[u8]) -> AshlarKind
     ensures { result ≡ kind_numbers_lem (read_kind_lem code value.now) }
 {
-    c_answers::kind_numbers(kinds::read_kind(code, value))
+    c_answers::kind_numbers(kinds::measure(code, value))
 }
 
 // The first record of the kind with this code that reads, after the first `from` records of the list: how many were
