@@ -49,7 +49,7 @@ use Rattle.c_stations.specs.Numbers.{no_address_lem, event_numbers_lem, applied_
 use Rattle.c_records.specs.Shapes.{address_fields, byte_fields, query_fields, association_fields, capability_fields}
 use Rattle.c_records.specs.Reading.{read_in_shape, address_numbers_lem, byte_numbers_lem, query_numbers_lem, association_numbers_lem, capability_numbers_lem}
 use Rattle.c_records.specs.Writing.{address_record_lem, byte_record_lem, query_record_lem, association_record_lem, capability_record_lem, meant_size, meant_bytes}
-use Rattle.examples.specs.Given.{even_mac, association_of_law, associated, padded, able, codes_below, one_record_lem, a_list, and_more, entry_of, mac, kept_mac, home, guest, services, plain_neighbours, neighbours, sent_over, received_over, links_sent, links_received, by_dhcp, static, ipv4, by_itself, ipv6, bridges, operational, among, entry_at, configured, beyond, e_acute, identification, inventory, text_of, on_the_edge, past_the_edge, with_a_byte, with_none, two_tlvs, join_of, leave_of, with_7, with_128, rows_below, LetIn, ZeroThenLastOne, marker, proposal}
+use Rattle.examples.specs.Given.{even_mac, association_of_law, associated, padded, able, codes_below, one_record_lem, a_list, and_more, entry_of_lem, mac, kept_mac, home, guest, services, plain_neighbours, neighbours, sent_over, received_over, links_sent, links_received, by_dhcp, static, ipv4, by_itself, ipv6, bridges, operational, among, entry_at_lem, configured, beyond, e_acute, identification, inventory, text_of, on_the_edge, past_the_edge, with_a_byte, with_none, two_tlvs, join_of, leave_of, with_7, with_128, rows_below, LetIn, ZeroThenLastOne, marker, proposal}
 
 pub record OfFraming : Type 0 where
   -- Rule B3: no byte, and two bytes, are fewer than three: 1 with the shortfall.
@@ -145,29 +145,29 @@ pub record OfKinds : Type 0 where
   pub profile : read_kind_lem 0xB3 (and_more (0x02 ∷ [])) ≡ one_record_lem (Record.MultiApProfile MultiApProfile.Profile2) 1 1
   pub capability_left_over : read_kind_lem 0xB4 (and_more (0x00 ∷ 0x00 ∷ 0xA8 ∷ 0x02 ∷ [])) ≡ one_record_lem able 4 1
   pub supported_service : read_kind_lem 0x80 (and_more services) ≡ a_list 2 3 1
-  pub agent : entry_of 0x80 (1 ∷ []) services ≡ 0x01 ∷ []
+  pub agent : entry_of_lem 0x80 (1 ∷ []) services ≡ 0x01 ∷ []
   pub non_1905_neighbours : read_kind_lem 6 plain_neighbours ≡ a_list 2 18 0
-  pub last_plain_neighbour : entry_of 6 (1 ∷ []) plain_neighbours ≡ mac 3
+  pub last_plain_neighbour : entry_of_lem 6 (1 ∷ []) plain_neighbours ≡ mac 3
   pub ieee1905_neighbours : read_kind_lem 7 neighbours ≡ a_list 2 20 0
   pub cut_neighbour : read_kind_lem 7 (and_more neighbours) ≡ refuses 4 []
-  pub last_neighbour : entry_of 7 (1 ∷ []) neighbours ≡ mac 3 ++ (0x80 ∷ [])
+  pub last_neighbour : entry_of_lem 7 (1 ∷ []) neighbours ≡ mac 3 ++ (0x80 ∷ [])
   pub sent_links : read_kind_lem 9 links_sent ≡ a_list 2 70 0
   pub cut_sent_link : read_kind_lem 9 (and_more links_sent) ≡ refuses 4 []
-  pub last_sent_link : entry_of 9 (1 ∷ []) links_sent ≡ sent_over 5 6
+  pub last_sent_link : entry_of_lem 9 (1 ∷ []) links_sent ≡ sent_over 5 6
   pub received_links : read_kind_lem 10 links_received ≡ a_list 2 58 0
   pub cut_received_link : read_kind_lem 10 (and_more links_received) ≡ refuses 4 []
-  pub last_received_link : entry_of 10 (1 ∷ []) links_received ≡ received_over 5 6
+  pub last_received_link : entry_of_lem 10 (1 ∷ []) links_received ≡ received_over 5 6
   pub no_links : read_kind_lem 10 (mac 1 ++ mac 2) ≡ a_list 0 12 0
   pub ipv4_interfaces : read_kind_lem 23 (and_more ipv4) ≡ a_list 1 26 1
-  pub last_ipv4 : entry_of 23 (0 ∷ 1 ∷ []) ipv4 ≡ static
+  pub last_ipv4 : entry_of_lem 23 (0 ∷ 1 ∷ []) ipv4 ≡ static
   pub ipv6_interfaces : read_kind_lem 24 (and_more ipv6) ≡ a_list 1 57 1
-  pub last_ipv6 : entry_of 24 (0 ∷ 0 ∷ []) ipv6 ≡ by_itself
+  pub last_ipv6 : entry_of_lem 24 (0 ∷ 0 ∷ []) ipv6 ≡ by_itself
   pub bridging : read_kind_lem 4 (and_more bridges) ≡ a_list 2 21 1
-  pub last_bridged : entry_of 4 (1 ∷ 0 ∷ []) bridges ≡ mac 3
+  pub last_bridged : entry_of_lem 4 (1 ∷ 0 ∷ []) bridges ≡ mac 3
   pub operational_radios : read_kind_lem 0x83 (and_more operational) ≡ a_list 1 31 1
-  pub last_letter : entry_of 0x83 (0 ∷ 1 ∷ 4 ∷ []) operational ≡ 0x74 ∷ []
+  pub last_letter : entry_of_lem 0x83 (0 ∷ 1 ∷ 4 ∷ []) operational ≡ 0x74 ∷ []
   pub configured_radios : read_kind_lem 0xB7 (and_more configured) ≡ a_list 1 35 1
-  pub last_letter_configured : entry_of 0xB7 (0 ∷ 1 ∷ 4 ∷ []) configured ≡ 0x74 ∷ []
+  pub last_letter_configured : entry_of_lem 0xB7 (0 ∷ 1 ∷ 4 ∷ []) configured ≡ 0x74 ∷ []
   -- Rules K1, K4 and E2: a code that no kind has, a value cut short, and entries that no list has.
   pub unknown_kind : read_kind_lem 30 beyond ≡ refuses 16 []
   pub cut_record : read_kind_lem 1 (0x02 ∷ []) ≡ refuses 3 []
@@ -212,7 +212,7 @@ pub record OfTexts : Type 0 where
   pub zero_in_a_url : text_of 22 0 (0x00 ∷ e_acute) ≡ 0x00 ∷ e_acute
   pub device_inventory : read_kind_lem 0xD4 (and_more inventory) ≡ a_list 2 36 1
   pub second_string : text_of 0xD4 1 inventory ≡ 0x67 ∷ 0x75 ∷ 0x65 ∷ 0x73 ∷ 0x74 ∷ []
-  pub last_radio : entry_of 0xD4 (1 ∷ []) inventory ≡ mac 2 ++ home
+  pub last_radio : entry_of_lem 0xD4 (1 ∷ []) inventory ≡ mac 2 ++ home
   pub no_byte_of_it : locate_kind 0xD4 (1 ∷ 0 ∷ []) inventory ≡ refuses 6 []
   pub last_chip : part_of (locate_radio_text_lem 1 inventory) inventory ≡ 0x68 ∷ 0x6F ∷ 0x6D ∷ 0x65 ∷ []
   -- Rule E5: every character on the edge of a line of RFC 3629's grammar is UTF-8, and none of its neighbours outside.
@@ -236,16 +236,16 @@ pub record OfEntries : Type 0 where
   -- Rule E9: one radio with two networks, gone over two levels down. The letters of a network's name are counted, and
   -- passed.
   pub begun : beginning 0x83 2 (and_more operational) ≡ gives (record { cursor = among 2 1 1 0 0; entries = 1; consumed = 31; rest = 1 })
-  pub radio : gone_on_lem (among 2 1 1 0 0) operational ≡ gives (next_is (entry_at 1 2 1) (among 2 8 0 2 0))
-  pub network : gone_on_lem (among 2 8 0 2 0) operational ≡ gives (next_is (entry_at 8 4 2) (among 2 19 0 1 0))
-  pub last_network : gone_on_lem (among 2 19 0 1 0) operational ≡ gives (next_is (entry_at 19 5 2) (among 2 31 0 0 0))
+  pub radio : gone_on_lem (among 2 1 1 0 0) operational ≡ gives (next_is (entry_at_lem 1 2 1) (among 2 8 0 2 0))
+  pub network : gone_on_lem (among 2 8 0 2 0) operational ≡ gives (next_is (entry_at_lem 8 4 2) (among 2 19 0 1 0))
+  pub last_network : gone_on_lem (among 2 19 0 1 0) operational ≡ gives (next_is (entry_at_lem 19 5 2) (among 2 31 0 0 0))
   pub none_left : gone_on_lem (among 2 31 0 0 0) operational ≡ gives none_left_lem
   -- With a level more, the letters come after their network.
-  pub its_letters : gone_on_lem (among 3 8 0 2 0) operational ≡ gives (next_is (entry_at 8 4 2) (among 3 15 0 1 4))
+  pub its_letters : gone_on_lem (among 3 8 0 2 0) operational ≡ gives (next_is (entry_at_lem 8 4 2) (among 3 15 0 1 4))
   pub no_level : beginning 0x83 0 operational ≡ gives (record { cursor = among 0 1 0 0 0; entries = 1; consumed = 31; rest = 0 })
   -- Rule E10: the same entries by their numbers. A radio of an inventory has no entries (rule E8).
-  pub by_number : by_numbers 2 0x83 operational [] ≡ entry_at 1 2 1 ∷ entry_at 8 4 2 ∷ entry_at 19 5 2 ∷ []
-  pub radios_by_number : by_numbers 3 0xD4 inventory [] ≡ entry_at 13 0 1 ∷ entry_at 25 0 1 ∷ []
+  pub by_number : by_numbers 2 0x83 operational [] ≡ entry_at_lem 1 2 1 ∷ entry_at_lem 8 4 2 ∷ entry_at_lem 19 5 2 ∷ []
+  pub radios_by_number : by_numbers 3 0xD4 inventory [] ≡ entry_at_lem 13 0 1 ∷ entry_at_lem 25 0 1 ∷ []
   -- Rule E9: 6 for a record and for a level that there isn't, 3 where the value ends inside, 16 for another code.
   pub begun_in_a_record : beginning 1 1 (mac 1) ≡ refuses 6 []
   pub no_such_level : gone_on_lem (record { at = 1; left1 = 0; left2 = 1; left3 = 0; code = 0x80; depth = 1 }) services ≡ refuses 6 []

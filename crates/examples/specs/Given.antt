@@ -63,8 +63,8 @@ abbrev pub and_more : List ℕ → List ℕ
 and_more value = value ++ (0x78 ∷ [])
 
 -- the part that is the entry with these numbers
-abbrev pub entry_of : ℕ → List ℕ → List ℕ → List ℕ
-entry_of code numbers value = part_of (locate_kind code numbers value) value
+abbrev pub entry_of_lem : ℕ → List ℕ → List ℕ → List ℕ
+entry_of_lem code numbers value = part_of (locate_kind code numbers value) value
 
 -- The values of the kinds, field by field, by the layouts of the standards (rule K2). The address 02:00:5E:10:20:n, in
 -- bytes and as it is kept:
@@ -125,15 +125,15 @@ abbrev pub ipv4 : List ℕ
 ipv4 = 0x01 ∷ (mac 1 ++ (0x02 ∷ (by_dhcp ++ static)))
 
 -- IEEE 1905.1a: FE80::n; and how an address was had (3 by itself), the address 2001:DB8::5, and where it comes from
-abbrev pub link_local : ℕ → List ℕ
-link_local n = 0xFE ∷ 0x80 ∷ (replicate 13 0x00 ++ (n ∷ []))
+abbrev pub link_local_lem : ℕ → List ℕ
+link_local_lem n = 0xFE ∷ 0x80 ∷ (replicate 13 0x00 ++ (n ∷ []))
 
 abbrev pub by_itself : List ℕ
-by_itself = 0x03 ∷ (0x20 ∷ 0x01 ∷ 0x0D ∷ 0xB8 ∷ (replicate 11 0x00 ++ (0x05 ∷ link_local 9)))
+by_itself = 0x03 ∷ (0x20 ∷ 0x01 ∷ 0x0D ∷ 0xB8 ∷ (replicate 11 0x00 ++ (0x05 ∷ link_local_lem 9)))
 
 -- one interface by its address and its link-local address, with one such
 abbrev pub ipv6 : List ℕ
-ipv6 = 0x01 ∷ (mac 1 ++ (link_local 1 ++ (0x01 ∷ by_itself)))
+ipv6 = 0x01 ∷ (mac 1 ++ (link_local_lem 1 ++ (0x01 ∷ by_itself)))
 
 -- IEEE 1905.1: two bridges, of two interfaces and of one
 abbrev pub bridges : List ℕ
@@ -147,8 +147,8 @@ operational = 0x01 ∷ (mac 1 ++ (0x02 ∷ (mac 2 ++ (home ++ (mac 3 ++ guest)))
 abbrev pub among : (depth p left1 left2 left3 : ℕ) → Cursor
 among depth p left1 left2 left3 = record { at = p; left1 = left1; left2 = left2; left3 = left3; code = 0x83; depth = depth }
 
-abbrev pub entry_at : (start entries level : ℕ) → EntryAt
-entry_at start entries level = record { start = start; entries = entries; level = level }
+abbrev pub entry_at_lem : (start entries level : ℕ) → EntryAt
+entry_at_lem start entries level = record { start = start; entries = entries; level = level }
 
 -- Multi-AP: the same, with a byte of flags and a reserved byte before each name
 abbrev pub configured : List ℕ

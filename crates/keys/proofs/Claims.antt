@@ -10,7 +10,7 @@ use Rattle.keys.specs.Keys.{key_of, key_for, sender_of_lem, id_of, sender_bytes}
 use Rattle.keys.specs.Claims.{Claims, Firmness, KeyIsOne's, OriginRead, KeyRemade}
 
 firmness : Firmness
-firmness = record { key_of_lem = λ s0 s1 s2 s3 s4 s5 id. by_equation (key_of (s0 ∷ s1 ∷ s2 ∷ s3 ∷ s4 ∷ s5 ∷ []) id); sender_of = λ key. by_equation (sender_of_lem key) }
+firmness = record { key_of = λ s0 s1 s2 s3 s4 s5 id. by_equation (key_of (s0 ∷ s1 ∷ s2 ∷ s3 ∷ s4 ∷ s5 ∷ []) id); sender_of = λ key. by_equation (sender_of_lem key) }
 
 origin_read : OriginRead
 origin_read o =

@@ -5,7 +5,7 @@ use Rattle.keys.specs.Keys.{key_of, Origin, key_for, sender_of_lem, id_of, sende
 
 -- Rule A4, for each public call by its name: any two numbers that its contract allows are equal.
 pub record Firmness : Type 0 where
-  pub key_of_lem : (s0 s1 s2 s3 s4 s5 id : ℕ) → Firm (λ key. key ≡ key_of (s0 ∷ s1 ∷ s2 ∷ s3 ∷ s4 ∷ s5 ∷ []) id)
+  pub key_of : (s0 s1 s2 s3 s4 s5 id : ℕ) → Firm (λ key. key ≡ key_of (s0 ∷ s1 ∷ s2 ∷ s3 ∷ s4 ∷ s5 ∷ []) id)
   pub sender_of : (key : ℕ) → Firm (λ sender. sender ≡ sender_of_lem key)
 
 -- Rule T2: no two senders and ids share a key.

@@ -8,7 +8,7 @@ use native.Mathlib.Omega.{arith}
 use lib.Dec.{ltb}
 use borrow.Author.Tests.{ltb-true, ltb-false, lt-ltb, le-ltb, eq-eqb}
 use Rattle.searching.specs.Search.{lowest, some}
-use Rattle.pushing.specs.Joining.{Held, Kept, nothing, kept, Fragments, is_kept_lem, is_last, unlike, inconsistent_with, reach, gapped, payload_of, in_order_lem}
+use Rattle.pushing.specs.Joining.{Held, Kept, nothing, kept, Fragments, is_kept_lem, is_last_lem, unlike, inconsistent_with, reach, gapped, payload_of, in_order_lem}
 use Rattle.pushing.specs.Push.{end, missing, message_way, join_way}
 use Rattle.searching.proofs.Search.{lowest_before, lowest_is, lowest_none}
 use Rattle.pushing.proofs.Pieces.{some_at, in_order_same}
@@ -44,7 +44,7 @@ module _ (new : Held) (fs : Fragments) (h : ℕ → Held) (n : ℕ) (in-byte : n
   pub joins : 1 ≤ n → (h (n - 1)).last ≡ true → (room : ℕ) → join_way new fs room ≡ message_way n (in_order_lem (λ k. (h k).payload) n) room
   unfolding join_way
   joins l last room =
-      let marked : is_last (fs (reach fs - 1)) ≡ true = ap (λ (k : ℕ). is_last (fs (k - 1))) reaches ∙ ap is_last (there (n - 1) (omega arith)) ∙ last in
+      let marked : is_last_lem (fs (reach fs - 1)) ≡ true = ap (λ (k : ℕ). is_last_lem (fs (k - 1))) reaches ∙ ap is_last_lem (there (n - 1) (omega arith)) ∙ last in
       rw (consistent, no_gap, marked, reaches, in_order_same (λ k. payload_of (fs k)) (λ k. (h k).payload) n (λ k l. ap payload_of (there k l)))
 
 -- and where one is missing: a number that is there, beyond one that is not

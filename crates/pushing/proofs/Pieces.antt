@@ -15,7 +15,7 @@ use Rattle.table.specs.declared.Table.{Table}
 use Rattle.pushing.specs.declared.Fragment.{Fragment}
 use Rattle.searching.specs.Search.{lowest, some}
 use Rattle.table.specs.Rows.{Place, owner_of, place_at, place_of, bytes_at}
-use Rattle.pushing.specs.Joining.{Held, Kept, nothing, kept, Fragments, is_kept_lem, held_of, held_as, held_in_lem, and_new, kept_at, unlike, inconsistent_with, reach, gapped, is_last, payload_of, in_order_lem, payloads}
+use Rattle.pushing.specs.Joining.{Held, Kept, nothing, kept, Fragments, is_kept_lem, held_of, held_as, held_in_lem, and_new, kept_at, unlike, inconsistent_with, reach, gapped, is_last_lem, payload_of, in_order_lem, payloads}
 use Rattle.pushing.specs.Push.{join_by, join_way, joined_with, over}
 use Rattle.pushing.specs.PrivateSteps.{numbered_in, unlike_in, beyond_in, fragment_at, size_at, piece_bytes, size_to, pieces_to, is_gap, count_for, gap_in, compared_in, join_in}
 use Rattle.searching.proofs.Search.{lowest_le, lowest_holds, lowest_before, lowest_same}
@@ -235,8 +235,8 @@ module _ (t : Table) (store : List ℕ) (row : ℕ) (f : Fragment) (payload : Li
   reach_is = lowest_same (λ k. not (is_kept_lem (fs k))) (is_gap t.owners t.numbers row f.number) 256 (λ k h. gap_is k)
 
   -- the highest is marked if it is the new one, which is
-  pub marked_is : f.last ≡ true → is_last (fs (n - 1)) ≡ eqb n (f.number + 1)
-  marked_is last = by_piece (λ (x : Kept) (i : ℕ). is_last x ≡ eqb n (f.number + 1)) (n - 1)
+  pub marked_is : f.last ≡ true → is_last_lem (fs (n - 1)) ≡ eqb n (f.number + 1)
+  marked_is last = by_piece (λ (x : Kept) (i : ℕ). is_last_lem x ≡ eqb n (f.number + 1)) (n - 1)
       (λ e. last ∙ sym (eq-eqb n (f.number + 1) (omega (arith, count_some t.owners t.numbers row f.number (omega arith)))))
       (λ ne h. sym (ne_eqb n (f.number + 1) (λ e. ne (omega arith))))
       (λ ne h. sym (ne_eqb n (f.number + 1) (λ e. ne (omega arith))))
@@ -314,6 +314,6 @@ module _ (t : Table) (store : List ℕ) (row : ℕ) (f : Fragment) (payload : Li
     pub judged : f.last ≡ true → (room : ℕ) → join_in t.sizes t.owners t.numbers store payload (compared_in t.owners t.versions t.message_types row f) room ≡ joined_with t store row f payload room
     unfolding join_way
     judged last room =
-        let mark : is_last (fs (reach fs - 1)) ≡ eqb n (f.number + 1) = ap (λ (k : ℕ). is_last (fs (k - 1))) reach_is ∙ marked_is last in
+        let mark : is_last_lem (fs (reach fs - 1)) ≡ eqb n (f.number + 1) = ap (λ (k : ℕ). is_last_lem (fs (k - 1))) reach_is ∙ marked_is last in
         let bytes : payloads fs (reach fs) ≡ pieces_to t.sizes t.owners t.numbers store row f.number payload n = ap (payloads fs) reach_is ∙ payloads_are n (omega arith) in
         sym (λ i. join_by (unlike_is i) (gapped_is i) (mark i) (reach_is i) (bytes i) room)

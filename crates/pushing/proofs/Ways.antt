@@ -15,7 +15,7 @@ use Rattle.table.specs.declared.Totals.{Totals}
 use Rattle.pushing.specs.declared.Arrival.{Arrival}
 use Rattle.pushing.specs.declared.look.LookedUp.{LookedUp}
 use Rattle.table.specs.Rows.{row_of, spare_row, place_of, lowest_free}
-use Rattle.pushing.specs.Joining.{Held, Fragments, held_of, held_in_lem, and_new, inconsistent_with, gapped, is_last, reach, payloads}
+use Rattle.pushing.specs.Joining.{Held, Fragments, held_of, held_in_lem, and_new, inconsistent_with, gapped, is_last_lem, reach, payloads}
 use Rattle.pushing.specs.Push.{PushAnswer, waiting, duplicated, inconsistent, missing, missing_last, single, joined, Way, refuse, duplicate, keep_at, open_at, end, looked_up, own_totals, has_share_lem, keep_way, message_way, join_way, joined_with, way_by, way, over, output_by, answer_by}
 use Rattle.pushing.specs.Show.{start_of, shown}
 
@@ -80,7 +80,7 @@ start_over bytes out =
 pub by_ends : (P : Way → Type 0) → P (end inconsistent []) → P (end missing []) → P (end missing_last []) → ((n : ℕ) → P (end (single n) [])) → ((n : ℕ) → P (refuse 13 (n ∷ [])))
     → ((bytes : List ℕ) → P (end (joined (length bytes)) bytes)) → (new : Held) (fs : Fragments) (room : ℕ) → P (join_way new fs room)
 unfolding join_way message_way
-by_ends P i m l s r j new fs room = by_tests (inconsistent_with new fs) (gapped fs) (is_last (fs (reach fs - 1))) (leb (reach fs) 1) (payloads fs (reach fs)) (ltb room (length (payloads fs (reach fs))))
+by_ends P i m l s r j new fs room = by_tests (inconsistent_with new fs) (gapped fs) (is_last_lem (fs (reach fs - 1))) (leb (reach fs) 1) (payloads fs (reach fs)) (ltb room (length (payloads fs (reach fs))))
   where
     by_tests : (u g o n : Bool) (bytes : List ℕ) (x : Bool)
         → P (cond u (end inconsistent []) (cond g (end missing []) (cond (not o) (end missing_last []) (cond n (end (single (length bytes)) []) (cond x (refuse 13 (length bytes ∷ [])) (end (joined (length bytes)) bytes))))))

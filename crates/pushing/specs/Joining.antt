@@ -77,9 +77,9 @@ unfoldable pub gapped : Fragments → Bool
 gapped fs = some (λ k. is_kept_lem (fs k) && ltb (reach fs) k) 256
 
 -- Rule T8, third test: a fragment is marked last. The test asks this of the one with the highest number.
-abbrev pub is_last : Kept → Bool
-is_last nothing = false
-is_last (kept h) = h.last
+abbrev pub is_last_lem : Kept → Bool
+is_last_lem nothing = false
+is_last_lem (kept h) = h.last
 
 abbrev pub payload_of : Kept → List ℕ
 payload_of nothing = []

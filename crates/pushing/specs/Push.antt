@@ -11,7 +11,7 @@ use Rattle.pushing.specs.declared.Pushed.{Pushed}
 use Rattle.pushing.specs.declared.look.LookedUp.{LookedUp}
 use Rattle.pushing.specs.declared.Pushed.TheVariants.{WaitingForMoreFragments, DuplicatedFragment, InconsistentMetadata, MissingFragments, MissingLastFragment, Single, Joined, Refused}
 use Rattle.table.specs.Rows.{keys, places, place_size, store_size, most_keys, most_places, Place, owner_of, row_of, spare_row, place_of, lowest_free, with_key, with_place, first_row_lem, no_totals, totals_of, with_totals, dropped_key_lem}
-use Rattle.pushing.specs.Joining.{Held, Fragments, held_of, held_in_lem, and_new, inconsistent_with, gapped, is_last, reach, payloads}
+use Rattle.pushing.specs.Joining.{Held, Fragments, held_of, held_in_lem, and_new, inconsistent_with, gapped, is_last_lem, reach, payloads}
 
 -- Rules T5 to T9: what push answers where it does not refuse.
 pub data PushAnswer : Type 0 where
@@ -108,7 +108,7 @@ join_by unlike gap marked n bytes room =
 
 -- Rule T8: joining, for the new fragment and all fragments of its key, the new one included.
 unfoldable pub join_way : Held → Fragments → (room : ℕ) → Way
-join_way new fs room = join_by (inconsistent_with new fs) (gapped fs) (is_last (fs (reach fs - 1))) (reach fs) (payloads fs (reach fs)) room
+join_way new fs room = join_by (inconsistent_with new fs) (gapped fs) (is_last_lem (fs (reach fs - 1))) (reach fs) (payloads fs (reach fs)) room
 
 -- Rule T7: a new fragment is joined with those that a row holds.
 abbrev pub joined_with : Table → List ℕ → ℕ → Fragment → List ℕ → ℕ → Way

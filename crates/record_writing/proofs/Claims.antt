@@ -28,7 +28,7 @@ use Rattle.record_writing.proofs.WriteBack.{kept}
 firmness : Firmness
 firmness = record {
   size_of = λ item. by_equation _;
-  byte_at_lem = λ item i. by_equation _;
+  byte_at = λ item i. by_equation _;
   units_byte = λ units a b x y. x.0 ∙ sym y.0;
   write_value = λ item out. both _ _ (by_telling written_of written_one _) (by_equation _);
   write_record = λ item out. both _ _ (by_telling written_of written_one _) (by_equation _);

@@ -17,7 +17,7 @@ use Rattle.record_writing.specs.Writing.{readable, value_size, record_size_lem}
 -- room holds afterwards.
 pub record Firmness : Type 0 where
   pub size_of : (item : Record) → Firm (λ n. n ≡ length (bytes_of item))
-  pub byte_at_lem : (item : Record) (i : ℕ) → Firm (λ b. b ≡ get_or (bytes_of item) i 0)
+  pub byte_at : (item : Record) (i : ℕ) → Firm (λ b. b ≡ get_or (bytes_of item) i 0)
   pub units_byte : (units : ByteCounterUnits) → Firm (λ n. (n ≡ units_code units) × (n < 4))
   pub write_value : (item : Record) (out : List ℕ) → Firm {A = Written × List ℕ} (λ o.
       (written_of o.0 ≡ value_size item (length out))

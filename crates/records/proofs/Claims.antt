@@ -27,7 +27,7 @@ firmness = record {
   read_record = λ code s. by_telling got_of read_one _;
   read_client_association = λ s. by_telling got_of read_one _;
   from_u8 = λ input. by_equation _;
-  code_of_lem = λ item. by_equation _;
+  code_of = λ item. by_equation _;
   is_record = λ code. by_equation _;
   measure = λ code s. by_telling measured_of measured_one _;
 }

@@ -13,7 +13,7 @@ pub record Firmness : Type 0 where
   pub read_record : (code : ℕ) (s : List ℕ) → Firm (λ r. got_of r ≡ read_record_lem code s)
   pub read_client_association : (s : List ℕ) → Firm (λ r. got_of r ≡ of_kind_lem RecordKind.ClientAssociation s)
   pub from_u8 : (input : ℕ) → Firm (λ units. units ≡ units_of input)
-  pub code_of_lem : (item : Record) → Firm (λ n. n ≡ code_of (kind_of item))
+  pub code_of : (item : Record) → Firm (λ n. n ≡ code_of (kind_of item))
   pub is_record : (code : ℕ) → Firm (λ b. b ≡ is_record_lem code)
   pub measure : (code : ℕ) (s : List ℕ) → Firm (λ m. measured_of m ≡ mapped (λ x. x.consumed) (read_record_lem code s))
 

@@ -6,4 +6,4 @@ use Rattle.ashlar.proofs.ashlar_write_header.Goals as goal
 pub returns : goal.returns
 returns c =
     let w = c.write_cmdu_header.ensures in
-    record { answer = c.written_numbers.ensures ∙ ap written_numbers_lem w.0; bytes = w.1 }
+    record { answer = c.written_numbers.ensures ∙ ap written_numbers_lem w.answer; bytes = w.bytes }

@@ -6,4 +6,4 @@ use Rattle.ashlar.proofs.entry_writing.ashlar_put_ipv4.Goals as goal
 pub returns : goal.returns
 returns c =
     let w = c.put_ipv4.ensures in
-    record { answer = c.written_numbers.ensures ∙ ap written_numbers_lem w.0; bytes = w.1 }
+    record { answer = c.written_numbers.ensures ∙ ap written_numbers_lem w.answer; bytes = w.bytes }

@@ -6,4 +6,4 @@ use Rattle.ashlar.proofs.writing.ashlar_write_association.Goals as goal
 pub returns : goal.returns
 returns c =
     let w = rw c.association_record-meant.ensures at c.write_meant.ensures in
-    record { answer = c.written_numbers.ensures ∙ ap written_numbers_lem w.0; bytes = w.1 }
+    record { answer = c.written_numbers.ensures ∙ ap written_numbers_lem w.answer; bytes = w.bytes }
