@@ -1,5 +1,5 @@
 -- What a turn of the program does, and its turns one after the other: the windows of a file (rule H10).
-use Rattle.std.proofs.Common.{◌≡◌, ℕ, ◌+◌, ◌≤◌, List, [], ◌∷◌, ◌++◌, length, take, drop, sym, refl, ap, ◌∙◌, subst, append-nil, arith, length-append, take-append-drop, length-take-le, take_all, take-take, take_at, le-leb}
+use Rattle.std.proofs.Common.{◌≡◌, ℕ, ◌≤◌, List, [], ◌∷◌, ◌++◌, length, take, drop, sym, refl, ap, ◌∙◌, subst, append-nil, arith, length-append, take-append-drop, length-take-le, take_all, take-take, take_at, le-leb}
 use lib.Seq.{take-append-le}
 use Rattle.pushing.specs.Show.{start_of}
 use Rattle.house.specs.House.{House}
