@@ -49,7 +49,7 @@ use Rattle.c_stations.specs.Numbers.{no_address_lem, event_numbers_lem, applied_
 use Rattle.c_records.specs.Shapes.{address_fields, byte_fields, query_fields, association_fields, capability_fields}
 use Rattle.c_records.specs.Reading.{read_in_shape, address_numbers_lem, byte_numbers_lem, query_numbers_lem, association_numbers_lem, capability_numbers_lem}
 use Rattle.c_records.specs.Writing.{address_record_lem, byte_record_lem, query_record_lem, association_record_lem, capability_record_lem, meant_size, meant_bytes}
-use Rattle.examples.specs.Given.{even_mac, association_of_law, associated, padded, able, codes_below, one_record_lem, a_list, and_more, entry_of_lem, mac, kept_mac, home, guest, services, plain_neighbours, neighbours, sent_over, received_over, links_sent, links_received, by_dhcp, static, ipv4, by_itself, ipv6, bridges, operational, among, entry_at_lem, configured, beyond, e_acute, identification, inventory, text_of, on_the_edge, past_the_edge, with_a_byte, with_none, two_tlvs, join_of, leave_of, with_7, with_128, rows_below, LetIn, ZeroThenLastOne, marker, proposal}
+use Rattle.examples.specs.Given.{even_mac, association_of_law, associated, padded, able, codes_below, one_record_lem, a_list, and_more, entry_of_lem, mac, kept_mac, home, services, plain_neighbours, neighbours, sent_over, received_over, links_sent, links_received, static, ipv4, by_itself, ipv6, bridges, operational, among, entry_at_lem, configured, beyond, e_acute, identification, inventory, text_of, on_the_edge, past_the_edge, with_a_byte, with_none, two_tlvs, join_of, leave_of, with_7, with_128, rows_below, LetIn, ZeroThenLastOne, marker, proposal}
 
 pub record OfFraming : Type 0 where
   -- Rule B3: no byte, and two bytes, are fewer than three: 1 with the shortfall.

@@ -1,6 +1,6 @@
 -- What the examples are made of: bytes as they come off the wire, field by field, and the records and tables that they
 -- stand for.
-use Rattle.std.specs.Prelude.{◌≡◌, Bool, true, false, cond, List, [], ◌∷◌, ◌++◌, ℕ, zero, suc, ◌+◌, ◌-◌, ◌≤◌, length, replicate}
+use Rattle.std.specs.Prelude.{◌≡◌, Bool, true, false, cond, List, [], ◌∷◌, ◌++◌, ℕ, zero, suc, ◌-◌, ◌≤◌, length, replicate}
 use Rattle.numbers.specs.Numbers.{Answer, gives}
 use Rattle.records.specs.declared.Record.{Record}
 use Rattle.records.specs.declared.MacAddr.{MacAddr}

@@ -1,5 +1,4 @@
 -- `all_hits` is safe and ends: it counts its turns.
-use Rattle.std.proofs.Common.{◌-◌}
 use Rattle.payload_commands.proofs.found.all_hits.Goals as goal
 
 pub loop-turn-init : goal.loop-turn-init

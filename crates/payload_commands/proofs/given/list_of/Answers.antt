@@ -1,5 +1,5 @@
 -- `list_of` is safe and ends: the list keeps its 498 places.
-use Rattle.std.proofs.Common.{◌-◌, rules}
+use Rattle.std.proofs.Common.{rules}
 use Rattle.payload_commands.proofs.given.list_of.Goals as goal
 
 pub loop-i-init : goal.loop-i-init

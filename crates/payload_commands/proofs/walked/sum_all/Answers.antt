@@ -1,5 +1,4 @@
 -- `sum_all` is safe and ends: it takes no more turns than there are TLVs.
-use Rattle.std.proofs.Common.{◌-◌}
 use Rattle.payload_commands.proofs.walked.sum_all.Goals as goal
 
 pub loop-i-init : goal.loop-i-init

@@ -1,5 +1,4 @@
 -- `sum_part` is safe and ends: no more than the 498 places are summed.
-use Rattle.std.proofs.Common.{◌-◌}
 use Rattle.payload_commands.proofs.walked.sum_part.Goals as goal
 
 pub loop-i-init : goal.loop-i-init
