@@ -19,6 +19,12 @@ use Rattle.pushing.proofs.Apart.{push_untouched}
 
 firmness : Firmness
 firmness = record {
+  push_in_place = λ t store out a payload r q x y. λ i. (
+    one_answer r.0 q.0 (x.answers ∙ sym y.answers) i,
+    (x.keeps ∙ sym y.keeps) i,
+    (x.stores ∙ sym y.stores) i,
+    (x.puts ∙ sym y.puts) i,
+  );
   push_step = λ t store out a payload r q x y. λ i. (
     record { table = (x.keeps ∙ sym y.keeps) i; answer = one_answer r.0.answer q.0.answer (x.answers ∙ sym y.answers) i },
     (x.stores ∙ sym y.stores) i,

@@ -21,6 +21,8 @@ use Rattle.pushing.specs.Made.{Made}
 -- Rule A4: any two outcomes that the contract allows are equal, in the answer, the table, and every byte of the store
 -- and of the output.
 pub record Firmness : Type 0 where
+  pub push_in_place : (t : Table) (store out : List ℕ) (a : Arrival) (payload : List ℕ)
+      → Firm {A = Pushed × Table × List ℕ × List ℕ} (λ o. Goes (way t store a payload (length out)) t store out a payload o.0 o.1 o.2 o.3)
   pub push_step : (t : Table) (store out : List ℕ) (a : Arrival) (payload : List ℕ)
       → Firm {A = AfterPush × List ℕ × List ℕ} (λ o. Goes (way t store a payload (length out)) t store out a payload o.0.answer o.0.table o.1 o.2)
 

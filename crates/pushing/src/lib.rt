@@ -16,7 +16,7 @@ use join::{compare, finish};
 use look::look_up;
 use numbers::Refusal;
 use rows::{copy, with_fragment};
-use table::{PLACE_SIZE, Table, totals_at, without_key};
+use table::{PLACE_SIZE, Table, drop_key, totals_at};
 
 // Rule T3: a fragment without its payload.
 #[repr(C)]
@@ -58,18 +58,16 @@ pub struct AfterPush {
     pub answer: Pushed,
 }
 
-// Rules T4 to T9: a fragment comes in. Returns the table after it, and the answer. The store keeps payloads, and the
-// output gets a joined message. Its arms stay here, though they make it long: a function that took the table by value
-// would hold one more copy of it on the stack.
-pub fn push_step(
-    t: Table,
+// Rules T4 to T9: a fragment comes in, to the lent table. The store keeps payloads, and the output gets a joined message.
+pub fn push_in_place(
+    t: &mut Table,
     store: &mut [u8],
     out: &mut [u8],
     a: Arrival,
     payload: &[u8],
-) -> AfterPush
-    requires { Made t }
-    ensures { Goes (way t store.old a payload.now (length out.old)) t store.old out.old a payload.now result.answer result.table store.new out.new }
+) -> Pushed
+    requires { Made t.old }
+    ensures { Goes (way t.old store.old a payload.now (length out.old)) t.old store.old out.old a payload.now result t.new store.new out.new }
 {
     let found = look_up(
         &t.used,
@@ -82,22 +80,13 @@ pub fn push_step(
     let held = totals_at(&t.sender_keys, &t.sender_places, found.first);
     let step = choose(found, held, store.len(), payload.len(), a.fragment.last);
     match step {
-        Step::Refuse(refusal) => AfterPush {
-            table: t,
-            answer: Pushed::Refused(refusal),
-        },
-        Step::Duplicate => AfterPush {
-            table: t,
-            answer: Pushed::DuplicatedFragment,
-        },
+        Step::Refuse(refusal) => Pushed::Refused(refusal),
+        Step::Duplicate => Pushed::DuplicatedFragment,
         Step::Keep => {
             let size = payload.len();
             copy(payload, 0, size, store, found.free * PLACE_SIZE);
-            let table = with_fragment(t, found, held, a, size);
-            AfterPush {
-                table,
-                answer: Pushed::WaitingForMoreFragments,
-            }
+            with_fragment(t, found, held, a, size);
+            Pushed::WaitingForMoreFragments
         }
         Step::Join => {
             let last = compare(
@@ -108,9 +97,24 @@ pub fn push_step(
                 a.fragment,
             );
             let verdict = finish(&t.sizes, &t.owners, &t.numbers, store, payload, last, out);
-            let answer = verdict.answer;
-            let table = without_key(t, verdict.dropped);
-            AfterPush { table, answer }
+            drop_key(t, verdict.dropped);
+            verdict.answer
         }
     }
+}
+
+// The same step by value. Returns the table after it, and the answer.
+pub fn push_step(
+    t: Table,
+    store: &mut [u8],
+    out: &mut [u8],
+    a: Arrival,
+    payload: &[u8],
+) -> AfterPush
+    requires { Made t }
+    ensures { Goes (way t store.old a payload.now (length out.old)) t store.old out.old a payload.now result.answer result.table store.new out.new }
+{
+    let mut n = t;
+    let answer = push_in_place(&mut n, store, out, a, payload);
+    AfterPush { table: n, answer }
 }

@@ -34,17 +34,10 @@ fn without_total(totals: [u8; KEYS], row: usize) -> [u8; KEYS]
 
 // Rules T6 and T15: the table with a fragment in the lowest free place, under the row that has its key or gets it. A row
 // that gets its key may be the lowest one of its sender, with which the totals are.
-pub(crate) fn with_fragment(
-    t: Table,
-    found: LookedUp,
-    held: Totals,
-    a: Arrival,
-    size: usize,
-) -> Table
+pub(crate) fn with_fragment(n: &mut Table, found: LookedUp, held: Totals, a: Arrival, size: usize)
     requires { (found.free < places) × (under_row_lem found < keys) × (held.places < most_places) × (keys ≤ found.row → held.keys < most_keys) × (size ≤ place_size) }
-    ensures { result ≡ kept_by_lem found held t a size }
+    ensures { n.new ≡ kept_by_lem found held n.old a size }
 {
-    let mut n = t;
     let place = found.free;
     let row = under_row(found);
     let mut keys = held.keys;
@@ -64,5 +57,4 @@ pub(crate) fn with_fragment(
     let first = lower_row(row, found.first);
     n.sender_keys[first] = keys;
     n.sender_places[first] = held.places + 1;
-    n
 }

@@ -39,14 +39,12 @@ pub fn show<'a>(answer: Pushed, payload: &'a [u8], out: &'a [u8]) -> &'a [u8]
     }
 }
 
-// Rules T4 to T9: a push to the lent table, which is changed in place. push_step does the work.
+// Rules T4 to T9: a push to the lent table, which is changed in place. push_in_place does the work.
 pub fn push(t: &mut Table, store: &mut [u8], out: &mut [u8], a: Arrival, payload: &[u8]) -> Pushed
     requires { Made t.old }
     ensures { Goes (way t.old store.old a payload.now (length out.old)) t.old store.old out.old a payload.now result t.new store.new out.new }
 {
-    let stepped = pushing::push_step(*t, store, out, a, payload);
-    *t = stepped.table;
-    stepped.answer
+    pushing::push_in_place(t, store, out, a, payload)
 }
 
 // Rules S1 and S2: a sweep of the lent table, which is changed in place. sweep_step does the work. Returns how many

@@ -7,7 +7,7 @@ ghost use Rattle.std.specs.Prelude.{◌≡◌};
 ghost use Rattle.sweeping.specs.Sweep.{swept};
 
 use ages::next_expired;
-use table::{KEYS, Table, without_key};
+use table::{KEYS, Table, drop_key};
 
 // The table after a sweep, and how many keys it dropped (rule S2).
 #[derive(Clone, Copy)]
@@ -24,7 +24,7 @@ pub fn sweep_step(t: Table, time: u64) -> Swept
     let mut dropped: usize = 0;
     let mut row = next_expired(&n.used, &n.firsts, 0, time);
     while row < KEYS {
-        n = without_key(n, row);
+        drop_key(&mut n, row);
         dropped += 1;
         row = next_expired(&n.used, &n.firsts, row + 1, time);
     }

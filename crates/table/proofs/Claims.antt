@@ -12,5 +12,6 @@ claims = record {
     totals_at = λ sender-keys sender-places row. by_equation (totals_in sender-keys sender-places row);
     lower_row = λ a b. by_equation (lower_row_lem a b);
     without_key = λ t row. by_equation (dropped_key_lem t row);
+    drop_key = λ t row. by_equation (dropped_key_lem t row);
   };
 }

@@ -12,6 +12,7 @@ pub record Firmness : Type 0 where
   pub totals_at : (sender-keys sender-places : List ℕ) (row : ℕ) → Firm {A = Totals} (λ r. r ≡ totals_in sender-keys sender-places row)
   pub lower_row : (a b : ℕ) → Firm (λ r. r ≡ lower_row_lem a b)
   pub without_key : (t : Table) (row : ℕ) → Firm {A = Table} (λ r. r ≡ dropped_key_lem t row)
+  pub drop_key : (t : Table) (row : ℕ) → Firm {A = Table} (λ n. n ≡ dropped_key_lem t row)
 
 -- everything that is claimed of this crate
 pub record Claims : Type 0 where

@@ -126,12 +126,20 @@ fn less(a: u8, b: u8) -> u8
 
 // Rules T12 and T15: the table without a row's key. The row and its places are as fresh ones, and its sender's totals
 // are less by one key and these places. For a row that has no key, nothing is dropped. There is one pass over the
-// places, and one search for the sender's next row, so that the compiler puts this function into push and sweep. As a
-// call it would keep a copy of the table on the stack.
+// places, and one search for the sender's next row.
 pub fn without_key(t: Table, row: usize) -> Table
     ensures { result ≡ dropped_key_lem t row }
 {
     let mut n = t;
+    drop_key(&mut n, row);
+    n
+}
+
+// The same in place, so that push and sweep need no copies of the table on the stack: the compiler gives each local of
+// a function bytes of its own there.
+pub fn drop_key(n: &mut Table, row: usize)
+    ensures { n.new ≡ dropped_key_lem n.old row }
+{
     if row < KEYS {
         if n.used[row] {
             let owner = row as u8 + 1;
@@ -164,5 +172,4 @@ pub fn without_key(t: Table, row: usize) -> Table
             }
         }
     }
-    n
 }

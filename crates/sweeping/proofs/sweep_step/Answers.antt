@@ -30,12 +30,12 @@ loop-row-preserved c =
     let next = c.next_expired-row-in-loop-row.ensures in
     let used : get_or c.loop-row.n.used row false ≡ true
     = ap (λ (z : Swept). get_or z.table.used row false) c.loop-row.invariant.1 ∙ expired_used a.t a.time row (c.loop-row.invariant.3 in-16) in
-    let here : swept_as c.without_key-n.result (c.loop-row.dropped + 1) ≡ swept_to a.t a.time (row + 1)
-    = ap (λ (z : Table). swept_as z (c.loop-row.dropped + 1)) (c.without_key-n.ensures ∙ rw used)
+    let here : swept_as c.drop_key.new.n (c.loop-row.dropped + 1) ≡ swept_to a.t a.time (row + 1)
+    = ap (λ (z : Table). swept_as z (c.loop-row.dropped + 1)) (c.drop_key.ensures ∙ rw used)
     ∙ ap (λ (z : Swept). swept_as (without z.table row) (z.dropped + 1)) c.loop-row.invariant.1
     ∙ swept_here a.t a.time row (c.loop-row.invariant.3 in-16) in
     let table_is = ap (λ (z : Swept). z.table) here in
-    let as_was : (j : ℕ) → row + 1 ≤ j → expired a.t a.time j ≡ expired c.without_key-n.result a.time j
+    let as_was : (j : ℕ) → row + 1 ≤ j → expired a.t a.time j ≡ expired c.drop_key.new.n a.time j
     = λ j l. sym (ap (λ (z : Table). expired z a.time j) table_is ∙ expired_later a.t a.time (row + 1) j l) in (
       next.within,
       here ∙ swept_skip a.t a.time (row + 1) c.next_expired-row-in-loop-row.result next.behind (λ j l m. as_was j l ∙ next.young j l m),

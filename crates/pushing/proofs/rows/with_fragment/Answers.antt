@@ -29,8 +29,8 @@ returns c =
     let under = c.under_row-row in
     let low = c.lower_row-first in
     let joined = c.if-found-ge-KEYS in
-    let kept = kept_by a.t a.found a.held a.a a.size under.result under.ensures in
+    let kept = kept_by a.n.now a.found a.held a.a a.size under.result under.ensures in
     elim joined.branch [
-      | then-found-ge-KEYS w ↦ kept true (le-leb _ _ w.if-found-ge-KEYS.true) joined.n (w.n-is ∙ opened_by a.t a.found a.held a.a a.size under.result under.ensures _ _ w.without_total-n.ensures w.without_total-n-then-found-ge-KEYS.ensures) joined.keys w.keys-is low.result low.ensures
+      | then-found-ge-KEYS w ↦ kept true (le-leb _ _ w.if-found-ge-KEYS.true) joined.n (w.n-is ∙ opened_by a.n.now a.found a.held a.a a.size under.result under.ensures _ _ w.without_total-n.ensures w.without_total-n-then-found-ge-KEYS.ensures) joined.keys w.keys-is low.result low.ensures
       | else-found-ge-KEYS w ↦ kept false (lt-leb _ _ w.if-found-ge-KEYS.false) joined.n w.n-is joined.keys w.keys-is low.result low.ensures
     ]

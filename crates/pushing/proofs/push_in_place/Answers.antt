@@ -26,7 +26,7 @@ use Rattle.pushing.proofs.Sound.{sound}
 use Rattle.pushing.proofs.Ways.{reached}
 use Rattle.pushing.proofs.Pieces.{judged}
 use Rattle.pushing.proofs.Steps.{Fits, keep_room, keep_goes, join_goes}
-use Rattle.pushing.proofs.push_step.Goals as goal
+use Rattle.pushing.proofs.push_in_place.Goals as goal
 
 -- once the step is chosen
 module _ (t : Table) (made : Made t) (stored lent : List ℕ) (arrival : Arrival) (payload : List ℕ) (found : LookedUp) (held : Totals) (step : Step)
@@ -90,55 +90,55 @@ module _ (t : Table) (made : Made t) (stored lent : List ℕ) (arrival : Arrival
 
 pub look_up-found-requires : goal.look_up-found-requires
 look_up-found-requires c h =
-    no_place c.args.t (sound c.requires) (row_of c.args.t c.args.a.key) c.args.a.fragment.number h
+    no_place c.args.t.now (sound c.requires) (row_of c.args.t.now c.args.a.key) c.args.a.fragment.number h
 
 pub overflow_mul-found : goal.overflow_mul-found
 overflow_mul-found c =
     let a = c.args in
-    let has = room a.t c.requires a.store.now a.out.now a.a a.payload.now c.look_up-found.result c.totals_at-held.result c.choose-step.result c.look_up-found.ensures c.totals_at-held.ensures c.choose-step.ensures c.in-Keep.is in
+    let has = room a.t.now c.requires a.store.now a.out.now a.a a.payload.now c.look_up-found.result c.totals_at-held.result c.choose-step.result c.look_up-found.ensures c.totals_at-held.ensures c.choose-step.ensures c.in-Keep.is in
     omega (arith, has.2)
 
 pub copy-requires : goal.copy-requires
 copy-requires c =
     let a = c.args in
-    let has = room a.t c.requires a.store.now a.out.now a.a a.payload.now c.look_up-found.result c.totals_at-held.result c.choose-step.result c.look_up-found.ensures c.totals_at-held.ensures c.choose-step.ensures c.in-Keep.is in
+    let has = room a.t.now c.requires a.store.now a.out.now a.a a.payload.now c.look_up-found.result c.totals_at-held.result c.choose-step.result c.look_up-found.ensures c.totals_at-held.ensures c.choose-step.ensures c.in-Keep.is in
     (omega arith, omega (arith, has.0, has.1, has.2))
 
-pub with_fragment-table-requires : goal.with_fragment-table-requires
-with_fragment-table-requires c =
+pub with_fragment-requires : goal.with_fragment-requires
+with_fragment-requires c =
     let a = c.args in
-    let has = room a.t c.requires a.store.now a.out.now a.a a.payload.now c.look_up-found.result c.totals_at-held.result c.choose-step.result c.look_up-found.ensures c.totals_at-held.ensures c.choose-step.ensures c.in-Keep.is in
+    let has = room a.t.now c.requires a.store.now a.out.now a.a a.payload.now c.look_up-found.result c.totals_at-held.result c.choose-step.result c.look_up-found.ensures c.totals_at-held.ensures c.choose-step.ensures c.in-Keep.is in
     (has.2, has.3, has.4, has.5, has.1)
 
 pub compare-last-requires : goal.compare-last-requires
 compare-last-requires c =
     let a = c.args in
-    row_in a.t c.requires a.store.now a.out.now a.a a.payload.now c.look_up-found.result c.totals_at-held.result c.choose-step.result c.look_up-found.ensures c.totals_at-held.ensures c.choose-step.ensures
+    row_in a.t.now c.requires a.store.now a.out.now a.a a.payload.now c.look_up-found.result c.totals_at-held.result c.choose-step.result c.look_up-found.ensures c.totals_at-held.ensures c.choose-step.ensures
 
 pub finish-verdict-requires : goal.finish-verdict-requires
 finish-verdict-requires c =
     let a = c.args in
-    let inside = row_in a.t c.requires a.store.now a.out.now a.a a.payload.now c.look_up-found.result c.totals_at-held.result c.choose-step.result c.look_up-found.ensures c.totals_at-held.ensures c.choose-step.ensures in
-    let long = at_end_lem a.t c.requires a.store.now a.out.now a.a a.payload.now c.look_up-found.result c.totals_at-held.result c.choose-step.result c.look_up-found.ensures c.totals_at-held.ensures c.choose-step.ensures c.in-Join.is in
+    let inside = row_in a.t.now c.requires a.store.now a.out.now a.a a.payload.now c.look_up-found.result c.totals_at-held.result c.choose-step.result c.look_up-found.ensures c.totals_at-held.ensures c.choose-step.ensures in
+    let long = at_end_lem a.t.now c.requires a.store.now a.out.now a.a a.payload.now c.look_up-found.result c.totals_at-held.result c.choose-step.result c.look_up-found.ensures c.totals_at-held.ensures c.choose-step.ensures c.in-Join.is in
     (omega (arith, inside, ap (λ (l : Compared). l.row) c.compare-last.ensures), (sound c.requires).small, long.0, long.1)
 
 pub returns-in-Refuse : goal.returns-in-Refuse
 returns-in-Refuse c =
     let a = c.args in
-    rw (way_is a.t c.requires a.store.now a.out.now a.a a.payload.now c.look_up-found.result c.totals_at-held.result c.choose-step.result c.look_up-found.ensures c.totals_at-held.ensures c.choose-step.ensures _ c.in-Refuse.is) (record { answers = refl; keeps = refl; stores = refl; puts = refl })
+    rw (way_is a.t.now c.requires a.store.now a.out.now a.a a.payload.now c.look_up-found.result c.totals_at-held.result c.choose-step.result c.look_up-found.ensures c.totals_at-held.ensures c.choose-step.ensures _ c.in-Refuse.is) (record { answers = refl; keeps = refl; stores = refl; puts = refl })
 
 pub returns-in-Duplicate : goal.returns-in-Duplicate
 returns-in-Duplicate c =
     let a = c.args in
-    rw (way_is a.t c.requires a.store.now a.out.now a.a a.payload.now c.look_up-found.result c.totals_at-held.result c.choose-step.result c.look_up-found.ensures c.totals_at-held.ensures c.choose-step.ensures _ c.in-Duplicate.is) (record { answers = refl; keeps = refl; stores = refl; puts = refl })
+    rw (way_is a.t.now c.requires a.store.now a.out.now a.a a.payload.now c.look_up-found.result c.totals_at-held.result c.choose-step.result c.look_up-found.ensures c.totals_at-held.ensures c.choose-step.ensures _ c.in-Duplicate.is) (record { answers = refl; keeps = refl; stores = refl; puts = refl })
 
 pub returns-in-Keep : goal.returns-in-Keep
 returns-in-Keep c =
     let a = c.args in
-    kept a.t c.requires a.store.now a.out.now a.a a.payload.now c.look_up-found.result c.totals_at-held.result c.choose-step.result c.look_up-found.ensures c.totals_at-held.ensures c.choose-step.ensures c.in-Keep.is _ c.with_fragment-table.ensures _ c.copy.ensures
+    kept a.t.now c.requires a.store.now a.out.now a.a a.payload.now c.look_up-found.result c.totals_at-held.result c.choose-step.result c.look_up-found.ensures c.totals_at-held.ensures c.choose-step.ensures c.in-Keep.is _ c.with_fragment.ensures _ c.copy.ensures
 
 pub returns-in-Join : goal.returns-in-Join
 returns-in-Join c =
     let a = c.args in
-    joined a.t c.requires a.store.now a.out.now a.a a.payload.now c.look_up-found.result c.totals_at-held.result c.choose-step.result c.look_up-found.ensures c.totals_at-held.ensures c.choose-step.ensures (number_byte a.a _ c.well_formed.1.1.1.0)
-    c.in-Join.is c.compare-last.result c.compare-last.ensures c.finish-verdict.result _ c.finish-verdict.ensures _ c.without_key-table.ensures
+    joined a.t.now c.requires a.store.now a.out.now a.a a.payload.now c.look_up-found.result c.totals_at-held.result c.choose-step.result c.look_up-found.ensures c.totals_at-held.ensures c.choose-step.ensures (number_byte a.a _ c.well_formed.1.1.1.0)
+    c.in-Join.is c.compare-last.result c.compare-last.ensures c.finish-verdict.result _ c.finish-verdict.ensures _ c.drop_key.ensures

@@ -10,8 +10,8 @@ use Rattle.searching.specs.Count.{how_many}
 use Rattle.searching.proofs.Count.{count_before_all}
 use Rattle.table.specs.Rows.{owner_of}
 use Rattle.table.proofs.Freed.{row_cleared, freed_none, freed_met, freed_passed, counted_met, counted_passed, freed_all, lower_inside, lowered, none_left}
-use Rattle.table.proofs.without_key.Goals as goal
-use Rattle.table.proofs.without_key.Goals.{then-n-i, else-n-i}
+use Rattle.table.proofs.drop_key.Goals as goal
+use Rattle.table.proofs.drop_key.Goals.{then-n-i, else-n-i}
 
 pub bounds-n-first : goal.bounds-n-first
 bounds-n-first c = let inside = lower_inside c.args.row c.first_row-next.result (omega arith) in omega (arith, c.lower_row-first.ensures)
@@ -22,14 +22,14 @@ bounds-n-first-then-n-row c = let inside = lower_inside c.args.row c.first_row-n
 pub loop-i-init : goal.loop-i-init
 loop-i-init c =
     let a = c.args in
-    let start = row_cleared a.t a.row in
+    let start = row_cleared a.n.now a.row in
     (omega arith, freed_none (owner_of a.row) start, count_before_all (λ j. eqb (get_or start.owners j 0) (owner_of a.row)), omega arith)
 
 pub loop-i-preserved : goal.loop-i-preserved
 loop-i-preserved c =
     let a = c.args in
     let owner = owner_of a.row in
-    let start = row_cleared a.t a.row in
+    let start = row_cleared a.n.now a.row in
     let n = c.loop-i.n in
     let i = c.loop-i.i in
     let so_far = c.loop-i.invariant.1 in
@@ -51,7 +51,7 @@ loop-i-preserved c =
 
 pub returns-then-next-lt-KEYS : goal.returns-then-next-lt-KEYS
 returns-then-next-lt-KEYS c =
-    let t = c.args.t in
+    let t = c.args.n.now in
     let row = c.args.row in
     let first = c.lower_row-first in
     let used : get_or t.used row false ≡ true = c.if-n-row.true in
@@ -64,7 +64,7 @@ returns-then-next-lt-KEYS c =
 
 pub returns-else-next-lt-KEYS : goal.returns-else-next-lt-KEYS
 returns-else-next-lt-KEYS c =
-    let t = c.args.t in
+    let t = c.args.n.now in
     let row = c.args.row in
     let used : get_or t.used row false ≡ true = c.if-n-row.true in
     let done = c.loop-i.invariant.1 ∙ freed_all t row c.loop-i.i (let long : length t.owners ≡ 32 = search rules in omega arith) in
@@ -76,6 +76,6 @@ returns-else-n-row c = rw c.if-n-row.false
 pub returns-else-row-lt-KEYS : goal.returns-else-row-lt-KEYS
 returns-else-row-lt-KEYS c =
     let a = c.args in
-    let long : length a.t.used ≡ 16 = search rules in
-    let out : length a.t.used ≤ a.row = omega arith in
-    rw (get_or-eq_default a.t.used false out)
+    let long : length a.n.now.used ≡ 16 = search rules in
+    let out : length a.n.now.used ≤ a.row = omega arith in
+    rw (get_or-eq_default a.n.now.used false out)
