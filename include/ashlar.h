@@ -49,9 +49,9 @@
    Where bytes arrive piece by piece: a header or a payload that ends too early is refused with the number
    of bytes that are missing. A receive loop waits for that many more and calls again.
 
-   The archive libashlar.a is for x86-64 with the System V calling convention. It calls nothing but memcpy
-   and memset, and uses no heap. A call takes at most 1,536 bytes of stack, one of the station table at
-   most 1,024 (rule C3).
+   The archive libashlar.a is for x86-64 with the System V calling convention. It calls nothing but memcpy,
+   memmove and memset, and uses no heap. A call takes at most 1,536 bytes of stack, one of the station
+   table at most 1,024 (rule C3).
 
    Every call takes any bytes, lengths and numbers, and answers or refuses with a number of AshlarRefusal.
    A call that refuses leaves everything it was lent as it was (rules A1 to A3). The following can't be
