@@ -1,6 +1,5 @@
 pub mod Claims
 pub mod Copying
-pub mod Firm
 pub mod Heading
 pub mod Reading
 pub mod RoundTrip

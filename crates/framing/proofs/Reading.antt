@@ -10,7 +10,8 @@ use lib.Seq.{get_or-take}
 use borrow.Author.Tests.{ltb-false, lt-ltb, le-ltb}
 use Rattle.numbers.specs.Numbers.{gives, refuses}
 use Rattle.numbers.proofs.Bytes.{number_at_lem}
-use Rattle.framing.specs.Tlv.{TlvRead, read_tlv_lem, declared, value_in_lem, value_from}
+use Rattle.framing.specs.declared.TlvRead.{TlvRead}
+use Rattle.framing.specs.Tlv.{read_tlv_lem, declared, value_in_lem, value_from}
 
 pub short : (s : List ℕ) → length s < 3 → refuses 1 ((3 - length s) ∷ []) ≡ read_tlv_lem s
 unfolding read_tlv_lem

@@ -8,7 +8,8 @@ use lib.Seq.{take-append_seam, take-add, length-take-le}
 use Rattle.numbers.specs.Numbers.{gives}
 use Rattle.numbers.specs.Bytes.{in_bytes, AllBytes}
 use Rattle.numbers.proofs.Bytes.{said_back, bytes_at_back}
-use Rattle.framing.specs.Tlv.{TlvRead, read_tlv_lem, declared, value_in_lem, longest_value, tlv_bytes}
+use Rattle.framing.specs.declared.TlvRead.{TlvRead}
+use Rattle.framing.specs.Tlv.{read_tlv_lem, declared, value_in_lem, longest_value, tlv_bytes}
 use Rattle.framing.specs.Claims.{as_read_lem}
 use Rattle.framing.proofs.Reading.{whole, Reads, reads}
 

@@ -11,7 +11,8 @@ use borrow.Author.Tests.{ltb-true, ltb-false}
 use Rattle.numbers.specs.Numbers.{Answer, gives, refuses}
 use Rattle.numbers.proofs.Firm.{never}
 use Rattle.numbers.proofs.Bytes.{number_longer}
-use Rattle.framing.specs.Tlv.{TlvRead, read_tlv_lem, declared}
+use Rattle.framing.specs.declared.TlvRead.{TlvRead}
+use Rattle.framing.specs.Tlv.{read_tlv_lem, declared}
 use Rattle.framing.specs.Cmdu.{read_header}
 use Rattle.framing.specs.Claims.{number_in, Missing}
 use Rattle.framing.proofs.Reading as tlv

@@ -1,30 +1,31 @@
 -- What is claimed of this crate's calls; proofs/Claims.antt proves it.
-use Rattle.std.specs.Prelude.{◌≡◌, List, [], ◌∷◌, ◌++◌, ℕ, ◌+◌, ◌<◌, ◌≤◌, length, take}
+use Rattle.std.specs.Prelude.{◌≡◌, List, [], ◌∷◌, ◌++◌, ℕ, ◌+◌, ◌<◌, ◌≤◌, length, take, Result}
 use Rattle.std.specs.Borrow.{Bor}
-use Rattle.numbers.specs.Numbers.{Answer, gives, refuses}
+use Rattle.numbers.specs.Numbers.{Answer, gives, refuses, answered}
+use Rattle.numbers.specs.declared.Refusal.{Refusal}
 use Rattle.numbers.specs.Bytes.{AllBytes}
 use Rattle.numbers.specs.Parts.{behind}
 use Rattle.numbers.specs.Firmness.{Firm}
-use Rattle.framing.specs.Tlv.{TlvRead, read_of, read_tlv_lem, value_in_lem, value_from, header, tlv_bytes, written_of, longest_value, write_size, leaves}
-use Rattle.framing.specs.Cmdu.{header_of_lem, read_header, flags_for_lem, header_bytes_lem, header_size}
+use Rattle.framing.specs.Tlv.{read_tlv_lem, value_in_lem, value_from, header, tlv_bytes, longest_value, write_size, leaves}
+use Rattle.framing.specs.Cmdu.{read_header, flags_for_lem, header_bytes_lem, header_size}
 use Rattle.framing.specs.declared.CmduFields.{CmduFields}
 use Rattle.framing.specs.declared.CmduHeader.{CmduHeader}
-use Rattle.framing.specs.declared.Written.{Written}
+use Rattle.framing.specs.declared.TlvRead.{TlvRead}
 
 -- Rule A4, for each public call by its name: any two outcomes that its contract allows are one.
 pub record Firmness : Type 0 where
-  pub read_tlv : (s : List ℕ) → Firm (λ r. read_of r ≡ read_tlv_lem s)
+  pub read_tlv : (s : List ℕ) → Firm (λ r. answered r ≡ read_tlv_lem s)
   -- the part's bytes, and where it lies
   pub value : (s : Bor (List ℕ))
       → Firm {A = List ℕ × (ℕ × ℕ)} (λ o. (o.0 ≡ value_in_lem (read_tlv_lem s.now) s.now) × (o.1 ≡ behind (value_from (read_tlv_lem s.now)) s))
   -- the answer, and what the room holds
   pub write_header : (t n : ℕ) (out : List ℕ)
-      → Firm {A = Written × List ℕ} (λ o. (written_of o.0 ≡ write_size n (length out)) × (o.1 ≡ leaves (write_size n (length out)) (header t n) out))
+      → Firm {A = Result ℕ Refusal × List ℕ} (λ o. (answered o.0 ≡ write_size n (length out)) × (o.1 ≡ leaves (write_size n (length out)) (header t n) out))
   pub write_tlv : (t : ℕ) (bytes out : List ℕ)
-      → Firm {A = Written × List ℕ} (λ o. (written_of o.0 ≡ write_size (length bytes) (length out)) × (o.1 ≡ leaves (write_size (length bytes) (length out)) (tlv_bytes t bytes) out))
-  pub read_cmdu_header : (s : List ℕ) → Firm (λ h. header_of_lem h ≡ read_header s)
+      → Firm {A = Result ℕ Refusal × List ℕ} (λ o. (answered o.0 ≡ write_size (length bytes) (length out)) × (o.1 ≡ leaves (write_size (length bytes) (length out)) (tlv_bytes t bytes) out))
+  pub read_cmdu_header : (s : List ℕ) → Firm (λ h. answered h ≡ read_header s)
   pub write_cmdu_header : (fields : CmduFields) (out : List ℕ)
-      → Firm {A = Written × List ℕ} (λ o. (written_of o.0 ≡ header_size (length out)) × (o.1 ≡ leaves (header_size (length out)) (header_bytes_lem fields) out))
+      → Firm {A = Result ℕ Refusal × List ℕ} (λ o. (answered o.0 ≡ header_size (length out)) × (o.1 ≡ leaves (header_size (length out)) (header_bytes_lem fields) out))
 
 -- what reading returns for the TLV of type t and value v
 abbrev pub as_read_lem : ℕ → List ℕ → TlvRead

@@ -1,16 +1,9 @@
 -- The CMDU header (IEEE 1905.1, clause 6.2): how it is read (rule B6) and written (rule B7).
 use Rattle.std.specs.Prelude.{Bool, cond, List, [], ◌∷◌, ◌++◌, ℕ, ◌-◌, ◌/◌, ◌%◌, ltb, eqb, length, get_or}
-use Rattle.numbers.specs.Numbers.{Answer, gives, refuses, told}
+use Rattle.numbers.specs.Numbers.{Answer, gives, refuses}
 use Rattle.numbers.specs.Bytes.{number_at, in_bytes}
 use Rattle.framing.specs.declared.CmduFields.{CmduFields}
 use Rattle.framing.specs.declared.CmduHeader.{CmduHeader}
-use Rattle.framing.specs.declared.HeaderRead.{HeaderRead}
-use Rattle.framing.specs.declared.HeaderRead.TheVariants.{Header, Refused}
-
--- what each answer of `read_cmdu_header` says
-abbrev pub header_of_lem : HeaderRead → Answer CmduHeader
-header_of_lem (Header h) = gives h
-header_of_lem (Refused r) = told r
 
 -- Rule B6: the fields in the first 8 bytes.
 abbrev pub header_in : List ℕ → CmduHeader

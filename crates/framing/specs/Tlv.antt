@@ -1,21 +1,8 @@
 -- A TLV (rule B2; IEEE 1905.1, clause 6.4): how it is read (rule B3) and written (rule B5).
 use Rattle.std.specs.Prelude.{cond, List, [], ◌∷◌, ◌++◌, ℕ, ◌+◌, ◌-◌, ltb, length, take, drop, get_or}
-use Rattle.numbers.specs.Numbers.{Answer, gives, refuses, told}
+use Rattle.numbers.specs.Numbers.{Answer, gives, refuses}
 use Rattle.numbers.specs.Bytes.{number_at, in_bytes}
-use Rattle.framing.specs.declared.Read.{Read}
-use Rattle.framing.specs.declared.Written.{Written}
-
--- What reading returns (rule B3): the type, the length of the value that follows the first three bytes, and the bytes
--- consumed.
-pub record TlvRead : Type 0 where
-  pub tlv_type : ℕ
-  pub value_length : ℕ
-  pub consumed : ℕ
-
--- what each answer of `read_tlv` says
-abbrev pub read_of : Read → Answer TlvRead
-read_of (Read.Whole t n c) = gives (record { tlv_type = t; value_length = n; consumed = c })
-read_of (Read.Refused r) = told r
+use Rattle.framing.specs.declared.TlvRead.{TlvRead}
 
 -- Rule B2: the length that the two bytes after the type say.
 abbrev pub declared : List ℕ → ℕ
@@ -44,11 +31,6 @@ header t n = t ∷ in_bytes 2 n
 
 abbrev pub tlv_bytes : ℕ → List ℕ → List ℕ
 tlv_bytes t v = header t (length v) ++ v
-
--- what each answer of a writing call says
-abbrev pub written_of : Written → Answer ℕ
-written_of (Written.Bytes n) = gives n
-written_of (Written.Refused r) = told r
 
 -- Rule B5: the longest value that can be written. Its length just fits into two bytes.
 abbrev pub longest_value : ℕ

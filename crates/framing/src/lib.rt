@@ -3,9 +3,10 @@
 #![tactic(auto)]
 
 ghost use Rattle.std.specs.Prelude.{◌≡◌, ◌++◌, ◌≤◌, length, drop};
+ghost use Rattle.numbers.specs.Numbers.{answered};
 ghost use Rattle.numbers.specs.Parts.{behind};
-ghost use Rattle.framing.specs.Tlv.{read_of, read_tlv_lem, value_in_lem, value_from, written_of, write_size, header, tlv_bytes, leaves};
-ghost use Rattle.framing.specs.Cmdu.{header_of_lem, read_header, flags_for_lem, header_bytes_lem, header_size};
+ghost use Rattle.framing.specs.Tlv.{read_tlv_lem, value_in_lem, value_from, write_size, header, tlv_bytes, leaves};
+ghost use Rattle.framing.specs.Cmdu.{read_header, flags_for_lem, header_bytes_lem, header_size};
 
 use numbers::{Refusal, be16};
 
@@ -15,20 +16,10 @@ const LONGEST_VALUE: usize = 65535;
 // What reading a TLV finds (rule B3): its type, the length of its value, and the bytes consumed. The value follows the
 // first three bytes.
 #[derive(Clone, Copy)]
-pub enum Read {
-    Whole {
-        tlv_type: u8,
-        length: usize,
-        consumed: usize,
-    },
-    Refused(Refusal),
-}
-
-// How many bytes were written, at the start of the room (rule B5).
-#[derive(Clone, Copy)]
-pub enum Written {
-    Bytes(usize),
-    Refused(Refusal),
+pub struct TlvRead {
+    pub tlv_type: u8,
+    pub value_length: usize,
+    pub consumed: usize,
 }
 
 // The header of a CMDU, every field as it stands there (rule B6). `last_fragment` is bit 7 of `flags`.
@@ -55,29 +46,23 @@ pub struct CmduFields {
     pub last_fragment: bool,
 }
 
-#[derive(Clone, Copy)]
-pub enum HeaderRead {
-    Header(CmduHeader),
-    Refused(Refusal),
-}
-
 // Reads the TLV at the start of s (rule B3).
-pub fn read_tlv(s: &[u8]) -> Read
-    ensures { read_of result ≡ read_tlv_lem s.now }
+pub fn read_tlv(s: &[u8]) -> Result<TlvRead, Refusal>
+    ensures { answered result ≡ read_tlv_lem s.now }
 {
     if s.len() < 3 {
-        return Read::Refused(Refusal::TooFewBytes(3 - s.len()));
+        return Err(Refusal::TooFewBytes(3 - s.len()));
     }
-    let length = be16(s[1], s[2]);
-    let consumed = 3 + length;
+    let value_length = be16(s[1], s[2]);
+    let consumed = 3 + value_length;
     if s.len() < consumed {
-        return Read::Refused(Refusal::RunsPastEnd(consumed - s.len()));
+        return Err(Refusal::RunsPastEnd(consumed - s.len()));
     }
-    Read::Whole {
+    Ok(TlvRead {
         tlv_type: s[0],
-        length,
+        value_length,
         consumed,
-    }
+    })
 }
 
 // The value of the TLV at the start of s, as a part of s (rule B3). Where no TLV reads, it is the empty part at the
@@ -87,32 +72,28 @@ pub fn value(s: &[u8]) -> &[u8]
     ensures place { result.ref_ptr ≡ behind (value_from (read_tlv_lem s.now)) s.entry }
 {
     match read_tlv(s) {
-        Read::Whole {
-            tlv_type: _,
-            length: _,
-            consumed,
-        } => &s[3..consumed],
-        Read::Refused(_) => &s[0..0],
+        Ok(tlv) => &s[3..tlv.consumed],
+        Err(_) => &s[0..0],
     }
 }
 
 // Writes the first three bytes of a TLV whose value has `value_length` bytes, if there is room for the whole TLV (rule
 // B5). Whoever writes the value is then lent the room from byte 3 on.
-pub fn write_header(tlv_type: u8, value_length: usize, out: &mut [u8]) -> Written
-    ensures answer { written_of result ≡ write_size value_length (length out.old) }
+pub fn write_header(tlv_type: u8, value_length: usize, out: &mut [u8]) -> Result<usize, Refusal>
+    ensures answer { answered result ≡ write_size value_length (length out.old) }
     ensures bytes { out.new ≡ leaves (write_size value_length (length out.old)) (header tlv_type value_length) out.old }
 {
     if LONGEST_VALUE < value_length {
-        return Written::Refused(Refusal::ValueTooLong);
+        return Err(Refusal::ValueTooLong);
     }
     let size = 3 + value_length;
     if out.len() < size {
-        return Written::Refused(Refusal::NoRoom);
+        return Err(Refusal::NoRoom);
     }
     out[0] = tlv_type;
     out[1] = (value_length / 256) as u8;
     out[2] = (value_length % 256) as u8;
-    Written::Bytes(size)
+    Ok(size)
 }
 
 // Copies the bytes to the start of `out`.
@@ -120,37 +101,29 @@ fn put_bytes(bytes: &[u8], out: &mut [u8])
     requires { length bytes.now ≤ length out.old }
     ensures { out.new ≡ bytes.now ++ drop (length bytes.now) out.old }
 {
-    let mut i = 0;
-    while i < bytes.len() {
-        out[i] = bytes[i];
-        i += 1;
-    }
+    out[..bytes.len()].copy_from_slice(bytes);
 }
 
 // Writes the TLV with this type and value at the start of `out` (rule B5).
-pub fn write_tlv(tlv_type: u8, bytes: &[u8], out: &mut [u8]) -> Written
-    ensures answer { written_of result ≡ write_size (length bytes.now) (length out.old) }
+pub fn write_tlv(tlv_type: u8, bytes: &[u8], out: &mut [u8]) -> Result<usize, Refusal>
+    ensures answer { answered result ≡ write_size (length bytes.now) (length out.old) }
     ensures bytes { out.new ≡ leaves (write_size (length bytes.now) (length out.old)) (tlv_bytes tlv_type bytes.now) out.old }
 {
-    match write_header(tlv_type, bytes.len(), out) {
-        Written::Bytes(size) => {
-            put_bytes(bytes, &mut out[3..]);
-            Written::Bytes(size)
-        }
-        Written::Refused(refusal) => Written::Refused(refusal),
-    }
+    let size = write_header(tlv_type, bytes.len(), out)?;
+    put_bytes(bytes, &mut out[3..]);
+    Ok(size)
 }
 
 // Reads the header of the CMDU at the start of s (rule B6).
-pub fn read_cmdu_header(s: &[u8]) -> HeaderRead
-    ensures { header_of_lem result ≡ read_header s.now }
+pub fn read_cmdu_header(s: &[u8]) -> Result<CmduHeader, Refusal>
+    ensures { answered result ≡ read_header s.now }
 {
     if s.len() < 8 {
-        return HeaderRead::Refused(Refusal::TooFewBytes(8 - s.len()));
+        return Err(Refusal::TooFewBytes(8 - s.len()));
     }
     let message_type = be16(s[2], s[3]) as u16;
     let message_id = be16(s[4], s[5]) as u16;
-    HeaderRead::Header(CmduHeader {
+    Ok(CmduHeader {
         message_version: s[0],
         reserved: s[1],
         message_type,
@@ -188,14 +161,14 @@ fn header_bytes(fields: CmduFields) -> [u8; 8]
 }
 
 // Writes a CMDU header with these fields at the start of `out` (rule B7).
-pub fn write_cmdu_header(fields: CmduFields, out: &mut [u8]) -> Written
-    ensures answer { written_of result ≡ header_size (length out.old) }
+pub fn write_cmdu_header(fields: CmduFields, out: &mut [u8]) -> Result<usize, Refusal>
+    ensures answer { answered result ≡ header_size (length out.old) }
     ensures bytes { out.new ≡ leaves (header_size (length out.old)) (header_bytes_lem fields) out.old }
 {
     if out.len() < 8 {
-        return Written::Refused(Refusal::NoRoom);
+        return Err(Refusal::NoRoom);
     }
     let header = header_bytes(fields);
     put_bytes(&header, out);
-    Written::Bytes(8)
+    Ok(8)
 }

@@ -6,7 +6,8 @@ use Prim.Native.Nat.{ℕ}
 use native.Mathlib.Omega.{arith}
 use lib.ListN.{length, get_or, get_or-map}
 use Rattle.numbers.specs.Firmness.{Firm}
-use Rattle.numbers.specs.Numbers.{gives, refuses, told, number, values, carried}
+use Rattle.std.specs.Prelude.{Result, Ok, Err}
+use Rattle.numbers.specs.Numbers.{Answer, gives, refuses, told, answered, number, values, carried}
 use Rattle.numbers.specs.declared.Refusal.{Refusal}
 use Rattle.numbers.specs.declared.Refusal.TheVariants.{TooFewBytes, RunsPastEnd, CutShort, LeftOver, BadValue, NoEntry, NoRoom, ValueTooLong, NeverRead, TableFull, StoreTooSmall, PayloadTooLong, OutputTooSmall, ListTooShort, NotFound, UnknownKind, NoStationRoom, NotText, NoReport, SenderFull, NoCutting, NotACapture, BadFrame}
 
@@ -69,6 +70,16 @@ by_equation defined a b p q = p ∙ sym q
 -- an answer that is said as an `Answer`, if no two are said alike
 pub by_telling : {A B : Type 0} (tell : A → B) → ((a b : A) → tell a ≡ tell b → a ≡ b) → (defined : B) → Firm (λ a. tell a ≡ defined)
 by_telling tell one defined a b p q = one a b (p ∙ sym q)
+
+-- a result that is said by what it answers
+answered_one : {A : Type 0} (a b : Result A Refusal) → answered a ≡ answered b → a ≡ b
+answered_one (Ok a) (Ok b) e = ap Ok (cc)
+answered_one (Ok a) (Err r) e = never _ _ _ e
+answered_one (Err r) (Ok b) e = never _ _ _ (sym e)
+answered_one {A = A} (Err r) (Err r') e = ap Err (firm A r r' e)
+
+pub by_answer : {A : Type 0} (defined : Answer A) → Firm (λ r. answered r ≡ defined)
+by_answer defined a b p q = answered_one a b (p ∙ sym q)
 
 -- an answer together with what was lent
 pub both : {A B : Type 0} (P : A → Type 0) (Q : B → Type 0) → Firm P → Firm Q → Firm {A = A × B} (λ o. P o.0 × Q o.1)

@@ -1,5 +1,5 @@
 -- Rule N1: the number for each refusal, and the values that it carries.
-use Rattle.std.specs.Prelude.{Bool, true, false, List, [], ◌∷◌, ℕ, get_or}
+use Rattle.std.specs.Prelude.{Bool, true, false, List, [], ◌∷◌, ℕ, get_or, Result, Ok, Err}
 use Rattle.numbers.specs.declared.Refusal.{Refusal}
 use Rattle.numbers.specs.declared.Refusal.TheVariants.{TooFewBytes, RunsPastEnd, CutShort, LeftOver, BadValue, NoEntry, NoRoom, ValueTooLong, NeverRead, TableFull, StoreTooSmall, PayloadTooLong, OutputTooSmall, ListTooShort, NotFound, UnknownKind, NoStationRoom, NotText, NoReport, SenderFull, NoCutting, NotACapture, BadFrame}
 
@@ -59,6 +59,11 @@ values r = (numbered r).1
 -- a refusal as an answer
 abbrev pub told : {A : Type 0} → Refusal → Answer A
 told r = refuses (number r) (values r)
+
+-- what a call's result says
+abbrev pub answered : {A : Type 0} → Result A Refusal → Answer A
+answered (Ok a) = gives a
+answered (Err r) = told r
 
 -- what it carries: the first of its values, or 0 where it has none
 abbrev pub carried : Refusal → ℕ

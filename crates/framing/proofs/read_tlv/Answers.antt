@@ -12,9 +12,9 @@ returns-then-s-lt3 c = short _ c.if-s-lt3.true
 pub returns-then-s-consumed : goal.returns-then-s-consumed
 returns-then-s-consumed c =
     let s = c.args.s.now in
-    past_end s _ (c.be16-length.ensures.0 ∙ number_at_lem 2 1 s (omega arith)) (search rules) c.if-s-consumed.true
+    past_end s _ (c.be16-value_length.ensures.0 ∙ number_at_lem 2 1 s (omega arith)) (search rules) c.if-s-consumed.true
 
 pub returns : goal.returns
 returns c =
     let s = c.args.s.now in
-    whole s _ (c.be16-length.ensures.0 ∙ number_at_lem 2 1 s (omega arith)) (search rules) (search rules)
+    whole s _ (c.be16-value_length.ensures.0 ∙ number_at_lem 2 1 s (omega arith)) (search rules) (search rules)
