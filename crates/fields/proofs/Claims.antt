@@ -7,9 +7,7 @@ use borrow.Author.Tests.{eqb-true}
 use lib.Dec.{eqb, T}
 use lib.ListN.{length, length-append}
 use Rattle.numbers.specs.Numbers.{gives}
-use Rattle.numbers.proofs.Firm.{by_equation, by_telling, both, never}
-use Rattle.framing.specs.Tlv.{written_of}
-use Rattle.framing.proofs.Firm.{written_one}
+use Rattle.numbers.proofs.Firm.{by_equation, by_answer, both, never}
 use Rattle.records.specs.Values.{octets}
 use Rattle.layouts.specs.Layouts.{Layout, radio_fields, layout_of}
 use Rattle.texts.specs.Texts.{inventory_code}
@@ -35,16 +33,16 @@ firmness = record {
   byte = λ code s at. by_equation _;
   radio = λ code s at. by_equation _;
   bss = λ code s at. by_equation _;
-  put_bytes = λ own out. both _ _ (by_telling written_of written_one _) (by_equation _);
-  put_count = λ n out. both _ _ (by_telling written_of written_one _) (by_equation _);
-  put_front = λ code local neighbour out. both _ _ (by_telling written_of written_one _) (by_equation _);
-  put_neighbour = λ code neighbour out. both _ _ (by_telling written_of written_one _) (by_equation _);
-  put_interface = λ code interface out. both _ _ (by_telling written_of written_one _) (by_equation _);
-  put_ipv4 = λ ipv4 out. both _ _ (by_telling written_of written_one _) (by_equation _);
-  put_ipv6 = λ ipv6 out. both _ _ (by_telling written_of written_one _) (by_equation _);
-  put_byte = λ code byte out. both _ _ (by_telling written_of written_one _) (by_equation _);
-  put_radio = λ code id text out. both _ _ (by_telling written_of written_one _) (by_equation _);
-  put_bss = λ code bss name out. both _ _ (by_telling written_of written_one _) (by_equation _);
+  put_bytes = λ own out. both _ _ (by_answer _) (by_equation _);
+  put_count = λ n out. both _ _ (by_answer _) (by_equation _);
+  put_front = λ code local neighbour out. both _ _ (by_answer _) (by_equation _);
+  put_neighbour = λ code neighbour out. both _ _ (by_answer _) (by_equation _);
+  put_interface = λ code interface out. both _ _ (by_answer _) (by_equation _);
+  put_ipv4 = λ ipv4 out. both _ _ (by_answer _) (by_equation _);
+  put_ipv6 = λ ipv6 out. both _ _ (by_answer _) (by_equation _);
+  put_byte = λ code byte out. both _ _ (by_answer _) (by_equation _);
+  put_radio = λ code id text out. both _ _ (by_answer _) (by_equation _);
+  put_bss = λ code bss name out. both _ _ (by_answer _) (by_equation _);
 }
 
 -- at an entry that is found, no fields of its row are refused

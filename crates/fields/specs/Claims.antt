@@ -1,10 +1,10 @@
 -- What is claimed of this crate's calls and definitions; proofs/Claims.antt proves it.
-use Rattle.std.specs.Prelude.{◌≡◌, ℕ, ◌+◌, ◌<◌, leb, length, take, drop, get_or}
+use Rattle.std.specs.Prelude.{◌≡◌, ℕ, ◌+◌, ◌<◌, leb, length, take, drop, get_or, Result}
 use mathlib.Core.List.{List, [], ◌∷◌, ◌++◌, flatten}
-use Rattle.numbers.specs.Numbers.{Answer, gives}
+use Rattle.numbers.specs.Numbers.{Answer, gives, answered}
 use Rattle.numbers.specs.Firmness.{Firm}
-use Rattle.framing.specs.declared.Written.{Written}
-use Rattle.framing.specs.Tlv.{written_of, leaves}
+use Rattle.numbers.specs.declared.Refusal.{Refusal}
+use Rattle.framing.specs.Tlv.{leaves}
 use Rattle.records.specs.declared.MacAddr.{MacAddr}
 use Rattle.records.specs.Values.{octets, address_at_lem}
 use Rattle.layouts.specs.Layouts.{size_of, place}
@@ -35,44 +35,44 @@ pub record Firmness : Type 0 where
   pub radio : (code : ℕ) (s : List ℕ) (at : ℕ) → Firm (λ r. r ≡ radio_at code s at)
   pub bss : (code : ℕ) (s : List ℕ) (at : ℕ) → Firm (λ r. r ≡ bss_at code s at)
   pub put_bytes : (own out : List ℕ)
-      → Firm {A = Written × List ℕ} (λ o.
-      (written_of o.0 ≡ put_size (gives own) (length out))
+      → Firm {A = Result ℕ Refusal × List ℕ} (λ o.
+      (answered o.0 ≡ put_size (gives own) (length out))
       × (o.1 ≡ leaves (put_size (gives own) (length out)) own out))
   pub put_count : (n : ℕ) (out : List ℕ)
-      → Firm {A = Written × List ℕ} (λ o.
-      (written_of o.0 ≡ put_size (count_made n) (length out))
+      → Firm {A = Result ℕ Refusal × List ℕ} (λ o.
+      (answered o.0 ≡ put_size (count_made n) (length out))
       × (o.1 ≡ leaves (put_size (count_made n) (length out)) (made_bytes (count_made n)) out))
   pub put_front : (code : ℕ) (local neighbour : MacAddr) (out : List ℕ)
-      → Firm {A = Written × List ℕ} (λ o.
-      (written_of o.0 ≡ put_size (front_made code local neighbour) (length out))
+      → Firm {A = Result ℕ Refusal × List ℕ} (λ o.
+      (answered o.0 ≡ put_size (front_made code local neighbour) (length out))
       × (o.1 ≡ leaves (put_size (front_made code local neighbour) (length out)) (made_bytes (front_made code local neighbour)) out))
   pub put_neighbour : (code : ℕ) (neighbour : AshlarNeighbour) (out : List ℕ)
-      → Firm {A = Written × List ℕ} (λ o.
-      (written_of o.0 ≡ put_size (neighbour_made code neighbour) (length out))
+      → Firm {A = Result ℕ Refusal × List ℕ} (λ o.
+      (answered o.0 ≡ put_size (neighbour_made code neighbour) (length out))
       × (o.1 ≡ leaves (put_size (neighbour_made code neighbour) (length out)) (made_bytes (neighbour_made code neighbour)) out))
   pub put_interface : (code : ℕ) (interface : AshlarInterface) (out : List ℕ)
-      → Firm {A = Written × List ℕ} (λ o.
-      (written_of o.0 ≡ put_size (interface_made code interface) (length out))
+      → Firm {A = Result ℕ Refusal × List ℕ} (λ o.
+      (answered o.0 ≡ put_size (interface_made code interface) (length out))
       × (o.1 ≡ leaves (put_size (interface_made code interface) (length out)) (made_bytes (interface_made code interface)) out))
   pub put_ipv4 : (ipv4 : AshlarIpv4) (out : List ℕ)
-      → Firm {A = Written × List ℕ} (λ o.
-      (written_of o.0 ≡ put_size (ipv4_made ipv4) (length out))
+      → Firm {A = Result ℕ Refusal × List ℕ} (λ o.
+      (answered o.0 ≡ put_size (ipv4_made ipv4) (length out))
       × (o.1 ≡ leaves (put_size (ipv4_made ipv4) (length out)) (made_bytes (ipv4_made ipv4)) out))
   pub put_ipv6 : (ipv6 : AshlarIpv6) (out : List ℕ)
-      → Firm {A = Written × List ℕ} (λ o.
-      (written_of o.0 ≡ put_size (ipv6_made ipv6) (length out))
+      → Firm {A = Result ℕ Refusal × List ℕ} (λ o.
+      (answered o.0 ≡ put_size (ipv6_made ipv6) (length out))
       × (o.1 ≡ leaves (put_size (ipv6_made ipv6) (length out)) (made_bytes (ipv6_made ipv6)) out))
   pub put_byte : (code byte : ℕ) (out : List ℕ)
-      → Firm {A = Written × List ℕ} (λ o.
-      (written_of o.0 ≡ put_size (byte_made code byte) (length out))
+      → Firm {A = Result ℕ Refusal × List ℕ} (λ o.
+      (answered o.0 ≡ put_size (byte_made code byte) (length out))
       × (o.1 ≡ leaves (put_size (byte_made code byte) (length out)) (made_bytes (byte_made code byte)) out))
   pub put_radio : (code : ℕ) (id : MacAddr) (text out : List ℕ)
-      → Firm {A = Written × List ℕ} (λ o.
-      (written_of o.0 ≡ put_size (radio_made code id text) (length out))
+      → Firm {A = Result ℕ Refusal × List ℕ} (λ o.
+      (answered o.0 ≡ put_size (radio_made code id text) (length out))
       × (o.1 ≡ leaves (put_size (radio_made code id text) (length out)) (made_bytes (radio_made code id text)) out))
   pub put_bss : (code : ℕ) (bss : AshlarBss) (name out : List ℕ)
-      → Firm {A = Written × List ℕ} (λ o.
-      (written_of o.0 ≡ put_size (bss_made code bss name) (length out))
+      → Firm {A = Result ℕ Refusal × List ℕ} (λ o.
+      (answered o.0 ≡ put_size (bss_made code bss name) (length out))
       × (o.1 ≡ leaves (put_size (bss_made code bss name) (length out)) (made_bytes (bss_made code bss name)) out))
 
 -- Rules E1 and E11: an entry that numbers lead to, as many as its row says, has what P says of where it lies.

@@ -1,11 +1,10 @@
 // An entry put into lent room: its own fields, and the text after them (rule O5).
 ghost use Rattle.std.specs.Prelude.{◌≡◌, true, false, ◌&&◌, [], ◌++◌, ◌+◌, ◌≤◌, leb, length, take, drop};
-ghost use Rattle.numbers.specs.Numbers.{gives};
-ghost use Rattle.framing.specs.Tlv.{written_of, leaves};
+ghost use Rattle.numbers.specs.Numbers.{answered, gives};
+ghost use Rattle.framing.specs.Tlv.{leaves};
 ghost use Rattle.fields.specs.Writing.{only_zeros_lem, text_bytes, longest_text_lem, put_size, made_bytes};
 ghost use Rattle.fields.specs.PrivateSteps.{made_with};
 
-use framing::Written;
 use numbers::Refusal;
 
 // How many bytes the own fields of an entry have, 0 where a kind has no such entry, and whether a text follows them.
@@ -16,15 +15,15 @@ pub(crate) struct Shape {
 }
 
 // Copies the bytes to the start of `out`, if it has room for them.
-pub fn put_bytes(own: &[u8], out: &mut [u8]) -> Written
-    ensures answer { written_of result ≡ put_size (gives own.now) (length out.old) }
+pub fn put_bytes(own: &[u8], out: &mut [u8]) -> Result<usize, Refusal>
+    ensures answer { answered result ≡ put_size (gives own.now) (length out.old) }
     ensures bytes { out.new ≡ leaves (put_size (gives own.now) (length out.old)) own.now out.old }
 {
     if out.len() < own.len() {
-        return Written::Refused(Refusal::NoRoom);
+        return Err(Refusal::NoRoom);
     }
     out[..own.len()].copy_from_slice(own);
-    Written::Bytes(own.len())
+    Ok(own.len())
 }
 
 // Puts the length of a text and the text at the start of `out`, which has room for them.
@@ -38,20 +37,20 @@ fn put_text(text: &[u8], out: &mut [u8])
 }
 
 // Puts fields and the text after them at the start of `out`, if it has room for both.
-fn put_both(own: &[u8], text: &[u8], out: &mut [u8]) -> Written
+fn put_both(own: &[u8], text: &[u8], out: &mut [u8]) -> Result<usize, Refusal>
     requires { length text.now ≤ 255 }
-    ensures answer { written_of result ≡ put_size (gives (own.now ++ text_bytes true text.now)) (length out.old) }
+    ensures answer { answered result ≡ put_size (gives (own.now ++ text_bytes true text.now)) (length out.old) }
     ensures bytes { out.new ≡ leaves (put_size (gives (own.now ++ text_bytes true text.now)) (length out.old)) (own.now ++ text_bytes true text.now) out.old }
 {
     if out.len() < own.len() {
-        return Written::Refused(Refusal::NoRoom);
+        return Err(Refusal::NoRoom);
     }
     if out.len() - own.len() < 1 + text.len() {
-        return Written::Refused(Refusal::NoRoom);
+        return Err(Refusal::NoRoom);
     }
     out[..own.len()].copy_from_slice(own);
     put_text(text, &mut out[own.len()..]);
-    Written::Bytes(own.len() + (1 + text.len()))
+    Ok(own.len() + (1 + text.len()))
 }
 
 // Whether all bytes from `from` on are 0.
@@ -99,12 +98,17 @@ fn first(size: usize, own: &[u8]) -> &[u8]
 }
 
 // Puts an entry of this shape at the start of `out`.
-pub(crate) fn put_entry(shape: Shape, own: &[u8], text: &[u8], out: &mut [u8]) -> Written
-    ensures answer { written_of result ≡ put_size (made_with shape.has_text shape.size own.now text.now) (length out.old) }
+pub(crate) fn put_entry(
+    shape: Shape,
+    own: &[u8],
+    text: &[u8],
+    out: &mut [u8],
+) -> Result<usize, Refusal>
+    ensures answer { answered result ≡ put_size (made_with shape.has_text shape.size own.now text.now) (length out.old) }
     ensures bytes { out.new ≡ leaves (put_size (made_with shape.has_text shape.size own.now text.now) (length out.old)) (made_bytes (made_with shape.has_text shape.size own.now text.now)) out.old }
 {
     if shape.size == 0 {
-        return Written::Refused(Refusal::UnknownKind);
+        return Err(Refusal::UnknownKind);
     }
     if can_be_read(shape, own, text) {
         let part = first(shape.size, own);
@@ -113,12 +117,12 @@ pub(crate) fn put_entry(shape: Shape, own: &[u8], text: &[u8], out: &mut [u8]) -
         }
         return put_bytes(part, out);
     }
-    Written::Refused(Refusal::NeverRead)
+    Err(Refusal::NeverRead)
 }
 
 // Puts an entry of `size` bytes without a text.
-pub(crate) fn put_own(size: usize, own: &[u8], out: &mut [u8]) -> Written
-    ensures answer { written_of result ≡ put_size (made_with false size own.now []) (length out.old) }
+pub(crate) fn put_own(size: usize, own: &[u8], out: &mut [u8]) -> Result<usize, Refusal>
+    ensures answer { answered result ≡ put_size (made_with false size own.now []) (length out.old) }
     ensures bytes { out.new ≡ leaves (put_size (made_with false size own.now []) (length out.old)) (made_bytes (made_with false size own.now [])) out.old }
 {
     let shape = Shape {

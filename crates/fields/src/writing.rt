@@ -3,30 +3,35 @@
 // and all of the room where it refuses: 16 where the kind has no such entries, 9 for what reading never gives, 7 where
 // there is too little room.
 ghost use Rattle.std.specs.Prelude.{◌≡◌, length};
-ghost use Rattle.framing.specs.Tlv.{written_of, leaves};
+ghost use Rattle.numbers.specs.Numbers.{answered};
+ghost use Rattle.framing.specs.Tlv.{leaves};
 ghost use Rattle.fields.specs.Writing.{front_made, neighbour_made, interface_made, ipv4_made, ipv6_made, byte_made, radio_made, bss_made, count_made, put_size, made_bytes};
 
 use crate::putting::{Shape, put_bytes, put_entry, put_own};
 use crate::{AshlarBss, AshlarInterface, AshlarIpv4, AshlarIpv6, AshlarNeighbour, sizes};
-use framing::Written;
 use numbers::Refusal;
 use records::MacAddr;
 
 // Writes the count of a list, in one byte.
-pub fn put_count(n: usize, out: &mut [u8]) -> Written
-    ensures answer { written_of result ≡ put_size (count_made n) (length out.old) }
+pub fn put_count(n: usize, out: &mut [u8]) -> Result<usize, Refusal>
+    ensures answer { answered result ≡ put_size (count_made n) (length out.old) }
     ensures bytes { out.new ≡ leaves (put_size (count_made n) (length out.old)) (made_bytes (count_made n)) out.old }
 {
     if n <= 255 {
         let count = [n as u8];
         return put_bytes(&count, out);
     }
-    Written::Refused(Refusal::NeverRead)
+    Err(Refusal::NeverRead)
 }
 
 // Writes what stands before the list of a value: of kind 6 or 7 `local` alone, and `neighbour` has to be 0.
-pub fn put_front(code: u8, local: MacAddr, neighbour: MacAddr, out: &mut [u8]) -> Written
-    ensures answer { written_of result ≡ put_size (front_made code local neighbour) (length out.old) }
+pub fn put_front(
+    code: u8,
+    local: MacAddr,
+    neighbour: MacAddr,
+    out: &mut [u8],
+) -> Result<usize, Refusal>
+    ensures answer { answered result ≡ put_size (front_made code local neighbour) (length out.old) }
     ensures bytes { out.new ≡ leaves (put_size (front_made code local neighbour) (length out.old)) (made_bytes (front_made code local neighbour)) out.old }
 {
     let own = [
@@ -47,8 +52,8 @@ pub fn put_front(code: u8, local: MacAddr, neighbour: MacAddr, out: &mut [u8]) -
 }
 
 // Writes a neighbour.
-pub fn put_neighbour(code: u8, neighbour: AshlarNeighbour, out: &mut [u8]) -> Written
-    ensures answer { written_of result ≡ put_size (neighbour_made code neighbour) (length out.old) }
+pub fn put_neighbour(code: u8, neighbour: AshlarNeighbour, out: &mut [u8]) -> Result<usize, Refusal>
+    ensures answer { answered result ≡ put_size (neighbour_made code neighbour) (length out.old) }
     ensures bytes { out.new ≡ leaves (put_size (neighbour_made code neighbour) (length out.old)) (made_bytes (neighbour_made code neighbour)) out.old }
 {
     let a = neighbour.address;
@@ -57,8 +62,8 @@ pub fn put_neighbour(code: u8, neighbour: AshlarNeighbour, out: &mut [u8]) -> Wr
 }
 
 // Writes an interface.
-pub fn put_interface(code: u8, interface: AshlarInterface, out: &mut [u8]) -> Written
-    ensures answer { written_of result ≡ put_size (interface_made code interface) (length out.old) }
+pub fn put_interface(code: u8, interface: AshlarInterface, out: &mut [u8]) -> Result<usize, Refusal>
+    ensures answer { answered result ≡ put_size (interface_made code interface) (length out.old) }
     ensures bytes { out.new ≡ leaves (put_size (interface_made code interface) (length out.old)) (made_bytes (interface_made code interface)) out.old }
 {
     let a = interface.address;
@@ -71,8 +76,8 @@ pub fn put_interface(code: u8, interface: AshlarInterface, out: &mut [u8]) -> Wr
 }
 
 // Writes an IPv4 address of an interface.
-pub fn put_ipv4(ipv4: AshlarIpv4, out: &mut [u8]) -> Written
-    ensures answer { written_of result ≡ put_size (ipv4_made ipv4) (length out.old) }
+pub fn put_ipv4(ipv4: AshlarIpv4, out: &mut [u8]) -> Result<usize, Refusal>
+    ensures answer { answered result ≡ put_size (ipv4_made ipv4) (length out.old) }
     ensures bytes { out.new ≡ leaves (put_size (ipv4_made ipv4) (length out.old)) (made_bytes (ipv4_made ipv4)) out.old }
 {
     let a = ipv4.address;
@@ -82,8 +87,8 @@ pub fn put_ipv4(ipv4: AshlarIpv4, out: &mut [u8]) -> Written
 }
 
 // Writes an IPv6 address of an interface.
-pub fn put_ipv6(ipv6: AshlarIpv6, out: &mut [u8]) -> Written
-    ensures answer { written_of result ≡ put_size (ipv6_made ipv6) (length out.old) }
+pub fn put_ipv6(ipv6: AshlarIpv6, out: &mut [u8]) -> Result<usize, Refusal>
+    ensures answer { answered result ≡ put_size (ipv6_made ipv6) (length out.old) }
     ensures bytes { out.new ≡ leaves (put_size (ipv6_made ipv6) (length out.old)) (made_bytes (ipv6_made ipv6)) out.old }
 {
     let a = ipv6.address;
@@ -97,8 +102,8 @@ pub fn put_ipv6(ipv6: AshlarIpv6, out: &mut [u8]) -> Written
 }
 
 // Writes an entry of one byte.
-pub fn put_byte(code: u8, byte: u8, out: &mut [u8]) -> Written
-    ensures answer { written_of result ≡ put_size (byte_made code byte) (length out.old) }
+pub fn put_byte(code: u8, byte: u8, out: &mut [u8]) -> Result<usize, Refusal>
+    ensures answer { answered result ≡ put_size (byte_made code byte) (length out.old) }
     ensures bytes { out.new ≡ leaves (put_size (byte_made code byte) (length out.old)) (made_bytes (byte_made code byte)) out.old }
 {
     let own = [byte];
@@ -106,8 +111,8 @@ pub fn put_byte(code: u8, byte: u8, out: &mut [u8]) -> Written
 }
 
 // Writes a radio, of kind 0xD4 with its text; of another kind the text has to be empty.
-pub fn put_radio(code: u8, id: MacAddr, text: &[u8], out: &mut [u8]) -> Written
-    ensures answer { written_of result ≡ put_size (radio_made code id text.now) (length out.old) }
+pub fn put_radio(code: u8, id: MacAddr, text: &[u8], out: &mut [u8]) -> Result<usize, Refusal>
+    ensures answer { answered result ≡ put_size (radio_made code id text.now) (length out.old) }
     ensures bytes { out.new ≡ leaves (put_size (radio_made code id text.now) (length out.old)) (made_bytes (radio_made code id text.now)) out.old }
 {
     let own = [id.b0, id.b1, id.b2, id.b3, id.b4, id.b5];
@@ -119,8 +124,8 @@ pub fn put_radio(code: u8, id: MacAddr, text: &[u8], out: &mut [u8]) -> Written
 }
 
 // Writes a BSS with its name.
-pub fn put_bss(code: u8, bss: AshlarBss, name: &[u8], out: &mut [u8]) -> Written
-    ensures answer { written_of result ≡ put_size (bss_made code bss name.now) (length out.old) }
+pub fn put_bss(code: u8, bss: AshlarBss, name: &[u8], out: &mut [u8]) -> Result<usize, Refusal>
+    ensures answer { answered result ≡ put_size (bss_made code bss name.now) (length out.old) }
     ensures bytes { out.new ≡ leaves (put_size (bss_made code bss name.now) (length out.old)) (made_bytes (bss_made code bss name.now)) out.old }
 {
     let a = bss.bssid;
