@@ -1,1 +1,3 @@
+pub mod Nearness
 pub mod Sums
+pub mod Texts
