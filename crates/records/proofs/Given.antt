@@ -12,8 +12,9 @@ use Rattle.numbers.proofs.Answers.{given, gave}
 use Rattle.numbers.proofs.Firm.{never}
 use Rattle.records.specs.declared.Record.{Record}
 use Rattle.records.specs.declared.RecordKind.{RecordKind}
+use Rattle.records.specs.declared.RecordRead.{RecordRead}
 use Rattle.records.specs.Kinds.{record_kinds, code_of}
-use Rattle.records.specs.Reading.{RecordRead, empty, fixed, of_kind_lem, with_code, is_record_lem, read_record_lem}
+use Rattle.records.specs.Reading.{empty, fixed, of_kind_lem, with_code, is_record_lem, read_record_lem}
 
 -- an answer that is not 16
 abbrev pub is_known_lem : {A : Type 0} → Answer A → Bool

@@ -1,21 +1,22 @@
 -- What is claimed of this crate's calls; proofs/Claims.antt proves it.
 use Rattle.std.specs.Prelude.{◌≡◌, List, ℕ, ◌≤◌, length}
-use Rattle.numbers.specs.Numbers.{gives, mapped}
+use Rattle.numbers.specs.Numbers.{gives, answered, mapped}
 use Rattle.numbers.specs.Firmness.{Firm}
 use Rattle.records.specs.declared.Record.{Record}
 use Rattle.records.specs.declared.RecordKind.{RecordKind}
+use Rattle.records.specs.declared.RecordRead.{RecordRead}
 use Rattle.records.specs.Values.{units_of}
 use Rattle.records.specs.Kinds.{code_of, kind_of}
-use Rattle.records.specs.Reading.{RecordRead, got_of, measured_of, is_record_lem, of_kind_lem, read_record_lem}
+use Rattle.records.specs.Reading.{is_record_lem, of_kind_lem, read_record_lem}
 
 -- Rule A4, for each public call by its name: any two answers that its contract allows are one.
 pub record Firmness : Type 0 where
-  pub read_record : (code : ℕ) (s : List ℕ) → Firm (λ r. got_of r ≡ read_record_lem code s)
-  pub read_client_association : (s : List ℕ) → Firm (λ r. got_of r ≡ of_kind_lem RecordKind.ClientAssociation s)
+  pub read_record : (code : ℕ) (s : List ℕ) → Firm (λ r. answered r ≡ read_record_lem code s)
+  pub read_client_association : (s : List ℕ) → Firm (λ r. answered r ≡ of_kind_lem RecordKind.ClientAssociation s)
   pub from_u8 : (input : ℕ) → Firm (λ units. units ≡ units_of input)
   pub code_of : (item : Record) → Firm (λ n. n ≡ code_of (kind_of item))
   pub is_record : (code : ℕ) → Firm (λ b. b ≡ is_record_lem code)
-  pub measure : (code : ℕ) (s : List ℕ) → Firm (λ m. measured_of m ≡ mapped (λ x. x.consumed) (read_record_lem code s))
+  pub measure : (code : ℕ) (s : List ℕ) → Firm (λ m. answered m ≡ mapped (λ x. x.consumed) (read_record_lem code s))
 
 -- Rules K1 and K2: no two kinds have one code. A value is read by the kind that has the code.
 abbrev pub OwnCodes : Type 0

@@ -2,4 +2,3 @@ pub mod Values
 pub mod Kinds
 pub mod Reading
 pub mod Claims
-pub mod PrivateKinds

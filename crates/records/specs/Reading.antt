@@ -1,26 +1,12 @@
 -- Reading a value of a record kind (rule K1): the record and how many bytes were consumed, or a refusal. The rest is
 -- what follows the bytes consumed.
 use Rattle.std.specs.Prelude.{Bool, true, cond, List, [], ◌∷◌, ℕ, ◌%◌, eqb, ltb, length, get_or}
-use Rattle.numbers.specs.Numbers.{Answer, gives, refuses, told, and_then, is_given}
+use Rattle.numbers.specs.Numbers.{Answer, gives, refuses, and_then, is_given}
 use Rattle.records.specs.declared.Record.{Record}
-use Rattle.records.specs.declared.RecordAnswer.{RecordAnswer}
-use Rattle.records.specs.declared.Measured.{Measured}
+use Rattle.records.specs.declared.RecordRead.{RecordRead}
 use Rattle.records.specs.Values.{address_at_lem, band_of_lem, version_of_lem, result_of, profile_of_lem, has_address, query_in_lem, association_in_lem, capability_in_lem}
 use Rattle.records.specs.declared.RecordKind.{RecordKind}
 use Rattle.records.specs.Kinds.{record_kinds, code_of}
-
-pub record RecordRead : Type 0 where
-  pub value : Record
-  pub consumed : ℕ
-
--- what each answer of a reader says
-abbrev pub got_of : RecordAnswer → Answer RecordRead
-got_of (RecordAnswer.Got r n) = gives (record { value = r; consumed = n })
-got_of (RecordAnswer.Refused r) = told r
-
-abbrev pub measured_of : Measured → Answer ℕ
-measured_of (Measured.Bytes n) = gives n
-measured_of (Measured.Refused r) = told r
 
 -- Rules K2 and K4: a layout of nothing, in a kind that refuses left-over bytes by 4.
 unfoldable pub empty : Record → List ℕ → Answer RecordRead

@@ -1,12 +1,11 @@
 -- Each record and the bytes of its value, by the layouts of rule K2 (IEEE 1905.1, clause 6.4; IEEE 1905.1a; Multi-AP,
 -- section 17.2). Bytes are counted from 0, bits from the lowest. Every byte of a layout is kept, also a reserved one
 -- (rule K6).
-use Rattle.std.specs.Prelude.{Bool, true, false, cond, List, [], ◌∷◌, ◌++◌, ℕ, ◌+◌, ◌*◌, ◌/◌, ◌%◌, eqb, get_or}
+use Rattle.std.specs.Prelude.{Bool, true, false, cond, List, [], ◌∷◌, ◌++◌, ℕ, ◌+◌, ◌*◌, ◌/◌, ◌%◌, eqb, get_or, Option, Some, None}
 use Rattle.records.specs.declared.MacAddr.{MacAddr}
 use Rattle.records.specs.declared.SupportedFreqBand.{SupportedFreqBand}
 use Rattle.records.specs.declared.Ieee1905ProfileVersion.{Ieee1905ProfileVersion}
 use Rattle.records.specs.declared.LinkMetricResultCode.{LinkMetricResultCode}
-use Rattle.records.specs.declared.NeighborMac.{NeighborMac}
 use Rattle.records.specs.declared.LinkMetricQuery.{LinkMetricQuery}
 use Rattle.records.specs.declared.AssociationState.{AssociationState}
 use Rattle.records.specs.declared.ClientAssociation.{ClientAssociation}
@@ -135,12 +134,12 @@ has_address neighborType = eqb neighborType 1
 abbrev pub query_in_lem : List ℕ → LinkMetricQuery
 query_in_lem s =
     cond (has_address (get_or s 0 0))
-    (record { neighbor_type = get_or s 0 0; neighbor_mac = NeighborMac.Address (address_at_lem s 1); requested_metrics = get_or s 7 0 })
-    (record { neighbor_type = get_or s 0 0; neighbor_mac = NeighborMac.None; requested_metrics = get_or s 1 0 })
+    (record { neighbor_type = get_or s 0 0; neighbor_mac = Some (address_at_lem s 1); requested_metrics = get_or s 7 0 })
+    (record { neighbor_type = get_or s 0 0; neighbor_mac = None; requested_metrics = get_or s 1 0 })
 
-abbrev pub neighbor_octets : NeighborMac → List ℕ
-neighbor_octets (NeighborMac.Address m) = octets m
-neighbor_octets NeighborMac.None = []
+abbrev pub neighbor_octets : Option MacAddr → List ℕ
+neighbor_octets (Some m) = octets m
+neighbor_octets None = []
 
 abbrev pub query_bytes : LinkMetricQuery → List ℕ
 query_bytes q = q.neighbor_type ∷ (neighbor_octets q.neighbor_mac ++ (q.requested_metrics ∷ []))

@@ -9,11 +9,10 @@ mod reading;
 
 // A caller that reads client associations and no other kind uses their own reader.
 ghost use Rattle.std.specs.Prelude.{◌≡◌};
-ghost use Rattle.numbers.specs.Numbers.{mapped};
+ghost use Rattle.numbers.specs.Numbers.{answered, mapped};
 ghost use Rattle.records.specs.Values.{band_of_lem, version_of_lem, result_of, profile_of_lem, state_of, units_of};
 ghost use Rattle.records.specs.Kinds.{record_kinds, code_of, kind_of};
-ghost use Rattle.records.specs.Reading.{got_of, read_record_lem, measured_of, with_code, is_record_lem};
-ghost use Rattle.records.specs.PrivateKinds.{known_of};
+ghost use Rattle.records.specs.Reading.{read_record_lem, with_code, is_record_lem};
 
 pub use reading::read_client_association;
 
@@ -89,17 +88,11 @@ impl LinkMetricResultCode {
     }
 }
 
-// The address of the neighbour that a query asks about. A query about all neighbours has none.
-#[derive(Clone, Copy)]
-pub enum NeighborMac {
-    Address(MacAddr),
-    None,
-}
-
+// A query about one neighbour has its address; a query about all neighbours has none.
 #[derive(Clone, Copy)]
 pub struct LinkMetricQuery {
     pub neighbor_type: u8,
-    pub neighbor_mac: NeighborMac,
+    pub neighbor_mac: Option<MacAddr>,
     pub requested_metrics: u8,
 }
 
@@ -249,46 +242,39 @@ pub enum Record {
 // What reading a value finds (rule K1): the record, and how many bytes its layout consumed. The bytes after them are
 // the rest.
 #[derive(Clone, Copy)]
-pub enum RecordAnswer {
-    Got { record: Record, consumed: usize },
-    Refused(Refusal),
+pub struct RecordRead {
+    pub value: Record,
+    pub consumed: usize,
 }
 
-// The kind that has a code, or none.
-#[derive(Clone, Copy)]
-pub(crate) enum KnownKind {
-    Is(RecordKind),
-    None,
-}
-
-fn kind_of(code: u8) -> KnownKind
-    ensures { known_of result ≡ with_code code record_kinds }
+// The kind that has a code.
+fn kind_of(code: u8) -> Result<RecordKind, Refusal>
+    ensures { answered result ≡ with_code code record_kinds }
 {
     match code {
-        END_OF_MESSAGE => KnownKind::Is(RecordKind::EndOfMessage),
-        AL_MAC_ADDRESS => KnownKind::Is(RecordKind::AlMacAddress),
-        MAC_ADDRESS => KnownKind::Is(RecordKind::MacAddress),
-        SEARCHED_ROLE => KnownKind::Is(RecordKind::SearchedRole),
-        SUPPORTED_ROLE => KnownKind::Is(RecordKind::SupportedRole),
-        SUPPORTED_FREQ_BAND => KnownKind::Is(RecordKind::SupportedFreqBand),
-        IEEE1905_PROFILE_VERSION => KnownKind::Is(RecordKind::Ieee1905ProfileVersion),
-        LINK_METRIC_RESULT_CODE => KnownKind::Is(RecordKind::LinkMetricResultCode),
-        LINK_METRIC_QUERY => KnownKind::Is(RecordKind::LinkMetricQuery),
-        CLIENT_ASSOCIATION => KnownKind::Is(RecordKind::ClientAssociation),
-        MULTI_AP_PROFILE => KnownKind::Is(RecordKind::MultiApProfile),
-        PROFILE2_AP_CAPABILITY => KnownKind::Is(RecordKind::Profile2ApCapability),
-        _ => KnownKind::None,
+        END_OF_MESSAGE => Ok(RecordKind::EndOfMessage),
+        AL_MAC_ADDRESS => Ok(RecordKind::AlMacAddress),
+        MAC_ADDRESS => Ok(RecordKind::MacAddress),
+        SEARCHED_ROLE => Ok(RecordKind::SearchedRole),
+        SUPPORTED_ROLE => Ok(RecordKind::SupportedRole),
+        SUPPORTED_FREQ_BAND => Ok(RecordKind::SupportedFreqBand),
+        IEEE1905_PROFILE_VERSION => Ok(RecordKind::Ieee1905ProfileVersion),
+        LINK_METRIC_RESULT_CODE => Ok(RecordKind::LinkMetricResultCode),
+        LINK_METRIC_QUERY => Ok(RecordKind::LinkMetricQuery),
+        CLIENT_ASSOCIATION => Ok(RecordKind::ClientAssociation),
+        MULTI_AP_PROFILE => Ok(RecordKind::MultiApProfile),
+        PROFILE2_AP_CAPABILITY => Ok(RecordKind::Profile2ApCapability),
+        _ => Err(Refusal::UnknownKind),
     }
 }
 
 // Reads the value s by the record kind with this code (rule K1).
-pub fn read_record(code: u8, s: &[u8]) -> RecordAnswer
-    ensures { got_of result ≡ read_record_lem code s.now }
+#[tactic(auto, unfolding(crate::specs::Reading::read_record_lem))]
+pub fn read_record(code: u8, s: &[u8]) -> Result<RecordRead, Refusal>
+    ensures { answered result ≡ read_record_lem code s.now }
 {
-    match kind_of(code) {
-        KnownKind::Is(kind) => reading::read_as(kind, s),
-        KnownKind::None => RecordAnswer::Refused(Refusal::UnknownKind),
-    }
+    let kind = kind_of(code)?;
+    reading::read_as(kind, s)
 }
 
 // The other way round: the code of a record's kind (rule K2).
@@ -315,28 +301,13 @@ pub fn code_of(item: Record) -> u8
 pub fn is_record(code: u8) -> bool
     ensures { result ≡ is_record_lem code }
 {
-    match kind_of(code) {
-        KnownKind::Is(_) => true,
-        KnownKind::None => false,
-    }
-}
-
-// What measuring a value finds: how many bytes its layout consumed.
-#[derive(Clone, Copy)]
-pub enum Measured {
-    Bytes(usize),
-    Refused(Refusal),
+    kind_of(code).is_ok()
 }
 
 // Reads like `read_record`, for a caller that needs only the number of bytes consumed (rule K1).
-pub fn measure(code: u8, s: &[u8]) -> Measured
-    ensures { measured_of result ≡ mapped (λ x. x.consumed) (read_record_lem code s.now) }
+pub fn measure(code: u8, s: &[u8]) -> Result<usize, Refusal>
+    ensures { answered result ≡ mapped (λ x. x.consumed) (read_record_lem code s.now) }
 {
-    match read_record(code, s) {
-        RecordAnswer::Got {
-            record: _,
-            consumed,
-        } => Measured::Bytes(consumed),
-        RecordAnswer::Refused(refusal) => Measured::Refused(refusal),
-    }
+    let read = read_record(code, s)?;
+    Ok(read.consumed)
 }

@@ -1,18 +1,19 @@
 // Reading: a function for each kind of rule K2, with its size, what it refuses and its fields.
 ghost use Rattle.std.specs.Prelude.{◌≡◌, ◌≤◌, get_or};
+ghost use Rattle.numbers.specs.Numbers.{answered};
 ghost use Rattle.records.specs.Values.{address_at_lem};
-ghost use Rattle.records.specs.Reading.{got_of, fixed, of_kind_lem};
+ghost use Rattle.records.specs.Reading.{fixed, of_kind_lem};
 
 use crate::{
     AssociationState, ByteCounterUnits, ClientAssociation, Ieee1905ProfileVersion, LinkMetricQuery,
-    LinkMetricResultCode, MacAddr, MultiApProfile, NeighborMac, Profile2ApCapability, Record,
-    RecordAnswer, RecordKind, SupportedFreqBand,
+    LinkMetricResultCode, MacAddr, MultiApProfile, Profile2ApCapability, Record, RecordKind,
+    RecordRead, SupportedFreqBand,
 };
 use numbers::Refusal;
 
 // Reads a value by its kind (rule K1).
-pub(crate) fn read_as(kind: RecordKind, s: &[u8]) -> RecordAnswer
-    ensures { got_of result ≡ of_kind_lem kind s.now }
+pub(crate) fn read_as(kind: RecordKind, s: &[u8]) -> Result<RecordRead, Refusal>
+    ensures { answered result ≡ of_kind_lem kind s.now }
 {
     match kind {
         RecordKind::EndOfMessage => read_end_of_message(s),
@@ -30,88 +31,88 @@ pub(crate) fn read_as(kind: RecordKind, s: &[u8]) -> RecordAnswer
     }
 }
 
-fn read_end_of_message(s: &[u8]) -> RecordAnswer
-    ensures { got_of result ≡ of_kind_lem RecordKind.EndOfMessage s.now }
+fn read_end_of_message(s: &[u8]) -> Result<RecordRead, Refusal>
+    ensures { answered result ≡ of_kind_lem RecordKind.EndOfMessage s.now }
 {
     if 0 < s.len() {
-        return RecordAnswer::Refused(Refusal::LeftOver);
+        return Err(Refusal::LeftOver);
     }
-    RecordAnswer::Got {
-        record: Record::EndOfMessage,
+    Ok(RecordRead {
+        value: Record::EndOfMessage,
         consumed: 0,
-    }
+    })
 }
 
-fn read_al_mac_address(s: &[u8]) -> RecordAnswer
-    ensures { got_of result ≡ of_kind_lem RecordKind.AlMacAddress s.now }
+fn read_al_mac_address(s: &[u8]) -> Result<RecordRead, Refusal>
+    ensures { answered result ≡ of_kind_lem RecordKind.AlMacAddress s.now }
 {
     fixed(6, true, Record::AlMacAddress(address_at(s, 0)), s)
 }
 
-fn read_mac_address(s: &[u8]) -> RecordAnswer
-    ensures { got_of result ≡ of_kind_lem RecordKind.MacAddress s.now }
+fn read_mac_address(s: &[u8]) -> Result<RecordRead, Refusal>
+    ensures { answered result ≡ of_kind_lem RecordKind.MacAddress s.now }
 {
     fixed(6, true, Record::MacAddress(address_at(s, 0)), s)
 }
 
-fn read_searched_role(s: &[u8]) -> RecordAnswer
-    ensures { got_of result ≡ of_kind_lem RecordKind.SearchedRole s.now }
+fn read_searched_role(s: &[u8]) -> Result<RecordRead, Refusal>
+    ensures { answered result ≡ of_kind_lem RecordKind.SearchedRole s.now }
 {
     let role = byte_at(s, 0);
     fixed(1, role == 0, Record::SearchedRole(role), s)
 }
 
-fn read_supported_role(s: &[u8]) -> RecordAnswer
-    ensures { got_of result ≡ of_kind_lem RecordKind.SupportedRole s.now }
+fn read_supported_role(s: &[u8]) -> Result<RecordRead, Refusal>
+    ensures { answered result ≡ of_kind_lem RecordKind.SupportedRole s.now }
 {
     let role = byte_at(s, 0);
     fixed(1, role == 0, Record::SupportedRole(role), s)
 }
 
-fn read_supported_freq_band(s: &[u8]) -> RecordAnswer
-    ensures { got_of result ≡ of_kind_lem RecordKind.SupportedFreqBand s.now }
+fn read_supported_freq_band(s: &[u8]) -> Result<RecordRead, Refusal>
+    ensures { answered result ≡ of_kind_lem RecordKind.SupportedFreqBand s.now }
 {
     let band = SupportedFreqBand::from_u8(byte_at(s, 0));
     fixed(1, true, Record::SupportedFreqBand(band), s)
 }
 
-fn read_ieee1905_profile_version(s: &[u8]) -> RecordAnswer
-    ensures { got_of result ≡ of_kind_lem RecordKind.Ieee1905ProfileVersion s.now }
+fn read_ieee1905_profile_version(s: &[u8]) -> Result<RecordRead, Refusal>
+    ensures { answered result ≡ of_kind_lem RecordKind.Ieee1905ProfileVersion s.now }
 {
     let version = Ieee1905ProfileVersion::from_u8(byte_at(s, 0));
     fixed(1, true, Record::Ieee1905ProfileVersion(version), s)
 }
 
-fn read_link_metric_result_code(s: &[u8]) -> RecordAnswer
-    ensures { got_of result ≡ of_kind_lem RecordKind.LinkMetricResultCode s.now }
+fn read_link_metric_result_code(s: &[u8]) -> Result<RecordRead, Refusal>
+    ensures { answered result ≡ of_kind_lem RecordKind.LinkMetricResultCode s.now }
 {
     let result = LinkMetricResultCode::from_u8(byte_at(s, 0));
     fixed(1, true, Record::LinkMetricResultCode(result), s)
 }
 
 // Only a query about one neighbour, whose first byte is 1, has an address (rule K2).
-fn read_link_metric_query(s: &[u8]) -> RecordAnswer
-    ensures { got_of result ≡ of_kind_lem RecordKind.LinkMetricQuery s.now }
+fn read_link_metric_query(s: &[u8]) -> Result<RecordRead, Refusal>
+    ensures { answered result ≡ of_kind_lem RecordKind.LinkMetricQuery s.now }
 {
     let neighbor_type = byte_at(s, 0);
     if neighbor_type == 1 {
         let query = LinkMetricQuery {
             neighbor_type,
-            neighbor_mac: NeighborMac::Address(address_at(s, 1)),
+            neighbor_mac: Some(address_at(s, 1)),
             requested_metrics: byte_at(s, 7),
         };
         return fixed(8, true, Record::LinkMetricQuery(query), s);
     }
     let query = LinkMetricQuery {
         neighbor_type,
-        neighbor_mac: NeighborMac::None,
+        neighbor_mac: None,
         requested_metrics: byte_at(s, 1),
     };
     fixed(2, true, Record::LinkMetricQuery(query), s)
 }
 
-pub fn read_client_association(s: &[u8]) -> RecordAnswer
-    ensures { got_of result ≡ of_kind_lem RecordKind.ClientAssociation s.now }
+pub fn read_client_association(s: &[u8]) -> Result<RecordRead, Refusal>
+    ensures { answered result ≡ of_kind_lem RecordKind.ClientAssociation s.now }
 {
     let last = byte_at(s, 12);
     let association = ClientAssociation {
@@ -127,8 +128,8 @@ pub fn read_client_association(s: &[u8]) -> RecordAnswer
     )
 }
 
-fn read_multi_ap_profile(s: &[u8]) -> RecordAnswer
-    ensures { got_of result ≡ of_kind_lem RecordKind.MultiApProfile s.now }
+fn read_multi_ap_profile(s: &[u8]) -> Result<RecordRead, Refusal>
+    ensures { answered result ≡ of_kind_lem RecordKind.MultiApProfile s.now }
 {
     let first = byte_at(s, 0);
     let profile = MultiApProfile::from_u8(first);
@@ -136,8 +137,8 @@ fn read_multi_ap_profile(s: &[u8]) -> RecordAnswer
 }
 
 // Byte 2 holds the units, three flags and three reserved bits (rule K6). The reserved bits are kept.
-fn read_profile2_ap_capability(s: &[u8]) -> RecordAnswer
-    ensures { got_of result ≡ of_kind_lem RecordKind.Profile2ApCapability s.now }
+fn read_profile2_ap_capability(s: &[u8]) -> Result<RecordRead, Refusal>
+    ensures { answered result ≡ of_kind_lem RecordKind.Profile2ApCapability s.now }
 {
     let flags = byte_at(s, 2);
     let capability = Profile2ApCapability {
@@ -155,19 +156,19 @@ fn read_profile2_ap_capability(s: &[u8]) -> RecordAnswer
 
 // A layout of `size` bytes, and the record in them. A value that ends inside the layout is refused, and then one that
 // its kind's check refuses (rule K7). Bytes after the layout are the rest (rule K1).
-fn fixed(size: usize, accepted: bool, item: Record, s: &[u8]) -> RecordAnswer
-    ensures { got_of result ≡ fixed size accepted item s.now }
+fn fixed(size: usize, accepted: bool, item: Record, s: &[u8]) -> Result<RecordRead, Refusal>
+    ensures { answered result ≡ fixed size accepted item s.now }
 {
     if s.len() < size {
-        return RecordAnswer::Refused(Refusal::CutShort);
+        return Err(Refusal::CutShort);
     }
     if accepted {
-        return RecordAnswer::Got {
-            record: item,
+        return Ok(RecordRead {
+            value: item,
             consumed: size,
-        };
+        });
     }
-    RecordAnswer::Refused(Refusal::BadValue)
+    Err(Refusal::BadValue)
 }
 
 // The address in the six bytes from p; the layouts have addresses at 0, 1 and 6.
