@@ -7,16 +7,16 @@ use native.Mathlib.Omega.{arith}
 use lib.ListN.{length}
 use lib.Seq.{length-take-le}
 use Rattle.numbers.specs.Numbers.{gives}
-use Rattle.numbers.proofs.Firm.{by_equation, by_telling, both}
+use Rattle.numbers.proofs.Firm.{by_equation, by_answer, both}
 use Rattle.numbers.specs.Bytes.{AllBytes}
 use Rattle.framing.specs.Claims.{as_read_lem}
-use Rattle.framing.specs.Tlv.{longest_value, read_tlv_lem, value_in_lem, tlv_bytes, written_of}
-use Rattle.framing.proofs.Firm.{written_one}
+use Rattle.framing.specs.Tlv.{longest_value, read_tlv_lem, value_in_lem, tlv_bytes}
 use Rattle.framing.proofs.RoundTrip.{read_written, value_written}
 use Rattle.records.specs.declared.Record.{Record}
+use Rattle.records.specs.declared.RecordRead.{RecordRead}
 use Rattle.records.specs.Values.{bytes_of}
 use Rattle.records.specs.Kinds.{code_of, kind_of}
-use Rattle.records.specs.Reading.{RecordRead, read_record_lem}
+use Rattle.records.specs.Reading.{read_record_lem}
 use Rattle.records.proofs.Ways.{by_kind}
 use Rattle.records.proofs.Given.{kind_read, consumed_within}
 use Rattle.record_writing.specs.Writing.{readable}
@@ -30,8 +30,8 @@ firmness = record {
   size_of = λ item. by_equation _;
   byte_at = λ item i. by_equation _;
   units_byte = λ units a b x y. x.0 ∙ sym y.0;
-  write_value = λ item out. both _ _ (by_telling written_of written_one _) (by_equation _);
-  write_record = λ item out. both _ _ (by_telling written_of written_one _) (by_equation _);
+  write_value = λ item out. both _ _ (by_answer _) (by_equation _);
+  write_record = λ item out. both _ _ (by_answer _) (by_equation _);
 }
 
 read_back : (r : Record) (rest : List ℕ) → readable r ≡ true → (r ≡ Record.EndOfMessage → rest ≡ []) → read_record_lem (code_of (kind_of r)) (bytes_of r ++ rest) ≡ gives (itself r)

@@ -8,11 +8,12 @@ use native.Mathlib.Omega.{arith}
 use lib.Dec.{leb, ltb, eqb}
 use lib.ListN.{length, length-append}
 use borrow.Author.Tests.{leb-true, lt-ltb, ltb-true, not-true}
+use Rattle.std.specs.Prelude.{Option, Some, None}
 use Rattle.numbers.specs.Numbers.{gives}
 use Rattle.records.specs.declared.SupportedFreqBand.{SupportedFreqBand}
 use Rattle.records.specs.declared.Ieee1905ProfileVersion.{Ieee1905ProfileVersion}
 use Rattle.records.specs.declared.LinkMetricResultCode.{LinkMetricResultCode}
-use Rattle.records.specs.declared.NeighborMac.{NeighborMac}
+use Rattle.records.specs.declared.MacAddr.{MacAddr}
 use Rattle.records.specs.declared.AssociationState.{AssociationState}
 use Rattle.records.specs.declared.MultiApProfile.{MultiApProfile}
 use Rattle.records.specs.declared.Record.{Record}
@@ -57,12 +58,12 @@ state_back AssociationState.JoinedBss = (refl, refl)
 stands : (n : ℕ) (ok : Bool) (held r : Record) (t : List ℕ) → n ≡ length (bytes_of r) → ok ≡ true → held ≡ r → fixed n ok held (bytes_of r ++ t) ≡ gives (itself r)
 stands n ok held r t size taken is = rw (is, size) (sym (whole (length (bytes_of r)) ok r (bytes_of r ++ t) (omega (arith, length-append (bytes_of r) t)) taken))
 
-query_back : (n k : ℕ) (m : NeighborMac) (t : List ℕ) → agrees n m ≡ true →
+query_back : (n k : ℕ) (m : Option MacAddr) (t : List ℕ) → agrees n m ≡ true →
     let q = Record.LinkMetricQuery (record { neighbor_type = n; neighbor_mac = m; requested_metrics = k }) in of_kind_lem RecordKind.LinkMetricQuery (bytes_of q ++ t) ≡ gives (itself q)
-query_back n k (NeighborMac.Address m) t h = stands _ _ _ (Record.LinkMetricQuery (record { neighbor_type = n; neighbor_mac = NeighborMac.Address m; requested_metrics = k })) t (simp h) refl (simp h)
-query_back n k NeighborMac.None t h =
+query_back n k (Some m) t h = stands _ _ _ (Record.LinkMetricQuery (record { neighbor_type = n; neighbor_mac = Some m; requested_metrics = k })) t (simp h) refl (simp h)
+query_back n k None t h =
     let f = not-true (eqb n 1) h in
-    stands _ _ _ (Record.LinkMetricQuery (record { neighbor_type = n; neighbor_mac = NeighborMac.None; requested_metrics = k })) t (simp f) refl (simp f)
+    stands _ _ _ (Record.LinkMetricQuery (record { neighbor_type = n; neighbor_mac = None; requested_metrics = k })) t (simp f) refl (simp f)
 
 pub back : (r : Record) (t : List ℕ) → readable r ≡ true → (r ≡ Record.EndOfMessage → t ≡ []) → of_kind_lem (kind_of r) (bytes_of r ++ t) ≡ gives (itself r)
 back Record.EndOfMessage t h e = rw (e refl) (sym (bare Record.EndOfMessage [] (omega arith)))

@@ -13,10 +13,11 @@ use Rattle.numbers.specs.Numbers.{gives}
 use Rattle.numbers.specs.Bytes.{AllBytes}
 use Rattle.records.specs.declared.AssociationState.{AssociationState}
 use Rattle.records.specs.declared.Record.{Record}
+use Rattle.records.specs.declared.RecordRead.{RecordRead}
 use Rattle.records.specs.Values.{band_of_lem, band_byte_lem, version_of_lem, version_byte_lem, result_of, result_byte_lem, profile_of_lem, profile_byte_lem, state_of, state_byte_lem, has_address, query_in_lem, bytes_of}
 use Rattle.records.specs.declared.RecordKind.{RecordKind}
 use Rattle.records.specs.Kinds.{kind_of}
-use Rattle.records.specs.Reading.{RecordRead, fixed, of_kind_lem}
+use Rattle.records.specs.Reading.{fixed, of_kind_lem}
 use Rattle.records.proofs.Given.{reads, reads_empty}
 use Rattle.record_writing.specs.Writing.{lowest_band_lem, lowest_version_lem, lowest_result_lem, lowest_profile_lem, readable}
 use Rattle.record_writing.proofs.Flags.{flags_kept}

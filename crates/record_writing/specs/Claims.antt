@@ -1,16 +1,17 @@
 -- What is claimed of this crate's calls; proofs/Claims.antt proves it.
-use Rattle.std.specs.Prelude.{◌≡◌, true, false, List, [], ◌++◌, ℕ, ◌<◌, length, take, get_or}
-use Rattle.numbers.specs.Numbers.{gives}
+use Rattle.std.specs.Prelude.{◌≡◌, true, false, List, [], ◌++◌, ℕ, ◌<◌, length, take, get_or, Result}
+use Rattle.numbers.specs.Numbers.{gives, answered}
 use Rattle.numbers.specs.Firmness.{Firm}
-use Rattle.framing.specs.declared.Written.{Written}
+use Rattle.numbers.specs.declared.Refusal.{Refusal}
 use Rattle.numbers.specs.Bytes.{AllBytes}
 use Rattle.framing.specs.Claims.{as_read_lem}
-use Rattle.framing.specs.Tlv.{read_tlv_lem, value_in_lem, tlv_bytes, written_of, leaves}
+use Rattle.framing.specs.Tlv.{read_tlv_lem, value_in_lem, tlv_bytes, leaves}
 use Rattle.records.specs.declared.ByteCounterUnits.{ByteCounterUnits}
 use Rattle.records.specs.declared.Record.{Record}
+use Rattle.records.specs.declared.RecordRead.{RecordRead}
 use Rattle.records.specs.Values.{bytes_of, units_code}
 use Rattle.records.specs.Kinds.{code_of, kind_of}
-use Rattle.records.specs.Reading.{RecordRead, read_record_lem}
+use Rattle.records.specs.Reading.{read_record_lem}
 use Rattle.record_writing.specs.Writing.{readable, value_size, record_size_lem}
 
 -- Rule A4, for each public call by its name: any two answers that its contract allows are one, together with what the
@@ -19,11 +20,11 @@ pub record Firmness : Type 0 where
   pub size_of : (item : Record) → Firm (λ n. n ≡ length (bytes_of item))
   pub byte_at : (item : Record) (i : ℕ) → Firm (λ b. b ≡ get_or (bytes_of item) i 0)
   pub units_byte : (units : ByteCounterUnits) → Firm (λ n. (n ≡ units_code units) × (n < 4))
-  pub write_value : (item : Record) (out : List ℕ) → Firm {A = Written × List ℕ} (λ o.
-      (written_of o.0 ≡ value_size item (length out))
+  pub write_value : (item : Record) (out : List ℕ) → Firm {A = Result ℕ Refusal × List ℕ} (λ o.
+      (answered o.0 ≡ value_size item (length out))
       × (o.1 ≡ leaves (value_size item (length out)) (bytes_of item) out))
-  pub write_record : (item : Record) (out : List ℕ) → Firm {A = Written × List ℕ} (λ o.
-      (written_of o.0 ≡ record_size_lem item (length out))
+  pub write_record : (item : Record) (out : List ℕ) → Firm {A = Result ℕ Refusal × List ℕ} (λ o.
+      (answered o.0 ≡ record_size_lem item (length out))
       × (o.1 ≡ leaves (record_size_lem item (length out)) (tlv_bytes (code_of (kind_of item)) (bytes_of item)) out))
 
 -- what reading returns for a record's own bytes

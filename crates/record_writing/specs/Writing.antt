@@ -1,11 +1,11 @@
 -- Which records can be written (rule O1), and what a writing call answers (rules O3 and O4).
-use Rattle.std.specs.Prelude.{Bool, true, cond, not, [], ℕ, eqb, leb, ltb, length}
+use Rattle.std.specs.Prelude.{Bool, true, cond, not, [], ℕ, eqb, leb, ltb, length, Option, Some, None}
 use Rattle.numbers.specs.Numbers.{Answer, gives, refuses}
 use Rattle.framing.specs.Tlv.{write_size}
 use Rattle.records.specs.declared.SupportedFreqBand.{SupportedFreqBand}
 use Rattle.records.specs.declared.Ieee1905ProfileVersion.{Ieee1905ProfileVersion}
 use Rattle.records.specs.declared.LinkMetricResultCode.{LinkMetricResultCode}
-use Rattle.records.specs.declared.NeighborMac.{NeighborMac}
+use Rattle.records.specs.declared.MacAddr.{MacAddr}
 use Rattle.records.specs.declared.MultiApProfile.{MultiApProfile}
 use Rattle.records.specs.declared.Record.{Record}
 use Rattle.records.specs.Values.{band_byte_lem, version_byte_lem, result_byte_lem, profile_byte_lem, has_address, bytes_of}
@@ -33,9 +33,9 @@ lowest_profile_lem MultiApProfile.Profile3 = 3
 lowest_profile_lem (MultiApProfile.Reserved b) = 4
 
 -- Rule O1: a query of type 1 has an address, and no other query has one.
-abbrev pub agrees : ℕ → NeighborMac → Bool
-agrees type (NeighborMac.Address m) = has_address type
-agrees type NeighborMac.None = not (has_address type)
+abbrev pub agrees : ℕ → Option MacAddr → Bool
+agrees type (Some m) = has_address type
+agrees type None = not (has_address type)
 
 -- Rule O1: the records that reading can return. All others are refused by 9.
 abbrev pub readable : Record → Bool

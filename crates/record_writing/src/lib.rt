@@ -1,7 +1,6 @@
 // Writing a record (rules O1, O3 and O4): its value alone, or the whole TLV.
 #![tactic(auto)]
 
-use framing::Written;
 use numbers::Refusal;
 use records::Record;
 
@@ -10,7 +9,8 @@ mod values;
 
 // Whoever gives a capability by its fields needs the number of its units.
 ghost use Rattle.std.specs.Prelude.{◌≡◌, length, get_or};
-ghost use Rattle.framing.specs.Tlv.{written_of, tlv_bytes, leaves};
+ghost use Rattle.numbers.specs.Numbers.{answered};
+ghost use Rattle.framing.specs.Tlv.{tlv_bytes, leaves};
 ghost use Rattle.records.specs.Values.{bytes_of};
 ghost use Rattle.records.specs.Kinds.{kind_of, code_of};
 ghost use Rattle.record_writing.specs.Writing.{value_size, record_size_lem};
@@ -35,35 +35,33 @@ pub fn byte_at(item: Record, i: usize) -> u8
 }
 
 // Writes the value of a record at the start of `out` (rule O4).
-pub fn write_value(item: Record, out: &mut [u8]) -> Written
-    ensures answer { written_of result ≡ value_size item (length out.old) }
+#[tactic(auto, unfolding(crate::specs::Writing::value_size))]
+pub fn write_value(item: Record, out: &mut [u8]) -> Result<usize, Refusal>
+    ensures answer { answered result ≡ value_size item (length out.old) }
     ensures bytes { out.new ≡ leaves (value_size item (length out.old)) (bytes_of item) out.old }
 {
-    if values::is_readable(item) {
-        let size = size_of(item);
-        if out.len() < size {
-            return Written::Refused(Refusal::NoRoom);
-        }
-        values::put_value(item, out);
-        return Written::Bytes(size);
+    if !values::is_readable(item) {
+        return Err(Refusal::NeverRead);
     }
-    Written::Refused(Refusal::NeverRead)
+    let size = size_of(item);
+    if out.len() < size {
+        return Err(Refusal::NoRoom);
+    }
+    values::put_value(item, out);
+    Ok(size)
 }
 
 // Writes the TLV of a record at the start of `out` (rules O1 and O3). The value goes into the room after the first
 // three bytes. Refusal 8 never comes, because no value of a record has more than 13 bytes.
-pub fn write_record(item: Record, out: &mut [u8]) -> Written
-    ensures answer { written_of result ≡ record_size_lem item (length out.old) }
+#[tactic(auto, unfolding(crate::specs::Writing::record_size_lem, framing::specs::Tlv::write_size))]
+pub fn write_record(item: Record, out: &mut [u8]) -> Result<usize, Refusal>
+    ensures answer { answered result ≡ record_size_lem item (length out.old) }
     ensures bytes { out.new ≡ leaves (record_size_lem item (length out.old)) (tlv_bytes (code_of (kind_of item)) (bytes_of item)) out.old }
 {
-    if values::is_readable(item) {
-        return match framing::write_header(records::code_of(item), size_of(item), out) {
-            Written::Bytes(size) => {
-                values::put_value(item, &mut out[3..]);
-                Written::Bytes(size)
-            }
-            Written::Refused(refusal) => Written::Refused(refusal),
-        };
+    if !values::is_readable(item) {
+        return Err(Refusal::NeverRead);
     }
-    Written::Refused(Refusal::NeverRead)
+    let size = framing::write_header(records::code_of(item), size_of(item), out)?;
+    values::put_value(item, &mut out[3..]);
+    Ok(size)
 }

@@ -7,9 +7,7 @@ use crate::codes::{
     band_byte, lowest_band, lowest_profile, lowest_result, lowest_version, profile_byte,
     result_byte, state_byte, units_byte, version_byte,
 };
-use records::{
-    ClientAssociation, LinkMetricQuery, MacAddr, NeighborMac, Profile2ApCapability, Record,
-};
+use records::{ClientAssociation, LinkMetricQuery, MacAddr, Profile2ApCapability, Record};
 
 // Whether reading can return this record (rule O1).
 pub(crate) fn is_readable(item: Record) -> bool
@@ -37,8 +35,8 @@ fn query_readable(query: LinkMetricQuery) -> bool
 {
     let neighbor_mac = query.neighbor_mac;
     match neighbor_mac {
-        NeighborMac::Address(_) => query.neighbor_type == 1,
-        NeighborMac::None => query.neighbor_type != 1,
+        Some(_) => query.neighbor_type == 1,
+        None => query.neighbor_type != 1,
     }
 }
 
@@ -107,13 +105,13 @@ fn query_value(query: LinkMetricQuery) -> Value
     let metrics = query.requested_metrics;
     let neighbor_mac = query.neighbor_mac;
     match neighbor_mac {
-        NeighborMac::Address(m) => Value {
+        Some(m) => Value {
             bytes: [
                 t, m.b0, m.b1, m.b2, m.b3, m.b4, m.b5, metrics, 0, 0, 0, 0, 0,
             ],
             size: 8,
         },
-        NeighborMac::None => Value {
+        None => Value {
             bytes: [t, metrics, 0, 0, 0, 0, 0, 0, 0, 0, 0, 0, 0],
             size: 2,
         },
