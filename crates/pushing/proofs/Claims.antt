@@ -3,7 +3,9 @@ use mathlib.Core.Path.{◌≡◌, sym, ap, ◌∙◌}
 use mathlib.Core.List.{List, []}
 use Prim.Native.Nat.{ℕ}
 use lib.ListN.{length}
+use Rattle.std.specs.Prelude.{Result}
 use Rattle.numbers.specs.Numbers.{refuses, number, values}
+use Rattle.numbers.specs.declared.Refusal.{Refusal}
 use Rattle.numbers.proofs.Firm.{never}
 use Rattle.table.specs.declared.Table.{Table}
 use Rattle.pushing.specs.declared.Arrival.{Arrival}
@@ -33,7 +35,7 @@ firmness = record {
 }
 
 -- what a call leaves, by a way that is known
-module _ {w : Way} {t : Table} {store out : List ℕ} {a : Arrival} {payload : List ℕ} {answer' : Pushed} {t' : Table} {store' out' : List ℕ} where
+module _ {w : Way} {t : Table} {store out : List ℕ} {a : Arrival} {payload : List ℕ} {answer' : Result Pushed Refusal} {t' : Table} {store' out' : List ℕ} where
   left_by : (v : Way) → w ≡ v → Goes w t store out a payload answer' t' store' out' → (t' ≡ table_by v t a (length payload)) × (store' ≡ store_by v store payload) × (out' ≡ output_by v out)
   left_by v is goes = (goes.keeps ∙ ap (λ (u : Way). table_by u t a (length payload)) is, goes.stores ∙ ap (λ (u : Way). store_by u store payload) is, goes.puts ∙ ap (λ (u : Way). output_by u out) is)
 

@@ -1,32 +1,54 @@
--- A verdict as the code gives it is that of its way.
-use mathlib.Core.Path.{◌≡◌, ap, ◌∙◌}
-use mathlib.Core.List.{List, []}
+-- What joining writes, by its answer: a joined message has room, and nothing else goes to the output.
+use mathlib.Core.Path.{◌≡◌, refl, subst}
+use mathlib.Core.List.{List, [], ◌∷◌}
+use mathlib.Core.Bool.{Bool, true, false, cond, not}
 use Prim.Native.Nat.{ℕ, ◌≤◌}
-use native.Mathlib.Omega.{arith}
+use lib.Dec.{ltb, leb}
 use lib.ListN.{length}
-use Rattle.numbers.specs.Numbers.{gives}
+use borrow.Author.Tests.{ltb-false}
+use Rattle.numbers.specs.Numbers.{Answer, gives, refuses}
 use Rattle.pushing.specs.declared.Pushed.{Pushed}
-use Rattle.pushing.specs.declared.join.Verdict.{Verdict}
-use Rattle.pushing.specs.Joining.{in_order_lem}
-use Rattle.pushing.specs.Push.{PushAnswer, Way, end, pushed_of, over}
-use Rattle.pushing.specs.PrivateSteps.{Judges}
+use Rattle.pushing.specs.declared.Pushed.TheVariants.{WaitingForMoreFragments, DuplicatedFragment, InconsistentMetadata, MissingFragments, MissingLastFragment, Single, Joined}
+use Rattle.pushing.specs.Push.{PushAnswer, waiting, duplicated, inconsistent, missing, missing_last, single, joined, Way, refuse, end, message_way, join_by, over, output_by, answer_of, answer_by}
 
-module _ (row count room : ℕ) (piece : ℕ → List ℕ) where
-  -- no piece goes to the output
-  pub none_fits : (n : ℕ) → n ≡ 0 → length (in_order_lem piece n) ≤ room
-  unfolding in_order_lem
-  none_fits n e = rw e (omega arith)
+module _ (bytes : List ℕ) (room : ℕ) where
+  abbrev pub Same : Way → Type 0
+  Same w = (out : List ℕ) → out ≡ output_by w out
 
-  pub none_put : (n : ℕ) → n ≡ 0 → (out : List ℕ) → over (in_order_lem piece n) out ≡ out
-  unfolding in_order_lem
-  none_put n e out = rw e
+  abbrev pub Writes : Way → Answer PushAnswer → Type 0
+  Writes w (gives waiting) = Same w
+  Writes w (gives duplicated) = Same w
+  Writes w (gives inconsistent) = Same w
+  Writes w (gives missing) = Same w
+  Writes w (gives missing_last) = Same w
+  Writes w (gives (single n)) = Same w
+  Writes w (gives (joined n)) = (length bytes ≤ room) × ((out : List ℕ) → over bytes out ≡ output_by w out)
+  Writes w (refuses n vs) = Same w
 
-  -- an answer that ends a key's message without one
-  pub ends : {w : Way} {h : PushAnswer} {z : Pushed} → w ≡ end h [] → pushed_of z ≡ gives h → (r : Verdict) → (r.answer ≡ z) × (r.pieces ≡ 0) × (r.dropped ≡ row) → Judges w row count room piece r
-  ends q says r is = rw q (record {
-    answers = ap pushed_of is.0 ∙ says;
-    drops = is.2;
-    few = omega (arith, is.1);
-    fits = none_fits r.pieces is.1;
-    puts = none_put r.pieces is.1;
-  })
+  abbrev joining : (u g o n x : Bool) → Way
+  joining u g o n x = cond u (end inconsistent []) (cond g (end missing []) (cond (not o) (end missing_last []) (cond n (end (single (length bytes)) []) (cond x (refuse 13 (length bytes ∷ [])) (end (joined (length bytes)) bytes)))))
+
+  pub writes : (u g o : Bool) (n : ℕ) → Writes (join_by u g o n bytes room) (answer_by (join_by u g o n bytes room))
+  unfolding message_way
+  writes u g o n = by_tests u g o (leb n 1) (ltb room (length bytes)) refl
+    where
+      by_tests : (u g o n x : Bool) → ltb room (length bytes) ≡ x → Writes (joining u g o n x) (answer_by (joining u g o n x))
+      by_tests true g o n x e = λ out. refl
+      by_tests false true o n x e = λ out. refl
+      by_tests false false false n x e = λ out. refl
+      by_tests false false true true x e = λ out. refl
+      by_tests false false true false true e = λ out. refl
+      by_tests false false true false false e = (ltb-false _ _ e, λ out. refl)
+
+  pub puts_joined : (w : Way) (p : Pushed) (n : ℕ) → p ≡ Joined n → Writes w (gives (answer_of p)) → (length bytes ≤ room) × ((out : List ℕ) → over bytes out ≡ output_by w out)
+  puts_joined w p n e = subst (λ (q : Pushed). Writes w (gives (answer_of q))) e
+
+  -- where nothing is joined, the output stays
+  pub puts_none : (w : Way) (p : Pushed) → ((n : ℕ) → p ≡ Joined n → ⊥) → Writes w (gives (answer_of p)) → Same w
+  puts_none w WaitingForMoreFragments other s = s
+  puts_none w DuplicatedFragment other s = s
+  puts_none w InconsistentMetadata other s = s
+  puts_none w MissingFragments other s = s
+  puts_none w MissingLastFragment other s = s
+  puts_none w (Single n) other s = s
+  puts_none w (Joined n) other s = absurd (other n refl)

@@ -1,5 +1,5 @@
 -- What is claimed of push and of the tables that these calls make; proofs/Claims.antt proves it.
-use Rattle.std.specs.Prelude.{◌≡◌, List, [], ◌∷◌, ℕ, ◌<◌, length}
+use Rattle.std.specs.Prelude.{◌≡◌, List, [], ◌∷◌, ℕ, ◌<◌, length, Result, Ok, Err}
 use Rattle.numbers.specs.Firmness.{Firm}
 use Rattle.numbers.specs.declared.Refusal.{Refusal}
 use Rattle.numbers.specs.declared.Refusal.TheVariants.{TableFull}
@@ -11,7 +11,7 @@ use Rattle.table.specs.InStep.{InStep, WithinShares, OnlyOf}
 use Rattle.sweeping.specs.Sweep.{swept, swept_as}
 use Rattle.pushing.specs.declared.Arrival.{Arrival}
 use Rattle.pushing.specs.declared.Pushed.{Pushed}
-use Rattle.pushing.specs.declared.Pushed.TheVariants.{DuplicatedFragment, Refused}
+use Rattle.pushing.specs.declared.Pushed.TheVariants.{DuplicatedFragment}
 use Rattle.pushing.specs.declared.AfterPush.{AfterPush}
 use Rattle.pushing.specs.Joining.{held_by_lem, first_time}
 use Rattle.pushing.specs.Push.{way, table_by, store_by, output_by, answer_by, Goes}
@@ -22,7 +22,7 @@ use Rattle.pushing.specs.Made.{Made}
 -- and of the output.
 pub record Firmness : Type 0 where
   pub push_in_place : (t : Table) (store out : List ℕ) (a : Arrival) (payload : List ℕ)
-      → Firm {A = Pushed × Table × List ℕ × List ℕ} (λ o. Goes (way t store a payload (length out)) t store out a payload o.0 o.1 o.2 o.3)
+      → Firm {A = Result Pushed Refusal × Table × List ℕ × List ℕ} (λ o. Goes (way t store a payload (length out)) t store out a payload o.0 o.1 o.2 o.3)
   pub push_step : (t : Table) (store out : List ℕ) (a : Arrival) (payload : List ℕ)
       → Firm {A = AfterPush × List ℕ × List ℕ} (λ o. Goes (way t store a payload (length out)) t store out a payload o.0.answer o.0.table o.1 o.2)
 
@@ -33,7 +33,7 @@ FreshMade = (t : Table) → t ≡ fresh_table → Made t
 
 -- a fragment's number is one byte (rule B6)
 abbrev pub PushMade : Type 0
-PushMade = (t : Table) (store out : List ℕ) (a : Arrival) (payload : List ℕ) (answer' : Pushed) (t' : Table) (store' out' : List ℕ) → Made t → a.fragment.number < 256
+PushMade = (t : Table) (store out : List ℕ) (a : Arrival) (payload : List ℕ) (answer' : Result Pushed Refusal) (t' : Table) (store' out' : List ℕ) → Made t → a.fragment.number < 256
     → Goes (way t store a payload (length out)) t store out a payload answer' t' store' out' → Made t'
 
 abbrev pub SweepMade : Type 0
@@ -56,7 +56,7 @@ MadeWithinShares = (t : Table) → Made t → WithinShares t
 abbrev pub RoomForFew : Type 0
 RoomForFew = (t : Table) (store out : List ℕ) (a : Arrival) (payload : List ℕ) (t' : Table) (store' out' : List ℕ) → Made t
     → (others : List ℕ) → length others < 4 → OnlyOf t (sender_of_lem a.key ∷ others)
-    → Goes (way t store a payload (length out)) t store out a payload (Refused TableFull) t' store' out' → ⊥
+    → Goes (way t store a payload (length out)) t store out a payload (Err TableFull) t' store' out' → ⊥
 
 -- what a key holds, and its first time, are the same in two tables
 abbrev pub Untouched : (key : ℕ) (t t' : Table) (store store' : List ℕ) → Type 0
@@ -70,12 +70,12 @@ PushUntouched = (t : Table) → Sound t → (store : List ℕ) (a : Arrival) (pa
 -- Rule T5: a push that is answered `DuplicatedFragment` leaves the table, the store and the output as they were.
 abbrev pub DuplicateUntouched : Type 0
 DuplicateUntouched = (t : Table) (store out : List ℕ) (a : Arrival) (payload : List ℕ) (t' : Table) (store' out' : List ℕ)
-    → Goes (way t store a payload (length out)) t store out a payload DuplicatedFragment t' store' out' → (t' ≡ t) × (store' ≡ store) × (out' ≡ out)
+    → Goes (way t store a payload (length out)) t store out a payload (Ok DuplicatedFragment) t' store' out' → (t' ≡ t) × (store' ≡ store) × (out' ≡ out)
 
 -- Rule A3: a push that is refused, by any number, leaves all three as they were.
 abbrev pub RefusalUntouched : Type 0
 RefusalUntouched = (t : Table) (store out : List ℕ) (a : Arrival) (payload : List ℕ) (refusal : Refusal) (t' : Table) (store' out' : List ℕ)
-    → Goes (way t store a payload (length out)) t store out a payload (Refused refusal) t' store' out' → (t' ≡ t) × (store' ≡ store) × (out' ≡ out)
+    → Goes (way t store a payload (length out)) t store out a payload (Err refusal) t' store' out' → (t' ≡ t) × (store' ≡ store) × (out' ≡ out)
 
 -- Rules T9 and T10: what is shown after a push is the same whatever the output held before it.
 abbrev pub ShownSame : Type 0

@@ -1,21 +1,22 @@
 -- What the private functions answer, in the words of the other files. No public contract cites this one.
-use Rattle.std.specs.Prelude.{◌≡◌, List, Bool, false, cond, not, ◌&&◌, ◌||◌, ℕ, zero, suc, ◌+◌, ◌≤◌, eqb, ltb, leb, length, get_or}
+use Rattle.std.specs.Prelude.{◌≡◌, List, Bool, false, cond, not, ◌&&◌, ◌||◌, ℕ, zero, suc, ◌+◌, eqb, ltb, leb, get_or, Result, Ok, Err}
 use Rattle.numbers.specs.Numbers.{number, values}
+use Rattle.numbers.specs.declared.Refusal.{Refusal}
 use Rattle.keys.specs.Keys.{sender_of_lem}
 use Rattle.table.specs.declared.Table.{Table}
 use Rattle.table.specs.declared.Totals.{Totals}
 use Rattle.pushing.specs.declared.Arrival.{Arrival}
+use Rattle.pushing.specs.declared.Pushed.{Pushed}
 use Rattle.pushing.specs.declared.join.Reach.{Reach}
-use Rattle.pushing.specs.declared.join.Verdict.{Verdict}
 use Rattle.pushing.specs.declared.join.Compared.{Compared}
 use Rattle.pushing.specs.declared.Fragment.{Fragment}
 use Rattle.pushing.specs.declared.look.LookedUp.{LookedUp}
 use Rattle.pushing.specs.declared.choose.Step.{Step}
-use Rattle.pushing.specs.declared.choose.Step.TheVariants.{Refuse, Duplicate, Keep, Join}
+use Rattle.pushing.specs.declared.choose.Step.TheVariants.{Duplicate, Keep, Join}
 use Rattle.searching.specs.Search.{lowest}
 use Rattle.table.specs.Rows.{keys, places, owner_of, bytes_at, with_key, with_place, first_row_in, lower_row_lem, no_totals, put_totals_lem}
 use Rattle.pushing.specs.Joining.{in_order_lem}
-use Rattle.pushing.specs.Push.{Way, refuse, duplicate, keep_at, open_at, end, join_by, place_for, pushed_of, over, answer_by, output_by}
+use Rattle.pushing.specs.Push.{Way, refuse, duplicate, keep_at, open_at, join_by, place_for, pushed_of, answer_by, output_by}
 
 -- the look-ups, in the lists that they are lent
 abbrev pub row_in : List Bool → List ℕ → ℕ → ℕ
@@ -93,36 +94,19 @@ join_in sizes owners numbers store payload last room =
     (pieces_to sizes owners numbers store last.row last.number payload (count_for owners numbers last.row last.number)) room
 
 -- the way of a step, for a push by what was found; a last fragment's is that of joining
-abbrev pub step_way : LookedUp → Step → (joins : Way) → Way
-step_way found (Refuse r) joins = refuse (number r) (values r)
-step_way found Duplicate joins = duplicate
-step_way found Keep joins = cond (ltb found.row keys) (keep_at found.free) (open_at found.free found.spare)
-step_way found Join joins = joins
+abbrev pub step_way : LookedUp → Result Step Refusal → (joins : Way) → Way
+step_way found (Err r) joins = refuse (number r) (values r)
+step_way found (Ok Duplicate) joins = duplicate
+step_way found (Ok Keep) joins = cond (ltb found.row keys) (keep_at found.free) (open_at found.free found.spare)
+step_way found (Ok Join) joins = joins
 
 -- Rule T6: the row under which a fragment is kept.
 abbrev pub under_row_lem : LookedUp → ℕ
 under_row_lem found = cond (ltb found.row keys) found.row found.spare
 
--- Rule T7: the row whose key a way drops, or `keys` where it drops none.
-abbrev pub drop_by : Way → ℕ → ℕ
-drop_by (refuse n values) row = keys
-drop_by duplicate row = keys
-drop_by (keep_at i) row = keys
-drop_by (open_at i spare) row = keys
-drop_by (end h bytes) row = row
-
--- a verdict is that of the way w: what is answered, the row that is dropped, and the pieces that go to the output
-pub record Judges (w : Way) (row count room : ℕ) (piece : ℕ → List ℕ) (r : Verdict) : Type 0 where
-  pub answers : pushed_of r.answer ≡ answer_by w
-  pub drops : r.dropped ≡ drop_by w row
-  pub few : r.pieces ≤ count
-  pub fits : length (in_order_lem piece r.pieces) ≤ room
-  pub puts : (out : List ℕ) → over (in_order_lem piece r.pieces) out ≡ output_by w out
-
--- a verdict and the output are those of the way w
-pub record Ends (w : Way) (row : ℕ) (r : Verdict) (out out' : List ℕ) : Type 0 where
-  pub answers : pushed_of r.answer ≡ answer_by w
-  pub drops : r.dropped ≡ drop_by w row
+-- an answer and the output are those of the way w
+pub record Ends (w : Way) (answer' : Result Pushed Refusal) (out out' : List ℕ) : Type 0 where
+  pub answers : pushed_of answer' ≡ answer_by w
   pub puts : out' ≡ output_by w out
 
 -- Rules T6 and T15: a row gets the key, and the sender's totals leave its lowest row; or the row has the key.

@@ -1,7 +1,8 @@
 -- Push (rules T4 to T9, and T15): which way it goes, and what each way does.
-use Rattle.std.specs.Prelude.{◌≡◌, List, [], ◌∷◌, ◌++◌, Bool, cond, not, ◌&&◌, ◌||◌, ℕ, ◌+◌, ◌*◌, ◌-◌, ltb, leb, length, drop}
+use Rattle.std.specs.Prelude.{◌≡◌, List, [], ◌∷◌, ◌++◌, Bool, cond, not, ◌&&◌, ◌||◌, ℕ, ◌+◌, ◌*◌, ◌-◌, ltb, leb, length, drop, Result, Ok, Err}
 use Rattle.std.proofs.Math.Seq.{paste}
 use Rattle.numbers.specs.Numbers.{Answer, gives, refuses, told}
+use Rattle.numbers.specs.declared.Refusal.{Refusal}
 use Rattle.keys.specs.Keys.{sender_of_lem}
 use Rattle.table.specs.declared.Table.{Table}
 use Rattle.table.specs.declared.Totals.{Totals}
@@ -9,7 +10,7 @@ use Rattle.pushing.specs.declared.Fragment.{Fragment}
 use Rattle.pushing.specs.declared.Arrival.{Arrival}
 use Rattle.pushing.specs.declared.Pushed.{Pushed}
 use Rattle.pushing.specs.declared.look.LookedUp.{LookedUp}
-use Rattle.pushing.specs.declared.Pushed.TheVariants.{WaitingForMoreFragments, DuplicatedFragment, InconsistentMetadata, MissingFragments, MissingLastFragment, Single, Joined, Refused}
+use Rattle.pushing.specs.declared.Pushed.TheVariants.{WaitingForMoreFragments, DuplicatedFragment, InconsistentMetadata, MissingFragments, MissingLastFragment, Single, Joined}
 use Rattle.table.specs.Rows.{keys, places, place_size, store_size, most_keys, most_places, Place, owner_of, row_of, spare_row, place_of, lowest_free, with_key, with_place, first_row_lem, no_totals, totals_of, with_totals, dropped_key_lem}
 use Rattle.pushing.specs.Joining.{Held, Fragments, held_of, held_in_lem, and_new, inconsistent_with, gapped, is_last_lem, reach, payloads}
 
@@ -24,16 +25,20 @@ pub data PushAnswer : Type 0 where
   single : ℕ → PushAnswer
   joined : ℕ → PushAnswer
 
--- Rules N1 and N4: the answer that each case of the code's enum stands for, or the refusal.
-abbrev pub pushed_of : Pushed → Answer PushAnswer
-pushed_of WaitingForMoreFragments = gives waiting
-pushed_of DuplicatedFragment = gives duplicated
-pushed_of InconsistentMetadata = gives inconsistent
-pushed_of MissingFragments = gives missing
-pushed_of MissingLastFragment = gives missing_last
-pushed_of (Single n) = gives (single n)
-pushed_of (Joined n) = gives (joined n)
-pushed_of (Refused r) = told r
+-- the answer that each case of the code's enum stands for
+abbrev pub answer_of : Pushed → PushAnswer
+answer_of WaitingForMoreFragments = waiting
+answer_of DuplicatedFragment = duplicated
+answer_of InconsistentMetadata = inconsistent
+answer_of MissingFragments = missing
+answer_of MissingLastFragment = missing_last
+answer_of (Single n) = single n
+answer_of (Joined n) = joined n
+
+-- Rules N1 and N4: what the call's result says, an answer or a refusal.
+abbrev pub pushed_of : Result Pushed Refusal → Answer PushAnswer
+pushed_of (Ok pushed) = gives (answer_of pushed)
+pushed_of (Err r) = told r
 
 -- the ways that a push can go
 pub data Way : Type 0 where
@@ -174,7 +179,7 @@ answer_by (open_at i row) = gives waiting
 answer_by (end h bytes) = gives h
 
 -- Rules A4, T4 to T9 and T11: the call's answer, table, store and output are those of the way w.
-pub record Goes (w : Way) (t : Table) (store out : List ℕ) (a : Arrival) (payload : List ℕ) (answer' : Pushed) (table' : Table) (store' out' : List ℕ) : Type 0 where
+pub record Goes (w : Way) (t : Table) (store out : List ℕ) (a : Arrival) (payload : List ℕ) (answer' : Result Pushed Refusal) (table' : Table) (store' out' : List ℕ) : Type 0 where
   pub answers : pushed_of answer' ≡ answer_by w
   pub keeps : table' ≡ table_by w t a (length payload)
   pub stores : store' ≡ store_by w store payload

@@ -9,8 +9,6 @@ use table::{KEYS, MOST_KEYS, MOST_PLACES, PLACE_SIZE, PLACES, STORE_SIZE, Totals
 
 #[derive(Clone, Copy)]
 pub(crate) enum Step {
-    // refused by 11, 12, 20 or 10 (rules T4 and T6): nothing changes
-    Refuse(Refusal),
     // rule T5: the key holds this number already, and nothing changes
     Duplicate,
     // rule T6: the fragment goes to the lowest free place, under its key's row or the lowest free one
@@ -33,39 +31,46 @@ pub(crate) fn has_share(found: LookedUp, held: Totals) -> bool
 }
 
 // Rule T6, step 3 of push: a fragment that is not marked last is kept, if its sender may hold more and there is room.
-fn keep(found: LookedUp, held: Totals) -> Step
+fn keep(found: LookedUp, held: Totals) -> Result<Step, Refusal>
     ensures { (joins : Way) → step_way found result joins ≡ keep_way found held }
 {
     if has_share(found, held) {
-        return Step::Refuse(Refusal::SenderFull);
+        return Err(Refusal::SenderFull);
     }
     if PLACES <= found.free {
-        return Step::Refuse(Refusal::TableFull);
+        return Err(Refusal::TableFull);
     }
     if found.row < KEYS {
-        return Step::Keep;
+        return Ok(Step::Keep);
     }
     if KEYS <= found.spare {
-        return Step::Refuse(Refusal::TableFull);
+        return Err(Refusal::TableFull);
     }
-    Step::Keep
+    Ok(Step::Keep)
 }
 
-// Rules T4 to T7: the steps of push in their order, for a store and a payload of these lengths.
-pub(crate) fn choose(found: LookedUp, held: Totals, stored: usize, size: usize, last: bool) -> Step
+// Rules T4 to T7: the steps of push in their order, for a store and a payload of these lengths. A push that is refused,
+// by 11, 12, 20 or 10, changes nothing.
+pub(crate) fn choose(
+    found: LookedUp,
+    held: Totals,
+    stored: usize,
+    size: usize,
+    last: bool,
+) -> Result<Step, Refusal>
     ensures { (joins : Way) → step_way found result joins ≡ way_by stored size found.place last (keep_way found held) joins }
 {
     if stored < STORE_SIZE {
-        return Step::Refuse(Refusal::StoreTooSmall);
+        return Err(Refusal::StoreTooSmall);
     }
     if PLACE_SIZE < size {
-        return Step::Refuse(Refusal::PayloadTooLong);
+        return Err(Refusal::PayloadTooLong);
     }
     if found.place < PLACES {
-        return Step::Duplicate;
+        return Ok(Step::Duplicate);
     }
     if last {
-        return Step::Join;
+        return Ok(Step::Join);
     }
     keep(found, held)
 }

@@ -3,15 +3,14 @@
 ghost use Rattle.std.specs.Prelude.{◌≡◌, List, ℕ, ◌+◌, ◌≤◌, ◌<◌, length, get_or};
 ghost use Rattle.std.proofs.Math.Seq.{paste};
 ghost use Rattle.table.specs.Rows.{keys, place_size, store_size};
-ghost use Rattle.pushing.specs.Joining.{in_order_lem};
-ghost use Rattle.pushing.specs.Push.{over, join_by};
-ghost use Rattle.pushing.specs.PrivateSteps.{fragment_at, size_at, piece_bytes, pieces_to, reach_for, gap_in, compared_in, join_in, Judges, Ends};
+ghost use Rattle.pushing.specs.Push.{over, join_by, pushed_of, answer_by};
+ghost use Rattle.pushing.specs.PrivateSteps.{fragment_at, size_at, piece_bytes, pieces_to, reach_for, gap_in, compared_in, join_in, Ends};
 
 use crate::look::{find_beyond, find_numbered, find_unlike};
 use crate::rows::copy;
 use crate::{Fragment, Pushed};
 use numbers::Refusal;
-use table::{KEYS, PLACE_SIZE, PLACES};
+use table::{PLACE_SIZE, PLACES};
 
 // What stands for the new fragment among the places: the number after `PLACES`, which stands for none.
 const NEW_PIECE: usize = PLACES + 1;
@@ -108,53 +107,27 @@ pub(crate) struct Seen {
     pub total: usize,
 }
 
-// What joining comes to: the answer, how many pieces go to the output, and which row is dropped, `KEYS` for none.
-#[derive(Clone, Copy)]
-pub(crate) struct Verdict {
-    pub answer: Pushed,
-    pub pieces: usize,
-    pub dropped: usize,
-}
-
-// Rule T7: an answer without joined bytes. The key is dropped.
-fn ended(row: usize, answer: Pushed) -> Verdict
-    ensures { (result.answer ≡ answer) × (result.pieces ≡ 0) × (result.dropped ≡ row) }
-{
-    Verdict {
-        answer,
-        pieces: 0,
-        dropped: row,
-    }
-}
-
-// Rules T8 and T9, with refusal 13 for an output that is shorter than the message.
-pub(crate) fn judge(s: Seen, row: usize, room: usize) -> Verdict
-    ensures { (piece : ℕ → List ℕ) → s.total ≡ length (in_order_lem piece s.count) → Judges (join_by s.unlike s.gapped s.marked s.count (in_order_lem piece s.count) room) row s.count room piece result }
+// Rules T8 and T9: what joining answers. An output that is shorter than the message is refused by 13.
+#[tactic(auto, unfolding(crate::specs::Push::message_way))]
+pub(crate) fn judge(s: Seen, room: usize) -> Result<Pushed, Refusal>
+    ensures { (bytes : List ℕ) → s.total ≡ length bytes → pushed_of result ≡ answer_by (join_by s.unlike s.gapped s.marked s.count bytes room) }
 {
     if s.unlike {
-        return ended(row, Pushed::InconsistentMetadata);
+        return Ok(Pushed::InconsistentMetadata);
     }
     if s.gapped {
-        return ended(row, Pushed::MissingFragments);
+        return Ok(Pushed::MissingFragments);
     }
-    if s.marked {
-        if s.count <= 1 {
-            return ended(row, Pushed::Single(s.total));
-        }
-        if room < s.total {
-            return Verdict {
-                answer: Pushed::Refused(Refusal::OutputTooSmall(s.total)),
-                pieces: 0,
-                dropped: KEYS,
-            };
-        }
-        return Verdict {
-            answer: Pushed::Joined(s.total),
-            pieces: s.count,
-            dropped: row,
-        };
+    if !s.marked {
+        return Ok(Pushed::MissingLastFragment);
     }
-    ended(row, Pushed::MissingLastFragment)
+    if s.count <= 1 {
+        return Ok(Pushed::Single(s.total));
+    }
+    if room < s.total {
+        return Err(Refusal::OutputTooSmall(s.total));
+    }
+    Ok(Pushed::Joined(s.total))
 }
 
 // Copies a piece's bytes to the output, and returns where they end.
@@ -248,9 +221,9 @@ pub(crate) fn finish<'a>(
     payload: &[u8],
     last: Compared,
     out: &mut [u8],
-) -> Verdict
+) -> Result<Pushed, Refusal>
     requires { (last.row ≤ keys) × ((i : ℕ) → get_or sizes.now i 0 ≤ place_size) × (store_size ≤ length store.now) × (length payload.now ≤ place_size) }
-    ensures { Ends (join_in sizes.now owners.now numbers.now store.now payload.now last (length out.old)) last.row result out.old out.new }
+    ensures { Ends (join_in sizes.now owners.now numbers.now store.now payload.now last (length out.old)) result out.old out.new }
 {
     let row = last.row;
     let number = last.number;
@@ -264,12 +237,10 @@ pub(crate) fn finish<'a>(
         count,
         total: reached.total,
     };
-    let verdict = judge(seen, row, out.len());
-    let pieces = Pieces {
-        row,
-        number,
-        count: verdict.pieces,
-    };
-    join_into(sizes, owners, numbers, store, payload, pieces, out);
-    verdict
+    let answer = judge(seen, out.len())?;
+    if let Pushed::Joined(_) = answer {
+        let pieces = Pieces { row, number, count };
+        join_into(sizes, owners, numbers, store, payload, pieces, out);
+    }
+    Ok(answer)
 }

@@ -37,7 +37,7 @@ pub struct Arrival {
     pub fragment: Fragment,
 }
 
-// What push answers (rules T4 to T9).
+// What push answers (rules T5 to T9) where it doesn't refuse.
 #[derive(Clone, Copy)]
 pub enum Pushed {
     WaitingForMoreFragments,
@@ -49,13 +49,12 @@ pub enum Pushed {
     Single(usize),
     // rule T9: the message is at the start of the output, and has this length
     Joined(usize),
-    Refused(Refusal),
 }
 
 #[derive(Clone, Copy)]
 pub struct AfterPush {
     pub table: Table,
-    pub answer: Pushed,
+    pub answer: Result<Pushed, Refusal>,
 }
 
 // Rules T4 to T9: a fragment comes in, to the lent table. The store keeps payloads, and the output gets a joined message.
@@ -65,7 +64,7 @@ pub fn push_in_place(
     out: &mut [u8],
     a: Arrival,
     payload: &[u8],
-) -> Pushed
+) -> Result<Pushed, Refusal>
     requires { Made t.old }
     ensures { Goes (way t.old store.old a payload.now (length out.old)) t.old store.old out.old a payload.now result t.new store.new out.new }
 {
@@ -78,15 +77,14 @@ pub fn push_in_place(
         a.fragment.number,
     );
     let held = totals_at(&t.sender_keys, &t.sender_places, found.first);
-    let step = choose(found, held, store.len(), payload.len(), a.fragment.last);
+    let step = choose(found, held, store.len(), payload.len(), a.fragment.last)?;
     match step {
-        Step::Refuse(refusal) => Pushed::Refused(refusal),
-        Step::Duplicate => Pushed::DuplicatedFragment,
+        Step::Duplicate => Ok(Pushed::DuplicatedFragment),
         Step::Keep => {
             let size = payload.len();
             copy(payload, 0, size, store, found.free * PLACE_SIZE);
             with_fragment(t, found, held, a, size);
-            Pushed::WaitingForMoreFragments
+            Ok(Pushed::WaitingForMoreFragments)
         }
         Step::Join => {
             let last = compare(
@@ -96,9 +94,9 @@ pub fn push_in_place(
                 found.row,
                 a.fragment,
             );
-            let verdict = finish(&t.sizes, &t.owners, &t.numbers, store, payload, last, out);
-            drop_key(t, verdict.dropped);
-            verdict.answer
+            let answer = finish(&t.sizes, &t.owners, &t.numbers, store, payload, last, out)?;
+            drop_key(t, found.row);
+            Ok(answer)
         }
     }
 }
