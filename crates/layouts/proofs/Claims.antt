@@ -7,21 +7,13 @@ use lib.ListN.{length, take, drop, length-drop, take-append-drop}
 use lib.Seq.{take_all, length-take-le, take-append-le, drop-append-le}
 use lib.Dec.{leb, T, leb→le}
 use Rattle.numbers.specs.Numbers.{Answer, gives, refuses}
-use Rattle.numbers.proofs.Firm.{by_equation, by_telling, both, firm, never}
+use Rattle.numbers.proofs.Firm.{by_equation, by_answer, both, never}
 use Rattle.numbers.proofs.Answers.{given, gave, follows, mapped_given}
-use Rattle.layouts.specs.declared.Listing.{Listing}
-use Rattle.layouts.specs.declared.Listing.TheVariants.{Of, Refused as NoList}
-use Rattle.layouts.specs.declared.Ending.{Ending}
-use Rattle.layouts.specs.declared.Ending.TheVariants.{At, Refused as NoEnd}
-use Rattle.layouts.specs.declared.Reading.{Reading}
-use Rattle.layouts.specs.declared.Reading.TheVariants.{Value, Refused}
-use Rattle.layouts.specs.declared.Located.{Located}
-use Rattle.layouts.specs.declared.Located.TheVariants.{Entry, Refused as NotLocated}
-use Rattle.layouts.specs.declared.Counted.{Counted}
-use Rattle.layouts.specs.declared.Counted.TheVariants.{Entries, Refused as NotCounted}
 use Rattle.layouts.specs.Layouts.{Counting, c1, to_end, Layout, layout_of}
-use Rattle.layouts.specs.Reading.{ListAt, counting_of_lem, Consumed, consumed_to_lem, listing_of, ending_of, reading_of, read_as_lem, read_value_lem}
-use Rattle.layouts.specs.Access.{Span, span_of, length_at, located_of, locate_entry, part_of, counted_of, count_entries}
+use Rattle.layouts.specs.declared.Consumed.{Consumed}
+use Rattle.layouts.specs.Reading.{counting_of_lem, consumed_to_lem, read_as_lem, read_value_lem}
+use Rattle.layouts.specs.declared.Span.{Span}
+use Rattle.layouts.specs.Access.{span_of, length_at, locate_entry, part_of, count_entries}
 use Rattle.layouts.specs.Claims.{Firmness, levels_of, Shown, Below, ListValues, ListAlone, ListsAlone, Claims}
 use Rattle.layouts.proofs.Within.{end_within}
 use Rattle.layouts.proofs.Laws.{read_to}
@@ -32,47 +24,16 @@ use Rattle.layouts.proofs.Local.{Agree, taken, end_local, list_alike, span_alike
 use Rattle.layouts.proofs.Parts.{parts_of_entries, plain}
 use Rattle.layouts.proofs.Values.{Ended, ended, asked, answers}
 
--- no two answers are said alike
-pub listing_told : (a b : Listing) → listing_of a ≡ listing_of b → a ≡ b
-listing_told (Of n p) (Of m q) e = ap (λ l. Of l.many l.first) (given _ _ e)
-listing_told (Of n p) (NoList x) e = never _ _ _ e
-listing_told (NoList x) (Of n p) e = never _ _ _ (sym e)
-listing_told (NoList x) (NoList y) e = ap NoList (firm ListAt x y e)
-
-pub ending_told : (a b : Ending) → ending_of a ≡ ending_of b → a ≡ b
-ending_told (At p) (At q) e = ap At (given p q e)
-ending_told (At p) (NoEnd x) e = never _ _ _ e
-ending_told (NoEnd x) (At p) e = never _ _ _ (sym e)
-ending_told (NoEnd x) (NoEnd y) e = ap NoEnd (firm ℕ x y e)
-
-pub reading_told : (a b : Reading) → reading_of a ≡ reading_of b → a ≡ b
-reading_told (Value c r n) (Value d t m) e = ap (λ v. Value v.consumed v.rest v.entries) (given _ _ e)
-reading_told (Value c r n) (Refused x) e = never _ _ _ e
-reading_told (Refused x) (Value c r n) e = never _ _ _ (sym e)
-reading_told (Refused x) (Refused y) e = ap Refused (firm Consumed x y e)
-
-pub located_told : (a b : Located) → located_of a ≡ located_of b → a ≡ b
-located_told (Entry p q) (Entry u v) e = ap (λ v. Entry v.start v.end) (given _ _ e)
-located_told (Entry p q) (NotLocated x) e = never _ _ _ e
-located_told (NotLocated x) (Entry p q) e = never _ _ _ (sym e)
-located_told (NotLocated x) (NotLocated y) e = ap NotLocated (firm Span x y e)
-
-pub counted_told : (a b : Counted) → counted_of a ≡ counted_of b → a ≡ b
-counted_told (Entries n) (Entries m) e = ap Entries (given n m e)
-counted_told (Entries n) (NotCounted x) e = never _ _ _ e
-counted_told (NotCounted x) (Entries n) e = never _ _ _ (sym e)
-counted_told (NotCounted x) (NotCounted y) e = ap NotCounted (firm ℕ x y e)
-
 firmness : Firmness
 firmness = record {
-  list_at = λ row s at. by_telling listing_of listing_told _;
-  read_list = λ row n s at. by_telling ending_of ending_told _;
+  list_at = λ row s at. by_answer _;
+  read_list = λ row n s at. by_answer _;
   is_list = λ code. by_equation _;
-  read_value = λ code s. by_telling reading_of reading_told _;
-  locate = λ code path s. by_telling located_of located_told _;
+  read_value = λ code s. by_answer _;
+  locate = λ code path s. by_answer _;
   entry = λ code path s. both _ _ (by_equation _) (by_equation _);
-  count = λ code path s. by_telling counted_of counted_told _;
-  pass = λ code level enter s at. by_telling listing_of listing_told _;
+  count = λ code path s. by_answer _;
+  pass = λ code level enter s at. by_answer _;
 }
 
 -- the layout of a code whose value reads

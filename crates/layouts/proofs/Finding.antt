@@ -8,7 +8,8 @@ use borrow.Author.Tests.{lt-ltb, le-ltb}
 use Rattle.numbers.specs.Numbers.{gives, refuses, and_then, mapped}
 use Rattle.layouts.specs.declared.LayoutRow.{LayoutRow}
 use Rattle.layouts.specs.Layouts.{Layout}
-use Rattle.layouts.specs.Reading.{ListAt, list_of, entries_end, end_of}
+use Rattle.layouts.specs.declared.ListAt.{ListAt}
+use Rattle.layouts.specs.Reading.{list_of, entries_end, end_of}
 use Rattle.layouts.specs.Access.{numbers, child_at, below, find_entry_lem, span_of}
 use Rattle.layouts.specs.Rows.{row_below_lem, row_layout}
 use Rattle.layouts.proofs.Within.{among}

@@ -9,7 +9,8 @@ use Rattle.numbers.proofs.Firm.{never}
 use Rattle.numbers.proofs.Answers.{follows, stops}
 use Rattle.layouts.specs.declared.LayoutRow.{LayoutRow}
 use Rattle.layouts.specs.Layouts.{Layout, bytes, entry}
-use Rattle.layouts.specs.Reading.{reaching, ListAt, head_of, counting_of_lem, count_at_lem, list_of, entries_end, end_of, consumed_to_lem, read_as_lem}
+use Rattle.layouts.specs.declared.ListAt.{ListAt}
+use Rattle.layouts.specs.Reading.{reaching, head_of, counting_of_lem, count_at_lem, list_of, entries_end, end_of, consumed_to_lem, read_as_lem}
 use Rattle.layouts.specs.Rows.{counting, row_below_lem, layout_in, row_layout}
 use Rattle.layouts.proofs.Within.{list_leaf}
 

@@ -12,7 +12,8 @@ use borrow.Author.Tests.{ltb-true}
 use Rattle.numbers.specs.Numbers.{Answer, gives, refuses, and_then}
 use Rattle.numbers.proofs.Answers.{given, gave, follows, mapped_given}
 use Rattle.layouts.specs.Layouts.{c1, to_end, Layout, bytes, entry}
-use Rattle.layouts.specs.Reading.{ListAt, head_of, count_at_lem, list_of, entries_end, end_of}
+use Rattle.layouts.specs.declared.ListAt.{ListAt}
+use Rattle.layouts.specs.Reading.{head_of, count_at_lem, list_of, entries_end, end_of}
 use Rattle.layouts.specs.Access.{child_at, below, Spot, find_entry_lem, span_of, length_at, Spans, spans_from}
 use Rattle.layouts.proofs.Within.{Within, reaches, reached, count_within, behind_head, list_leaf, list_within, entries_within, ends_in, end_within}
 use Rattle.layouts.proofs.Spans.{spans_end, placed, cons, spans_within}

@@ -12,7 +12,8 @@ use borrow.Author.Tests.{ltb-true, ltb-false}
 use Rattle.numbers.specs.Numbers.{gives, refuses, mapped}
 use Rattle.numbers.proofs.Answers.{given, follows, stops, mapped_given}
 use Rattle.layouts.specs.Layouts.{to_end, Layout, bytes, entry}
-use Rattle.layouts.specs.Reading.{ListAt, count_at_lem, list_of, end_of}
+use Rattle.layouts.specs.declared.ListAt.{ListAt}
+use Rattle.layouts.specs.Reading.{count_at_lem, list_of, end_of}
 use Rattle.layouts.specs.Access.{below, part_of, span_of, nth_of, spans_in, parts_in}
 use Rattle.layouts.specs.Claims.{Parts, PartsOfEntries, Plain}
 use Rattle.layouts.proofs.Within.{reached, behind_head, list_within, end_within}

@@ -9,11 +9,12 @@ use Rattle.numbers.specs.Numbers.{gives, refuses, mapped}
 use Rattle.numbers.proofs.Answers.{follows, stops}
 use Rattle.layouts.specs.declared.LayoutRow.{LayoutRow}
 use Rattle.layouts.specs.Layouts.{Counting, Layout, bytes, entry}
-use Rattle.layouts.specs.Reading.{reaching, ListAt, list_of, end_of}
+use Rattle.layouts.specs.declared.ListAt.{ListAt}
+use Rattle.layouts.specs.Reading.{reaching, list_of, entries_end, end_of}
 use Rattle.layouts.specs.Access.{at_level, gone_over}
 use Rattle.layouts.specs.Rows.{row_below_lem, row_layout}
 use Rattle.layouts.proofs.Within.{leafless}
-use Rattle.layouts.proofs.Laws.{layout_zero, layout_more}
+use Rattle.layouts.proofs.Laws.{layout_zero, layout_more, end_there}
 
 -- the entry itself, a level that there isn't, and one level down
 pub level_here : (k : ℕ) (l : Layout) → k ≤ 0 → at_level k l ≡ gives l
@@ -44,12 +45,23 @@ module _ (l : Layout) (s : List ℕ) (p : ℕ) (m : ListAt) (has : list_of l s p
     go (bytes n) x = leafless n s p m x
     go (entry n w e) x = x
 
-  pub pass_over : gone_over false l s p ≡ mapped (λ q. record { many = m.many; first = q }) (end_of l s p)
+  pass_over : gone_over false l s p ≡ mapped (λ q. record { many = m.many; first = q }) (end_of l s p)
   unfolding gone_over
   pass_over = go l has where
     go : (l : Layout) → list_of l s p ≡ gives m → gone_over false l s p ≡ mapped (λ q. record { many = m.many; first = q }) (end_of l s p)
     go (bytes n) x = leafless n s p m x
     go (entry n w e) x = follows (list_of (entry n w e) s p) m _ x
+
+-- in a row's numbers: the entry ends where the entries of its list end, or one of these is cut
+pub pass_to : (enter : Bool) (row below : LayoutRow) (s : List ℕ) (p q : ℕ) (m : ListAt) → enter ≡ false → below ≡ row_below_lem row → list_of (row_layout row) s p ≡ gives m →
+    entries_end (end_of (row_layout below) s) m.many m.first ≡ gives q → gone_over enter (row_layout row) s p ≡ gives (record { many = m.many; first = q })
+pass_to enter row below s p q m e b has x =
+    let y = rw (b, end_there row s p m has) at x in rw (e, pass_over (row_layout row) s p m has, y)
+
+pub pass_short : (enter : Bool) (row below : LayoutRow) (s : List ℕ) (p n : ℕ) (vs : List ℕ) (m : ListAt) → enter ≡ false → below ≡ row_below_lem row → list_of (row_layout row) s p ≡ gives m →
+    entries_end (end_of (row_layout below) s) m.many m.first ≡ refuses n vs → gone_over enter (row_layout row) s p ≡ refuses n vs
+pass_short enter row below s p n vs m e b has x =
+    let y = rw (b, end_there row s p m has) at x in rw (e, pass_over (row_layout row) s p m has, y)
 
 -- or its list is cut
 pub pass_cut : (enter : Bool) (row : LayoutRow) (s : List ℕ) (p n : ℕ) (vs : List ℕ) → (row.levels ≡ 0 → ⊥) → list_of (row_layout row) s p ≡ refuses n vs →

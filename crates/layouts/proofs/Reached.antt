@@ -8,8 +8,10 @@ use Rattle.numbers.specs.Numbers.{Answer, gives, and_then, mapped}
 use Rattle.numbers.proofs.Firm.{never}
 use Rattle.numbers.proofs.Answers.{given, follows, gave, mapped_given, mapped_gave, alike, regrouped}
 use Rattle.layouts.specs.Layouts.{Layout}
-use Rattle.layouts.specs.Reading.{ListAt, list_of, end_of}
-use Rattle.layouts.specs.Access.{child_at, below, Spot, find_entry_lem, Span, span_of, length_at}
+use Rattle.layouts.specs.declared.ListAt.{ListAt}
+use Rattle.layouts.specs.Reading.{list_of, end_of}
+use Rattle.layouts.specs.declared.Span.{Span}
+use Rattle.layouts.specs.Access.{child_at, below, Spot, find_entry_lem, span_of, length_at}
 use Rattle.layouts.specs.Claims.{Shown, Below}
 use Rattle.layouts.proofs.Within.{list_within, end_within, among}
 use Rattle.layouts.proofs.Spans.{Placed, listed, Lies, Nth, nth}

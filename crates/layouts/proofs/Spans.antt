@@ -10,8 +10,10 @@ use lib.Seq.{take-add, drop-drop}
 use Rattle.numbers.specs.Numbers.{Answer, gives, refuses, and_then, mapped}
 use Rattle.numbers.proofs.Answers.{given, gave, mapped_gave, mapped_twice, follows}
 use Rattle.layouts.specs.Layouts.{Layout, bytes, entry}
-use Rattle.layouts.specs.Reading.{reaching, ListAt, list_of, entries_end, end_of}
-use Rattle.layouts.specs.Access.{below, Span, part_of, nth_of, Spans, before, spans_from}
+use Rattle.layouts.specs.declared.ListAt.{ListAt}
+use Rattle.layouts.specs.Reading.{reaching, list_of, entries_end, end_of}
+use Rattle.layouts.specs.declared.Span.{Span}
+use Rattle.layouts.specs.Access.{below, part_of, nth_of, Spans, before, spans_from}
 use Rattle.layouts.proofs.Within.{Within, reached, leafless, ends_in}
 
 abbrev pub span : ℕ → ℕ → Span

@@ -11,8 +11,11 @@ use Rattle.numbers.specs.Numbers.{Answer, gives, refuses, and_then}
 use Rattle.numbers.proofs.Firm.{never}
 use Rattle.numbers.proofs.Answers.{given, gave, follows}
 use Rattle.layouts.specs.Layouts.{Counting, c1, to_end, Layout, layout_of}
-use Rattle.layouts.specs.Reading.{ListAt, counting_of_lem, list_of, end_of, Consumed, consumed_to_lem, read_as_lem}
-use Rattle.layouts.specs.Access.{Span, span_of, of_value_lem, locate_entry}
+use Rattle.layouts.specs.declared.ListAt.{ListAt}
+use Rattle.layouts.specs.declared.Consumed.{Consumed}
+use Rattle.layouts.specs.Reading.{counting_of_lem, list_of, end_of, consumed_to_lem, read_as_lem}
+use Rattle.layouts.specs.declared.Span.{Span}
+use Rattle.layouts.specs.Access.{span_of, of_value_lem, locate_entry}
 use Rattle.layouts.proofs.Within.{Within, end_within}
 use Rattle.layouts.proofs.Reached.{span_inside}
 

@@ -11,7 +11,8 @@ use Rattle.numbers.specs.Numbers.{Answer, gives, refuses}
 use Rattle.numbers.proofs.Firm.{never}
 use Rattle.numbers.proofs.Answers.{given, gave}
 use Rattle.layouts.specs.Layouts.{Counting, c1, to_end, Layout, bytes, entry}
-use Rattle.layouts.specs.Reading.{reaching, ListAt, head_of, count_at_lem, list_of, entries_end, end_of}
+use Rattle.layouts.specs.declared.ListAt.{ListAt}
+use Rattle.layouts.specs.Reading.{reaching, head_of, count_at_lem, list_of, entries_end, end_of}
 use Rattle.layouts.specs.Access.{child_at, below}
 
 abbrev pub Within : ℕ → ℕ → List ℕ → Type 0

@@ -1,13 +1,11 @@
 -- Asking for an entry by its numbers, and for how many entries a list has (rules E1 to E3).
 use Rattle.std.specs.Prelude.{Bool, true, false, cond, List, [], ◌∷◌, map, ℕ, zero, suc, ◌-◌, ltb, take, drop}
-use Rattle.numbers.specs.Numbers.{Answer, gives, refuses, told, and_then, mapped}
+use Rattle.numbers.specs.Numbers.{Answer, gives, refuses, and_then, mapped}
 use Rattle.layouts.specs.declared.Path.{Path}
-use Rattle.layouts.specs.declared.Located.{Located}
-use Rattle.layouts.specs.declared.Located.TheVariants.{Entry, Refused}
-use Rattle.layouts.specs.declared.Counted.{Counted}
-use Rattle.layouts.specs.declared.Counted.TheVariants.{Entries, Refused as NotCounted}
+use Rattle.layouts.specs.declared.ListAt.{ListAt}
+use Rattle.layouts.specs.declared.Span.{Span}
 use Rattle.layouts.specs.Layouts.{Layout, bytes, entry, layout_of}
-use Rattle.layouts.specs.Reading.{ListAt, list_of, entries_end, end_of, read_as_lem}
+use Rattle.layouts.specs.Reading.{list_of, entries_end, end_of, read_as_lem}
 
 -- Rule E1: the numbers of a path, `depth` of them. Those past the third are 0, because no kind has more than three
 -- levels.
@@ -36,10 +34,6 @@ pub record Spot : Type 0 where
 unfoldable pub find_entry_lem : Layout → List ℕ → List ℕ → ℕ → Answer Spot
 find_entry_lem e [] s p = gives (record { layout = e; start = p })
 find_entry_lem e (i ∷ is) s p = and_then (child_at e i s p) (λ q. find_entry_lem (below e) is s q)
-
-pub record Span : Type 0 where
-  pub start : ℕ
-  pub end : ℕ
 
 -- Rules E1 and E2: where the entry with these numbers starts, and where the lists that it holds end. Without a number
 -- there is no such entry.
@@ -116,12 +110,3 @@ spans_in l s p = and_then (list_of l s p) (λ m. spans_from (end_of (below l) s)
 -- the parts of the entries of a value's outermost list
 unfoldable pub parts_in : Layout → List ℕ → Answer (List (List ℕ))
 parts_in l s = mapped (λ r. map (λ e. part_of (gives e) s) r.each) (spans_in l s 0)
-
--- what each answer of the calls says
-abbrev pub located_of : Located → Answer Span
-located_of (Entry p q) = gives (record { start = p; end = q })
-located_of (Refused r) = told r
-
-abbrev pub counted_of : Counted → Answer ℕ
-counted_of (Entries n) = gives n
-counted_of (NotCounted r) = told r

@@ -2,28 +2,31 @@
 use Rattle.std.specs.Prelude.{◌≡◌, Bool, ℕ, suc, ◌+◌, ◌*◌, ◌<◌, ◌≤◌, length, take}
 use mathlib.Core.List.{List, [], ◌∷◌, ◌++◌, flatten}
 use Rattle.std.specs.Borrow.{Bor}
-use Rattle.numbers.specs.Numbers.{Answer, gives, mapped}
+use Rattle.numbers.specs.Numbers.{Answer, gives, mapped, answered}
 use Rattle.numbers.specs.Firmness.{Firm}
 use Rattle.numbers.specs.Parts.{behind}
 use Rattle.layouts.specs.declared.LayoutRow.{LayoutRow}
+use Rattle.layouts.specs.declared.ListAt.{ListAt}
+use Rattle.layouts.specs.declared.Consumed.{Consumed}
+use Rattle.layouts.specs.declared.Span.{Span}
 use Rattle.layouts.specs.declared.Path.{Path}
 use Rattle.layouts.specs.Layouts.{Counting, to_end, Layout, bytes, entry, layout_of, is_list_lem}
 use Rattle.layouts.specs.Rows.{row_layout}
-use Rattle.layouts.specs.Reading.{ListAt, list_of, entries_end, end_of, Consumed, listing_of, ending_of, reading_of, read_value_lem}
-use Rattle.layouts.specs.Access.{numbers_of, Span, span_of, nth_of, parts_in, located_of, locate_entry, part_of, start_in, counted_of, count_entries, pass_entry}
+use Rattle.layouts.specs.Reading.{list_of, entries_end, end_of, read_value_lem}
+use Rattle.layouts.specs.Access.{numbers_of, span_of, nth_of, parts_in, locate_entry, part_of, start_in, count_entries, pass_entry}
 
 -- Rule A4, for each public call by its name: any two answers that its contract allows are one. A part is its bytes and
 -- its place.
 pub record Firmness : Type 0 where
-  pub list_at : (row : LayoutRow) (s : List ℕ) (at : ℕ) → Firm (λ r. listing_of r ≡ list_of (row_layout row) s at)
-  pub read_list : (row : LayoutRow) (n : ℕ) (s : List ℕ) (at : ℕ) → Firm (λ r. ending_of r ≡ entries_end (end_of (row_layout row) s) n at)
+  pub list_at : (row : LayoutRow) (s : List ℕ) (at : ℕ) → Firm (λ r. answered r ≡ list_of (row_layout row) s at)
+  pub read_list : (row : LayoutRow) (n : ℕ) (s : List ℕ) (at : ℕ) → Firm (λ r. answered r ≡ entries_end (end_of (row_layout row) s) n at)
   pub is_list : (code : ℕ) → Firm (λ r. r ≡ is_list_lem code)
-  pub read_value : (code : ℕ) (s : List ℕ) → Firm (λ r. reading_of r ≡ read_value_lem code s)
-  pub locate : (code : ℕ) (path : Path) (s : List ℕ) → Firm (λ r. located_of r ≡ locate_entry code (numbers_of path) s)
+  pub read_value : (code : ℕ) (s : List ℕ) → Firm (λ r. answered r ≡ read_value_lem code s)
+  pub locate : (code : ℕ) (path : Path) (s : List ℕ) → Firm (λ r. answered r ≡ locate_entry code (numbers_of path) s)
   pub entry : (code : ℕ) (path : Path) (s : Bor (List ℕ)) → Firm {A = List ℕ × (ℕ × ℕ)} (λ r.
       (r.0 ≡ part_of (locate_entry code (numbers_of path) s.now) s.now) × (r.1 ≡ behind (start_in (locate_entry code (numbers_of path) s.now)) s))
-  pub count : (code : ℕ) (path : Path) (s : List ℕ) → Firm (λ r. counted_of r ≡ count_entries code (numbers_of path) s)
-  pub pass : (code level : ℕ) (enter : Bool) (s : List ℕ) (at : ℕ) → Firm (λ r. listing_of r ≡ pass_entry code level enter s at)
+  pub count : (code : ℕ) (path : Path) (s : List ℕ) → Firm (λ r. answered r ≡ count_entries code (numbers_of path) s)
+  pub pass : (code level : ℕ) (enter : Bool) (s : List ℕ) (at : ℕ) → Firm (λ r. answered r ≡ pass_entry code level enter s at)
 
 -- how many levels of lists a layout has (rule E1)
 abbrev pub levels_of : Layout → ℕ

@@ -1,22 +1,13 @@
 -- Reading a value of a list kind (rules K1, K3 and K4).
 use Rattle.std.specs.Prelude.{cond, List, [], ℕ, zero, suc, ◌+◌, ◌-◌, ◌/◌, ltb, leb, length, get_or}
-use Rattle.numbers.specs.Numbers.{Answer, gives, refuses, told, and_then}
-use Rattle.layouts.specs.declared.Listing.{Listing}
-use Rattle.layouts.specs.declared.Listing.TheVariants.{Of, Refused as NoList}
-use Rattle.layouts.specs.declared.Ending.{Ending}
-use Rattle.layouts.specs.declared.Ending.TheVariants.{At, Refused as NoEnd}
-use Rattle.layouts.specs.declared.Reading.{Reading}
-use Rattle.layouts.specs.declared.Reading.TheVariants.{Value, Refused}
+use Rattle.numbers.specs.Numbers.{Answer, gives, refuses, and_then}
+use Rattle.layouts.specs.declared.ListAt.{ListAt}
+use Rattle.layouts.specs.declared.Consumed.{Consumed}
 use Rattle.layouts.specs.Layouts.{Counting, c1, to_end, Layout, bytes, entry, layout_of}
 
 -- Rule K1: the answer a, if the value has q bytes. A value that stops before is refused by 3.
 abbrev pub reaching : {A : Type 0} → ℕ → List ℕ → A → Answer A
 reaching q s a = cond (leb q (length s)) (gives a) (refuses 3 [])
-
--- a list: how many entries it has, and where the first one starts
-pub record ListAt : Type 0 where
-  pub many : ℕ
-  pub first : ℕ
 
 abbrev pub head_of : Layout → ℕ
 head_of (bytes n) = n
@@ -47,26 +38,6 @@ entries_end f (suc n) p = and_then (f p) (λ q. entries_end f n q)
 unfoldable pub end_of : Layout → List ℕ → ℕ → Answer ℕ
 end_of (bytes n) s p = reaching (p + n) s (p + n)
 end_of (entry n w e) s p = and_then (list_of (entry n w e) s p) (λ m. entries_end (end_of e s) m.many m.first)
-
--- Rule K1: what reading a value returns. It is how many bytes were consumed, how many follow these, and the number of
--- entries of the outermost list.
-pub record Consumed : Type 0 where
-  pub consumed : ℕ
-  pub rest : ℕ
-  pub entries : ℕ
-
--- what each answer of the calls says
-abbrev pub listing_of : Listing → Answer ListAt
-listing_of (Of n p) = gives (record { many = n; first = p })
-listing_of (NoList r) = told r
-
-abbrev pub ending_of : Ending → Answer ℕ
-ending_of (At p) = gives p
-ending_of (NoEnd r) = told r
-
-abbrev pub reading_of : Reading → Answer Consumed
-reading_of (Value c r n) = gives (record { consumed = c; rest = r; entries = n })
-reading_of (Refused r) = told r
 
 -- Rule K4: a value of n entries whose layout ends at e. What follows is the rest. After a list to the end, as kinds 6,
 -- 7, 9 and 10 have it, it is refused by 4.

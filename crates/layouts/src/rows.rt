@@ -1,18 +1,11 @@
 // The table of the list kinds (rule K2).
 ghost use Rattle.std.specs.Prelude.{◌≡◌, true, false, ◌<◌};
+ghost use Rattle.numbers.specs.Numbers.{answered, mapped};
 ghost use Rattle.layouts.specs.Layouts.{layout_of};
-ghost use Rattle.layouts.specs.Rows.{row_below_lem};
-ghost use Rattle.layouts.specs.PrivateRows.{row_told};
+ghost use Rattle.layouts.specs.Rows.{row_below_lem, row_layout};
 
 use crate::LayoutRow;
 use numbers::Refusal;
-
-// A row of the table.
-#[derive(Clone, Copy)]
-pub(crate) enum ListKindRow {
-    List(LayoutRow),
-    Refused(Refusal),
-}
 
 // The row of the entries in its list. Their own lists have counts.
 pub(crate) fn row_below(row: LayoutRow) -> LayoutRow
@@ -59,30 +52,30 @@ fn to_end(h0: u8, h1: u8) -> LayoutRow
 }
 
 // The row of the list kind with this code (rule K2).
-pub(crate) fn row_of(code: u8) -> ListKindRow
-    ensures { row_told result ≡ layout_of code }
+pub(crate) fn row_of(code: u8) -> Result<LayoutRow, Refusal>
+    ensures { mapped row_layout (answered result) ≡ layout_of code }
 {
     match code {
         // SupportedService
-        0x80 => ListKindRow::List(counted(1, 1, 0, 0)),
+        0x80 => Ok(counted(1, 1, 0, 0)),
         // NonIeee1905NeighborDevices
-        6 => ListKindRow::List(to_end(6, 6)),
+        6 => Ok(to_end(6, 6)),
         // Ieee1905NeighborDevice
-        7 => ListKindRow::List(to_end(6, 7)),
+        7 => Ok(to_end(6, 7)),
         // LinkMetricTx
-        9 => ListKindRow::List(to_end(12, 29)),
+        9 => Ok(to_end(12, 29)),
         // LinkMetricRx
-        10 => ListKindRow::List(to_end(12, 23)),
+        10 => Ok(to_end(12, 23)),
         // Ipv4
-        23 => ListKindRow::List(counted(2, 6, 9, 0)),
+        23 => Ok(counted(2, 6, 9, 0)),
         // Ipv6
-        24 => ListKindRow::List(counted(2, 22, 33, 0)),
+        24 => Ok(counted(2, 22, 33, 0)),
         // DeviceBridgingCapability
-        4 => ListKindRow::List(counted(2, 0, 6, 0)),
+        4 => Ok(counted(2, 0, 6, 0)),
         // ApOperationalBss
-        0x83 => ListKindRow::List(counted(3, 6, 6, 1)),
+        0x83 => Ok(counted(3, 6, 6, 1)),
         // BssConfigurationReport
-        0xB7 => ListKindRow::List(counted(3, 6, 8, 1)),
-        _ => ListKindRow::Refused(Refusal::UnknownKind),
+        0xB7 => Ok(counted(3, 6, 8, 1)),
+        _ => Err(Refusal::UnknownKind),
     }
 }

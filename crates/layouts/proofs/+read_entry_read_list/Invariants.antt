@@ -1,6 +1,6 @@
 -- The entry reader goes one level down, the list reader over its entries: measures twice the levels, and one more. The
--- entries i to n from p on end where all n do.
-use Rattle.std.proofs.Common.{◌-◌, ◌+◌}
+-- entries that are left, from `end` on, end where all n do.
+use Rattle.std.proofs.Common.{◌+◌}
 use Rattle.layouts.specs.Rows.{row_layout}
 use Rattle.layouts.proofs.Loop.{Left}
 use Rattle.layouts.proofs.+read_entry_read_list.Given as goal
@@ -11,8 +11,5 @@ decreases-read_entry l = l.row.levels + l.row.levels
 abbrev pub decreases-read_list : goal.decreases-read_list
 decreases-read_list l = l.row.levels + l.row.levels + 1
 
-abbrev pub invariant-read_list-loop-i : goal.invariant-read_list-loop-i
-invariant-read_list-loop-i l = Left (row_layout l.row) l.s l.n l.at l.i l.p
-
-abbrev pub decreases-read_list-loop-i : goal.decreases-read_list-loop-i
-decreases-read_list-loop-i l = l.n - l.i
+abbrev pub invariant-read_list-loop : goal.invariant-read_list-loop
+invariant-read_list-loop l = Left (row_layout l.row) l.s l.n l.at l.counter l.end

@@ -6,6 +6,7 @@ use Prim.Native.Nat.{◌-◌}
 use lib.ListN.{length}
 use Rattle.layouts.specs.Reading.{consumed_to_lem}
 use Rattle.layouts.proofs.lists.consumed_to.Goals as goal
+use Rattle.layouts.proofs.lists.consumed_to.Goals.{else-not-has_count-via-then-not-has_count+else-rest-gt0, else-not-has_count-via-else-not-has_count}
 
 pub returns-then-rest-gt0 : goal.returns-then-rest-gt0
 unfolding consumed_to_lem
@@ -13,13 +14,11 @@ returns-then-rest-gt0 c =
     let a = c.args in
     simp (c.if-not-has_count.true, lt-ltb a.end (length a.s.now) (omega arith))
 
-pub returns-else-rest-gt0 : goal.returns-else-rest-gt0
+pub returns : goal.returns
 unfolding consumed_to_lem
-returns-else-rest-gt0 c =
+returns c =
     let a = c.args in
-    let z : length a.s.now - a.end ≡ 0 = omega arith in
-    simp (c.if-not-has_count.true, le-ltb a.end (length a.s.now) (omega arith), z)
-
-pub returns-else-not-has_count : goal.returns-else-not-has_count
-unfolding consumed_to_lem
-returns-else-not-has_count c = simp (c.if-not-has_count.false)
+    elim c.else-not-has_count.branch [
+      | else-not-has_count-via-then-not-has_count+else-rest-gt0 w ↦ let z : length a.s.now - a.end ≡ 0 = omega arith in simp (w.if-not-has_count.true, le-ltb a.end (length a.s.now) (omega arith), z)
+      | else-not-has_count-via-else-not-has_count w ↦ simp (w.if-not-has_count.false)
+    ]

@@ -1,8 +1,0 @@
--- What is known of the end says which answer it is.
-use Rattle.layouts.proofs.passing.ended.Goals as goal
-
-pub returns-in-At : goal.returns-in-At
-returns-in-At c = rw c.in-At.is
-
-pub returns-in-Refused : goal.returns-in-Refused
-returns-in-Refused c = rw c.in-Refused.is
