@@ -1,6 +1,6 @@
 -- Decimal numbers as commands have them.
 use Rattle.std.specs.Prelude.{ℕ, ◌+◌, ◌*◌, ◌%◌, min, cond, List, drop, ℤ, pos, negsuc, neg_ℤ, ◌==◌, slice_index}
-use mathlib.Core.List.{foldl}
+use Rattle.std.specs.List.{fold}
 
 -- a number with a digit after it, the digit's byte less that of 0; one that needs more than 64 bits is the greatest
 -- that doesn't
@@ -9,7 +9,7 @@ with_digit_lem n digit = min (n * 10 + (digit + 208) % 256) 18446744073709551615
 
 -- the number of these digits
 abbrev pub number_of : List ℕ → ℕ
-number_of s = foldl with_digit_lem 0 s
+number_of s = fold with_digit_lem 0 s
 
 -- the number of these digits, which has a `-` in front where it is below zero
 unfoldable pub signed_of : List ℕ → ℤ

@@ -1,27 +1,19 @@
--- From each byte on that is no separator, the place is the same.
-use Rattle.std.proofs.Common.{◌<◌, length, sym, ap, ◌∙◌, arith, eq-eqb, ne_eqb}
-use Rattle.command_lines.proofs.Separators.{place_here, place_end, up_to_next, past_first_next}
+-- The length stands for a place that is not found.
+use Rattle.std.proofs.Common.{◌≡◌, ℕ, ◌≤◌, Bool, true, false, cond, length, eqb, ltb, ltb-false, arith, refl, ap, ◌∙◌, Option, Some, None}
+use Rattle.std.specs.Option.{unwrap_or}
+use Rattle.std.specs.List.{position_or_len}
+use Rattle.std.proofs.lemmas.List.Sums.{prefix_len-le-length}
 use Rattle.command_lines.proofs.place_of.Goals as goal
 
-pub returns-then-s-i : goal.returns-then-s-i
-returns-then-s-i c =
-    let x = c.args in
-    let kept = c.loop-i.invariant in
-    place_here x.separator x.s.now x.from c.loop-i.i (omega arith) (eq-eqb _ _ c.if-s-i.true) kept.1 kept.2
-
-pub loop-i-preserved : goal.loop-i-preserved
-loop-i-preserved c =
-    let x = c.args in
-    let kept = c.loop-i.invariant in
-    let other = ne_eqb _ _ c.if-s-i.false in
-    let inside : c.loop-i.i < length x.s.now = omega arith in (
-      omega arith,
-      omega (arith, kept.1, ap length (up_to_next x.separator x.s.now c.loop-i.i inside other)),
-      sym (past_first_next x.separator x.s.now c.loop-i.i inside other) ∙ kept.2,
-    )
+place_or : (b : Bool) (i n : ℕ) → i ≤ n → ltb i n ≡ b → unwrap_or (cond b (Some i) None) n ≡ i
+place_or true i n h e = refl
+place_or false i n h e = omega (arith, ltb-false i n e)
 
 pub returns : goal.returns
 returns c =
-    let x = c.args in
-    let kept = c.loop-i.invariant in
-    place_end x.separator x.s.now x.from c.loop-i.i kept.0 (omega arith) kept.1 kept.2
+    let s = c.args.s.now in
+    let n = length s in
+    let i = position_or_len (λ b. eqb b c.args.separator) s in
+    let within : i ≤ n = prefix_len-le-length _ s in
+    let first : c.unwrap_or.result ≡ i = c.unwrap_or.ensures ∙ ap (λ (o : Option ℕ). unwrap_or o n) c.found.ensures ∙ place_or (ltb i n) i n within refl in
+    record { first = first; within = omega (arith, first, within) }
