@@ -1,24 +1,23 @@
 -- The claims of specs/Claims.antt, proved.
-use mathlib.Core.Path.{◌≡◌, refl, sym, ap}
+use mathlib.Core.Path.{◌≡◌, refl, ap}
 use mathlib.Core.Bool.{false, true≢false}
 use mathlib.Core.List.{List, []}
 use Prim.Native.Nat.{ℕ, ◌<◌, ◌/◌, ◌%◌}
 use native.Mathlib.Omega.{arith}
 use lib.ListN.{get_or}
 use Rattle.numbers.specs.Numbers.{Answer, gives, refuses, mapped, is_given}
-use Rattle.numbers.proofs.Answers.{given}
-use Rattle.numbers.proofs.Firm.{firm, never, by_equation, by_telling, both}
+use Rattle.numbers.proofs.Firm.{by_equation, by_answer, both}
 use Rattle.machines.specs.Machine.{run}
 use Rattle.machines.specs.Happened.{and_steps}
 use Rattle.records.specs.declared.MacAddr.{MacAddr}
 use Rattle.records.specs.Values.{octets}
 use Rattle.stations.specs.declared.Heard.{Heard}
-use Rattle.stations.specs.declared.EventAnswer.{EventAnswer}
-use Rattle.stations.specs.declared.Applied.{Applied}
+use Rattle.stations.specs.declared.Taken.{Taken}
+use Rattle.stations.specs.declared.reading.AssociationRead.{AssociationRead}
 use Rattle.stations.specs.Addresses.{address_number, address_of}
 use Rattle.stations.specs.Whereabouts.{Event, event_of}
 use Rattle.stations.specs.Rows.{Stations, fresh_stations, answer_to, table_after}
-use Rattle.stations.specs.Events.{answered_of, Taken, applied_of, AssociationRead, association_read, answer_to_read, table_after_read, answer_from, table_from}
+use Rattle.stations.specs.Events.{association_read, answer_to_read, table_after_read, answer_from, table_from}
 use Rattle.stations.specs.Runs.{of_value, event_read_lem, event_by}
 use Rattle.stations.specs.Claims.{Firmness, Claims}
 use Rattle.stations.proofs.Sound.{moves, why_refused, full_is_128, sound}
@@ -26,23 +25,11 @@ use Rattle.stations.proofs.Associations.{reads_association}
 use Rattle.stations.proofs.Answers.{answered_when, stale_unaltered}
 use Rattle.stations.proofs.Orders.{exactly_when, order_across_stations, swapped}
 
-answered_one : (a b : EventAnswer) → answered_of a ≡ answered_of b → a ≡ b
-answered_one (EventAnswer.Heard h) (EventAnswer.Heard k) e = ap EventAnswer.Heard (given h k e)
-answered_one (EventAnswer.Heard h) (EventAnswer.Refused g) e = never _ _ _ e
-answered_one (EventAnswer.Refused f) (EventAnswer.Heard k) e = never _ _ _ (sym e)
-answered_one (EventAnswer.Refused f) (EventAnswer.Refused g) e = ap EventAnswer.Refused (firm Heard f g e)
-
-applied_one : (a b : Applied) → applied_of a ≡ applied_of b → a ≡ b
-applied_one (Applied.Heard h n) (Applied.Heard k m) e = ap (λ (x : Taken). Applied.Heard x.heard x.consumed) (given _ _ e)
-applied_one (Applied.Heard h n) (Applied.Refused g) e = never _ _ _ e
-applied_one (Applied.Refused f) (Applied.Heard k m) e = never _ _ _ (sym e)
-applied_one (Applied.Refused f) (Applied.Refused g) e = ap Applied.Refused (firm Taken f g e)
-
 firmness : Firmness
 firmness = record {
   fresh = by_equation fresh_stations;
-  event = λ t e. both (λ (a : EventAnswer). answered_of a ≡ answer_to t (event_of e)) (λ (x : Stations). x ≡ table_after t (event_of e)) (by_telling answered_of answered_one _) (by_equation _);
-  event_from = λ t value. both (λ (a : Applied). applied_of a ≡ answer_from t value) (λ (x : Stations). x ≡ table_from t value) (by_telling applied_of applied_one _) (by_equation _);
+  event = λ t e. both _ _ (by_answer (answer_to t (event_of e))) (by_equation (table_after t (event_of e)));
+  event_from = λ t value. both _ _ (by_answer (answer_from t value)) (by_equation (table_from t value));
   where_is = λ t station. by_equation _;
   count = λ t. by_equation _;
   row = λ t n. by_equation _;
@@ -51,12 +38,12 @@ firmness = record {
 value_refused : (t : Stations) (value : List ℕ) → is_given (answer_from t value) ≡ false → table_from t value ≡ t
 value_refused t value h = by_read (association_read value) h
   where
-    by_answer : (e : Event) (n : ℕ) (a : Answer Heard) → answer_to t e ≡ a → is_given {A = Taken} (mapped (λ k. record { heard = k; consumed = n }) a) ≡ false → table_after t e ≡ t
-    by_answer e n (gives k) q h = absurd (true≢false h)
-    by_answer e n (refuses m vs) q h = (why_refused t e (ap is_given q)).unaltered
+    by_event : (e : Event) (n : ℕ) (a : Answer Heard) → answer_to t e ≡ a → is_given {A = Taken} (mapped (λ k. record { heard = k; consumed = n }) a) ≡ false → table_after t e ≡ t
+    by_event e n (gives k) q h = absurd (true≢false h)
+    by_event e n (refuses m vs) q h = (why_refused t e (ap is_given q)).unaltered
 
     by_read : (x : Answer AssociationRead) → is_given (answer_to_read t x) ≡ false → table_after_read t x ≡ t
-    by_read (gives x) h = by_answer (event_of x.client) x.consumed (answer_to t (event_of x.client)) refl h
+    by_read (gives x) h = by_event (event_of x.client) x.consumed (answer_to t (event_of x.client)) refl h
     by_read (refuses n vs) h = refl
 
 event_in_value : (t : Stations) (value : List ℕ) → table_from t value ≡ run table_after t (and_steps (event_by (of_value value)) [])

@@ -5,7 +5,7 @@ use mathlib.Core.Bool.{Bool, true, false, ◌||◌, or-false}
 use mathlib.Core.List.{List, [], ◌∷◌, ◌++◌, map}
 use Prim.Native.Nat.{ℕ}
 use borrow.Author.Tests.{eqb-true, eqb-false}
-use Rattle.numbers.specs.Numbers.{Answer, gives, refuses, mapped, is_given}
+use Rattle.numbers.specs.Numbers.{answered, Answer, gives, refuses, mapped, is_given}
 use Rattle.machines.specs.Machine.{those, run, remaining, gathered, every}
 use Rattle.machines.specs.Story.{Machine, story, view_after, ActsByKey}
 use Rattle.machines.specs.Happened.{Happened, Asks, asks_for, asks_nothing, Leads, Tied, TestsStep, Tests}
@@ -16,7 +16,9 @@ use Rattle.machines.proofs.Happened as H
 use Rattle.stations.specs.declared.Heard.{Heard}
 use Rattle.stations.specs.Whereabouts.{Whereabouts, nowhere, Event, event_of, where_after, answer_at}
 use Rattle.stations.specs.Rows.{Stations, fresh_stations, where_of, answer_to, table_after}
-use Rattle.stations.specs.Events.{Taken, applied_of, AssociationRead, association_read, answer_to_read, table_after_read}
+use Rattle.stations.specs.declared.Taken.{Taken}
+use Rattle.stations.specs.declared.reading.AssociationRead.{AssociationRead}
+use Rattle.stations.specs.Events.{association_read, answer_to_read, table_after_read}
 use Rattle.stations.specs.Runs.{EventAsked, EventGot, of_record, of_value, from_event, from_value, StationCall, event_meets, station_contract, event_read_lem, event_by, events_of, heard_in, heard_by, was_heard, NoneRefused, is_of_station, asks_of_station, brought_for, takes_event}
 use Rattle.stations.specs.Claims.{StationsMade, ExactlyWhen, EventsReordered, SameStations}
 use Rattle.stations.proofs.Written.{Kept}
@@ -59,9 +61,9 @@ step_by : (t : Stations) (a : EventAsked) (g : EventGot) (t' : Stations) → eve
 step_by t (of_record e) (from_event r) t' m = record { leads = (sym m.1, sym m.0); tests = ap is_given (sym m.0) }
 step_by t (of_value value) (from_value r) t' m = by_read (association_read value) m.0 m.1
   where
-    by_read : (x : Answer AssociationRead) → applied_of r ≡ answer_to_read t x → t' ≡ table_after_read t x → Step t (event_read_lem x) (mapped (λ (y : Taken). y.heard) (applied_of r)) t'
+    by_read : (x : Answer AssociationRead) → answered r ≡ answer_to_read t x → t' ≡ table_after_read t x → Step t (event_read_lem x) (mapped (λ (y : Taken). y.heard) (answered r)) t'
     by_read (gives x) p q =
-        let same : answer_to t (event_of x.client) ≡ mapped (λ (y : Taken). y.heard) (applied_of r) = sym (taken_heard x.consumed (answer_to t (event_of x.client))) ∙ ap (mapped (λ (y : Taken). y.heard)) (sym p) in
+        let same : answer_to t (event_of x.client) ≡ mapped (λ (y : Taken). y.heard) (answered r) = sym (taken_heard x.consumed (answer_to t (event_of x.client))) ∙ ap (mapped (λ (y : Taken). y.heard)) (sym p) in
         record { leads = (sym q, same); tests = ap is_given same }
     by_read (refuses n vs) p q = record { leads = sym q; tests = ap (λ (y : Answer Taken). is_given (mapped (λ (z : Taken). z.heard) y)) p }
 step_by t (of_record e) (from_value r) t' m = absurd m

@@ -2,8 +2,7 @@
 use mathlib.Core.Path.{◌≡◌, refl, sym, ap, ◌∙◌}
 use mathlib.Core.Bool.{Bool, true, false, cond, not}
 use mathlib.Core.List.{[]}
-use Prim.Native.Nat.{ℕ, zero, suc, ◌+◌, ◌≤◌, ◌<◌, ◌-◌}
-use native.Mathlib.Omega.{arith}
+use Prim.Native.Nat.{ℕ, ◌+◌, ◌≤◌, ◌<◌}
 use native.Mathlib.Numerals.{add-one}
 use lib.Dec.{eqb}
 use lib.ListN.{get_or, set}
@@ -11,7 +10,7 @@ use borrow.Author.Tests.{lt-ltb, le-ltb}
 use Rattle.numbers.specs.Numbers.{Answer, gives, refuses}
 use Rattle.stations.specs.declared.Heard.{Heard}
 use Rattle.stations.specs.Whereabouts.{nowhere, at, Event, heard_of_join}
-use Rattle.stations.specs.Rows.{Stations, row_with_lem, point_at, where_of, all_held, answer_to, after_join, after_leave, with_row, free_row, held_row, row_from, row_at, is_held}
+use Rattle.stations.specs.Rows.{Stations, row_with_lem, point_at, where_of, all_held, answer_to, after_join, after_leave, with_row, is_held}
 use Rattle.stations.specs.PrivateEvents.{one_if_lem}
 use Rattle.searching.specs.Count.{how_many}
 use Rattle.searching.proofs.Count.{one, count_next}
@@ -74,21 +73,7 @@ module _ (t : Stations) (station point : ℕ) where
   unfolding after_leave
   not_held n e h = (rw (unknown_place t station n e h), rw (unknown_place t station n e h))
 
--- a row that is looked at
-pub row_held : (t : Stations) (n : ℕ) → n < 128 → (get_or t n 0 ≡ 0 → ⊥) → row_at t n ≡ held_row (get_or t n 0 - 1) (point_at t n)
-row_held t n h ne = rw (lt-ltb n 128 h) (by_mark (get_or t n 0) ne)
-  where
-    by_mark : (mark : ℕ) → (mark ≡ 0 → ⊥) → row_from mark (point_at t n) ≡ held_row (mark - 1) (point_at t n)
-    by_mark zero ne = absurd (ne refl)
-    by_mark (suc s) ne = ap (λ (x : ℕ). held_row x (point_at t n)) (omega arith)
-
-pub row_free : (t : Stations) (n : ℕ) → n < 128 → get_or t n 0 ≡ 0 → row_at t n ≡ free_row
-row_free t n h e = rw (lt-ltb n 128 h, e)
-
-pub row_past : (t : Stations) (n : ℕ) → 128 ≤ n → row_at t n ≡ free_row
-row_past t n h = rw (le-ltb n 128 h)
-
--- and counted
+-- one more row is counted
 pub one_counted : (t : Stations) (n : ℕ) → how_many (is_held t) (n + 1) ≡ how_many (is_held t) n + one_if_lem (get_or t n 0)
 one_counted t n = rw add-one (count_next (is_held t) n ∙ ap (λ (k : ℕ). how_many (is_held t) n + k) (by_test (eqb (get_or t n 0) 0)))
   where

@@ -1,35 +1,35 @@
 -- What is claimed about this crate's calls, and about calls that happened: the records Firmness and Claims, which
 -- proofs/Claims.antt proves.
-use Rattle.std.specs.Prelude.{◌≡◌, true, false, List, [], ◌∷◌, ◌++◌, map, ℕ, ◌<◌, ◌≤◌, get_or}
-use Rattle.numbers.specs.Numbers.{gives, refuses, is_given}
+use Rattle.std.specs.Prelude.{◌≡◌, true, false, List, [], ◌∷◌, ◌++◌, map, ℕ, ◌<◌, ◌≤◌, get_or, Option, Result}
+use Rattle.numbers.specs.Numbers.{gives, refuses, answered, is_given}
+use Rattle.numbers.specs.declared.Refusal.{Refusal}
 use Rattle.numbers.specs.Firmness.{Firm}
 use Rattle.machines.specs.Machine.{those, run}
 use Rattle.machines.specs.Happened.{Happened, and_steps}
 use Rattle.records.specs.declared.MacAddr.{MacAddr}
 use Rattle.records.specs.declared.ClientAssociation.{ClientAssociation}
 use Rattle.records.specs.declared.Record.{Record}
-use Rattle.records.specs.Reading.{RecordRead, read_record_lem}
+use Rattle.records.specs.declared.RecordRead.{RecordRead}
+use Rattle.records.specs.Reading.{read_record_lem}
 use Rattle.records.specs.Values.{octets, association_in_lem}
 use Rattle.stations.specs.declared.Heard.{Heard}
-use Rattle.stations.specs.declared.EventAnswer.{EventAnswer}
-use Rattle.stations.specs.declared.Applied.{Applied}
-use Rattle.stations.specs.declared.Where.{Where}
-use Rattle.stations.specs.declared.Listed.{Listed}
+use Rattle.stations.specs.declared.Taken.{Taken}
+use Rattle.stations.specs.declared.Seat.{Seat}
 use Rattle.stations.specs.Addresses.{address_number, address_of}
 use Rattle.stations.specs.Whereabouts.{Whereabouts, nowhere, at, Event, event_of, where_after}
 use Rattle.stations.specs.Rows.{Stations, fresh_stations, rows, point_at, where_of, all_held, answer_to, table_after, free_row, held_row, row_at, count_of, where_shown, row_shown}
-use Rattle.stations.specs.Events.{answered_of, applied_of, association_code, answer_from, table_from}
+use Rattle.stations.specs.Events.{association_code, answer_from, table_from}
 use Rattle.stations.specs.Runs.{StationCall, station_contract, of_value, event_by, events_of, heard_by, was_heard, NoneRefused, is_of_station, brought_for, takes_event, LatestJoin}
 
 -- Rule A4, for each public call by its name: any two answers, with the table that was lent, that its contract allows
 -- are one.
 pub record Firmness : Type 0 where
   pub fresh : Firm {A = Stations} (λ r. r ≡ fresh_stations)
-  pub event : (t : Stations) (e : ClientAssociation) → Firm {A = EventAnswer × Stations} (λ o. (answered_of o.0 ≡ answer_to t (event_of e)) × (o.1 ≡ table_after t (event_of e)))
-  pub event_from : (t : Stations) (value : List ℕ) → Firm {A = Applied × Stations} (λ o. (applied_of o.0 ≡ answer_from t value) × (o.1 ≡ table_from t value))
-  pub where_is : (t : Stations) (station : MacAddr) → Firm {A = Where} (λ r. r ≡ where_shown (where_of t (address_number station)))
+  pub event : (t : Stations) (e : ClientAssociation) → Firm {A = Result Heard Refusal × Stations} (λ o. (answered o.0 ≡ answer_to t (event_of e)) × (o.1 ≡ table_after t (event_of e)))
+  pub event_from : (t : Stations) (value : List ℕ) → Firm {A = Result Taken Refusal × Stations} (λ o. (answered o.0 ≡ answer_from t value) × (o.1 ≡ table_from t value))
+  pub where_is : (t : Stations) (station : MacAddr) → Firm {A = Option MacAddr} (λ r. r ≡ where_shown (where_of t (address_number station)))
   pub count : (t : Stations) → Firm (λ r. r ≡ count_of t)
-  pub row : (t : Stations) (n : ℕ) → Firm {A = Listed} (λ r. r ≡ row_shown (row_at t n))
+  pub row : (t : Stations) (n : ℕ) → Firm {A = Option Seat} (λ r. r ≡ row_shown (row_at t n))
 
 -- a table that calls made from a fresh one
 pub record StationsMade (t : Stations) : Type 0 where

@@ -1,29 +1,15 @@
 -- What the calls answer to an event (rules P2 to P4), and to an event in a value (rule P6).
 use Rattle.std.specs.Prelude.{List, [], ℕ}
-use Rattle.numbers.specs.Numbers.{Answer, gives, refuses, told, and_then, mapped}
+use Rattle.numbers.specs.Numbers.{Answer, gives, refuses, and_then, mapped}
 use Rattle.records.specs.declared.ClientAssociation.{ClientAssociation}
 use Rattle.records.specs.declared.RecordKind.{RecordKind}
 use Rattle.records.specs.declared.Record.{Record}
 use Rattle.records.specs.Kinds.{code_of}
 use Rattle.records.specs.Reading.{read_record_lem}
-use Rattle.stations.specs.declared.Heard.{Heard}
-use Rattle.stations.specs.declared.EventAnswer.{EventAnswer}
-use Rattle.stations.specs.declared.Applied.{Applied}
+use Rattle.stations.specs.declared.Taken.{Taken}
+use Rattle.stations.specs.declared.reading.AssociationRead.{AssociationRead}
 use Rattle.stations.specs.Whereabouts.{event_of}
 use Rattle.stations.specs.Rows.{Stations, answer_to, table_after}
-
-abbrev pub answered_of : EventAnswer → Answer Heard
-answered_of (EventAnswer.Heard h) = gives h
-answered_of (EventAnswer.Refused r) = told r
-
--- Rule P6: what an event did that was read, and how many bytes of the value it took.
-pub record Taken : Type 0 where
-  pub heard : Heard
-  pub consumed : ℕ
-
-abbrev pub applied_of : Applied → Answer Taken
-applied_of (Applied.Heard h n) = gives (record { heard = h; consumed = n })
-applied_of (Applied.Refused r) = told r
 
 -- The association in a record that was read. Any other record is of a kind that isn't asked for, 16. Reading 0x92 gives
 -- no such record (see `reads_association`).
@@ -45,10 +31,6 @@ abbrev pub association_code : ℕ
 association_code = code_of RecordKind.ClientAssociation
 
 -- Rule P6: the association in a value of kind 0x92, or reading's own 3 or 5 (rule K7), and how many bytes it took.
-pub record AssociationRead : Type 0 where
-  pub client : ClientAssociation
-  pub consumed : ℕ
-
 abbrev pub association_read : List ℕ → Answer AssociationRead
 association_read value = and_then (read_record_lem association_code value) (λ x. mapped (λ a. record { client = a; consumed = x.consumed }) (association_of_lem x.value))
 

@@ -1,12 +1,12 @@
 -- The rows of the station table (rules P1 and P7). Row n has a station in element n of the array, and its access point
 -- in element 128 + n.
-use Rattle.std.specs.Prelude.{Bool, cond, not, List, ℕ, zero, suc, ◌+◌, eqb, ltb, get_or, set, replicate}
+use Rattle.std.specs.Prelude.{Bool, cond, not, List, ℕ, zero, suc, ◌+◌, eqb, ltb, get_or, set, replicate, Option, Some, None}
 use Rattle.numbers.specs.Numbers.{Answer}
+use Rattle.records.specs.declared.MacAddr.{MacAddr}
 use Rattle.searching.specs.Search.{lowest}
 use Rattle.searching.specs.Count.{how_many}
 use Rattle.stations.specs.declared.Heard.{Heard}
-use Rattle.stations.specs.declared.Where.{Where}
-use Rattle.stations.specs.declared.Listed.{Listed}
+use Rattle.stations.specs.declared.Seat.{Seat}
 use Rattle.stations.specs.Addresses.{address_of}
 use Rattle.stations.specs.Whereabouts.{Whereabouts, nowhere, at, Event, is_at, answer_at}
 
@@ -86,10 +86,10 @@ abbrev pub count_of : Stations → ℕ
 count_of t = how_many (is_held t) rows
 
 -- what a call says about a place and about a row
-abbrev pub where_shown : Whereabouts → Where
-where_shown nowhere = Where.Nowhere
-where_shown (at point) = Where.At (address_of point)
+abbrev pub where_shown : Whereabouts → Option MacAddr
+where_shown nowhere = None
+where_shown (at point) = Some (address_of point)
 
-abbrev pub row_shown : StationRow → Listed
-row_shown free_row = Listed.Free
-row_shown (held_row station point) = Listed.Occupied (address_of station) (address_of point)
+abbrev pub row_shown : StationRow → Option Seat
+row_shown free_row = None
+row_shown (held_row station point) = Some (record { station = address_of station; point = address_of point })

@@ -1,15 +1,16 @@
 -- Calls of `event` and `event_from` that happened, and the events that they brought.
-use Rattle.std.specs.Prelude.{◌≡◌, Bool, true, false, not, List, [], ◌∷◌, ◌++◌, ℕ, eqb}
+use Rattle.std.specs.Prelude.{◌≡◌, Bool, true, false, not, List, [], ◌∷◌, ◌++◌, ℕ, eqb, Result}
 use Rattle.machines.specs.Machine.{those}
 use Rattle.machines.specs.Happened.{Outcome, Asks, asks_for, asks_nothing, steps_of}
-use Rattle.numbers.specs.Numbers.{Answer, gives, refuses, mapped, is_given}
+use Rattle.numbers.specs.Numbers.{Answer, gives, refuses, answered, mapped, is_given}
+use Rattle.numbers.specs.declared.Refusal.{Refusal}
 use Rattle.records.specs.declared.ClientAssociation.{ClientAssociation}
 use Rattle.stations.specs.declared.Heard.{Heard}
-use Rattle.stations.specs.declared.EventAnswer.{EventAnswer}
-use Rattle.stations.specs.declared.Applied.{Applied}
+use Rattle.stations.specs.declared.Taken.{Taken}
+use Rattle.stations.specs.declared.reading.AssociationRead.{AssociationRead}
 use Rattle.stations.specs.Whereabouts.{Event, event_of}
 use Rattle.stations.specs.Rows.{Stations, answer_to, table_after}
-use Rattle.stations.specs.Events.{answered_of, applied_of, AssociationRead, association_read, answer_from, table_from}
+use Rattle.stations.specs.Events.{association_read, answer_from, table_from}
 
 -- Rule P6: an event comes as a record or in a value. And what its caller got.
 pub data EventAsked : Type 0 where
@@ -17,16 +18,16 @@ pub data EventAsked : Type 0 where
   of_value : List ℕ → EventAsked
 
 pub data EventGot : Type 0 where
-  from_event : EventAnswer → EventGot
-  from_value : Applied → EventGot
+  from_event : Result Heard Refusal → EventGot
+  from_value : Result Taken Refusal → EventGot
 
 abbrev pub StationCall : Type 0
 StationCall = Outcome Stations EventAsked EventGot
 
 -- the contracts of the two calls, as src/lib.rt has them
 abbrev pub event_meets : Stations → EventAsked → EventGot → Stations → Type 0
-event_meets t (of_record e) (from_event r) t' = (answered_of r ≡ answer_to t (event_of e)) × (t' ≡ table_after t (event_of e))
-event_meets t (of_value value) (from_value r) t' = (applied_of r ≡ answer_from t value) × (t' ≡ table_from t value)
+event_meets t (of_record e) (from_event r) t' = (answered r ≡ answer_to t (event_of e)) × (t' ≡ table_after t (event_of e))
+event_meets t (of_value value) (from_value r) t' = (answered r ≡ answer_from t value) × (t' ≡ table_from t value)
 event_meets t (of_record e) (from_value r) t' = ⊥
 event_meets t (of_value value) (from_event r) t' = ⊥
 
@@ -47,8 +48,8 @@ events_of = steps_of event_by
 
 -- what the caller heard, whichever call it was; and whether that is no refusal
 abbrev pub heard_in : EventGot → Answer Heard
-heard_in (from_event r) = answered_of r
-heard_in (from_value r) = mapped (λ x. x.heard) (applied_of r)
+heard_in (from_event r) = answered r
+heard_in (from_value r) = mapped (λ x. x.heard) (answered r)
 
 abbrev pub heard_by : StationCall → Answer Heard
 heard_by o = heard_in o.got

@@ -6,13 +6,14 @@ mod reading;
 mod rows;
 
 ghost use Rattle.std.specs.Prelude.{◌≡◌};
+ghost use Rattle.numbers.specs.Numbers.{answered};
 ghost use Rattle.stations.specs.Addresses.{address_number};
 ghost use Rattle.stations.specs.Whereabouts.{event_of};
 ghost use Rattle.stations.specs.Rows.{fresh_stations, where_of, answer_to, table_after, row_at, count_of, where_shown, row_shown};
-ghost use Rattle.stations.specs.Events.{answered_of, applied_of, answer_from, table_from};
+ghost use Rattle.stations.specs.Events.{answer_from, table_from};
 
 use numbers::Refusal;
-use reading::{Association, association_in, with_consumed};
+use reading::association_in;
 use records::{AssociationState, ClientAssociation, MacAddr};
 use rows::{address_of, join, leave, number_of, one_if, row_with};
 
@@ -40,33 +41,19 @@ pub enum Heard {
     Stale,
 }
 
-// The answer to an event.
+// What an event did that was read from a value (rule P6), and how many bytes of the value it took. The bytes after these
+// are the rest.
 #[derive(Clone, Copy)]
-pub enum EventAnswer {
-    Heard(Heard),
-    Refused(Refusal),
+pub struct Taken {
+    pub heard: Heard,
+    pub consumed: usize,
 }
 
-// The same for an event that was read from a value (rule P6), with how many bytes of the value it took. The bytes after
-// these are the rest.
+// A row of the table that isn't free (rule P7): a station and its access point.
 #[derive(Clone, Copy)]
-pub enum Applied {
-    Heard { heard: Heard, consumed: usize },
-    Refused(Refusal),
-}
-
-// Where a station is: at an access point, or nowhere.
-#[derive(Clone, Copy)]
-pub enum Where {
-    At(MacAddr),
-    Nowhere,
-}
-
-// What a row of the table holds (rule P7).
-#[derive(Clone, Copy)]
-pub enum Listed {
-    Occupied { station: MacAddr, point: MacAddr },
-    Free,
+pub struct Seat {
+    pub station: MacAddr,
+    pub point: MacAddr,
 }
 
 // A table that holds no station (rule P1).
@@ -77,40 +64,40 @@ pub fn fresh() -> Stations
 }
 
 // A station joined an access point, or left it (rules P2 to P4).
-pub fn event(t: &mut Stations, e: ClientAssociation) -> EventAnswer
-    ensures { (answered_of result ≡ answer_to t.old (event_of e)) × (t.new ≡ table_after t.old (event_of e)) }
+pub fn event(t: &mut Stations, e: ClientAssociation) -> Result<Heard, Refusal>
+    ensures { (answered result ≡ answer_to t.old (event_of e)) × (t.new ≡ table_after t.old (event_of e)) }
 {
     let station = number_of(e.sta_mac);
     let point = number_of(e.ap_mac);
     let state = e.association_state;
     match state {
         AssociationState::JoinedBss => join(t, station, point),
-        AssociationState::LeftBss => EventAnswer::Heard(leave(t, station, point)),
+        AssociationState::LeftBss => Ok(leave(t, station, point)),
     }
 }
 
 // The same, read from the value of a TLV of kind 0x92 (rule P6). A value that doesn't read changes nothing.
-pub fn event_from(t: &mut Stations, value: &[u8]) -> Applied
-    ensures { (applied_of result ≡ answer_from t.old value.now) × (t.new ≡ table_from t.old value.now) }
+pub fn event_from(t: &mut Stations, value: &[u8]) -> Result<Taken, Refusal>
+    ensures { (answered result ≡ answer_from t.old value.now) × (t.new ≡ table_from t.old value.now) }
 {
-    match association_in(value) {
-        Association::Event { e, consumed } => {
-            let answered = event(t, e);
-            with_consumed(answered, consumed)
-        }
-        Association::Refused(refusal) => Applied::Refused(refusal),
-    }
+    let read = association_in(value)?;
+    let heard = event(t, read.client)?;
+    Ok(Taken {
+        heard,
+        consumed: read.consumed,
+    })
 }
 
 // Where a station is (rule P7).
-pub fn where_is(t: &Stations, station: MacAddr) -> Where
+#[tactic(auto, unfolding(crate::specs::Rows::where_of))]
+pub fn where_is(t: &Stations, station: MacAddr) -> Option<MacAddr>
     ensures { result ≡ where_shown (where_of t.now (address_number station)) }
 {
     let row = row_with(t, number_of(station) + 1);
-    if row < STATIONS {
-        return Where::At(address_of(t[STATIONS + row]));
+    if row == STATIONS {
+        return None;
     }
-    Where::Nowhere
+    Some(address_of(t[STATIONS + row]))
 }
 
 // How many stations are held (rule P7).
@@ -127,17 +114,17 @@ pub fn count(t: &Stations) -> usize
 }
 
 // The station in row n and its access point (rule P7). With each n below STATIONS a caller lists them all.
-pub fn row(t: &Stations, n: usize) -> Listed
+pub fn row(t: &Stations, n: usize) -> Option<Seat>
     ensures { result ≡ row_shown (row_at t.now n) }
 {
     if n < STATIONS {
         let mark = t[n];
         if mark != 0 {
-            return Listed::Occupied {
+            return Some(Seat {
                 station: address_of(mark - 1),
                 point: address_of(t[STATIONS + n]),
-            };
+            });
         }
     }
-    Listed::Free
+    None
 }

@@ -1,13 +1,12 @@
 // The rows of the table: addresses as numbers, the look-up, and what a join and a leave do.
 ghost use Rattle.std.specs.Prelude.{◌≡◌, true, false, ◌<◌, ◌≤◌, ◌^◌};
-ghost use Rattle.numbers.specs.Numbers.{gives};
+ghost use Rattle.numbers.specs.Numbers.{gives, answered};
 ghost use Rattle.stations.specs.Addresses.{address_number, address_of};
 ghost use Rattle.stations.specs.Whereabouts.{heard_of_join, at};
 ghost use Rattle.stations.specs.Rows.{row_with_lem, answer_to, after_join, after_leave};
-ghost use Rattle.stations.specs.Events.{answered_of};
 ghost use Rattle.stations.specs.PrivateEvents.{one_if_lem};
 
-use crate::{EventAnswer, Heard, STATIONS, Stations};
+use crate::{Heard, STATIONS, Stations};
 use numbers::Refusal;
 use records::MacAddr;
 
@@ -20,6 +19,7 @@ pub(crate) fn number_of(m: MacAddr) -> u64
     high * 16777216 + low
 }
 
+#[tactic(auto, unfolding(crate::specs::Addresses::address_of))]
 pub(crate) fn address_of(n: u64) -> MacAddr
     ensures { result ≡ address_of n }
 {
@@ -60,27 +60,29 @@ fn heard_of_held(from: u64, point: u64) -> Heard
 }
 
 // A join: a station that is held changes its access point, another one takes the lowest free row (rules P2, P4, P7).
-pub(crate) fn join(t: &mut Stations, station: u64, point: u64) -> EventAnswer
+#[tactic(auto, unfolding(crate::specs::Rows::where_of, crate::specs::Rows::all_held, crate::specs::Rows::after_join))]
+pub(crate) fn join(t: &mut Stations, station: u64, point: u64) -> Result<Heard, Refusal>
     requires { station < 2 ^ 48 }
-    ensures { (answered_of result ≡ answer_to t.old (record { station = station; point = point; is_join = true }))
+    ensures { (answered result ≡ answer_to t.old (record { station = station; point = point; is_join = true }))
         × (t.new ≡ after_join t.old station point) }
 {
     let known = row_with(t, station + 1);
     if known < STATIONS {
         let from = t[STATIONS + known];
         t[STATIONS + known] = point;
-        return EventAnswer::Heard(heard_of_held(from, point));
+        return Ok(heard_of_held(from, point));
     }
     let free = row_with(t, 0);
     if free < STATIONS {
         t[free] = station + 1;
         t[STATIONS + free] = point;
-        return EventAnswer::Heard(Heard::New);
+        return Ok(Heard::New);
     }
-    EventAnswer::Refused(Refusal::NoStationRoom)
+    Err(Refusal::NoStationRoom)
 }
 
 // A leave frees the station's row, if it names the access point there (rule P3).
+#[tactic(auto, unfolding(crate::specs::Rows::where_of, crate::specs::Rows::after_leave))]
 pub(crate) fn leave(t: &mut Stations, station: u64, point: u64) -> Heard
     requires { station < 2 ^ 48 }
     ensures { (gives result ≡ answer_to t.old (record { station = station; point = point; is_join = false }))
