@@ -8,39 +8,32 @@ ghost use Rattle.pushing.specs.Show.{shown};
 ghost use Rattle.pushing.specs.Made.{Made};
 ghost use Rattle.reassembler.specs.Showing.{shown_from};
 
+use numbers::Refusal;
 use pushing::{Arrival, Pushed};
 use table::Table;
 
 // Rule T10: the message of an answer. For a single fragment it is the payload, for a joined message the start of the
 // output. The slices are those that push was lent.
-pub fn show<'a>(answer: Pushed, payload: &'a [u8], out: &'a [u8]) -> &'a [u8]
+pub fn show<'a>(answer: Result<Pushed, Refusal>, payload: &'a [u8], out: &'a [u8]) -> &'a [u8]
     ensures result_value { result.now ≡ shown (pushed_of answer) payload.now out.now }
     ensures place { result.ref_ptr ≡ (shown_from (pushed_of answer) payload.entry out.entry).ref_ptr }
 {
     match answer {
-        Pushed::Single(n) => {
-            if n <= payload.len() {
-                return &payload[..n];
-            }
-            &payload[..0]
-        }
-        Pushed::Joined(n) => {
-            if n <= out.len() {
-                return &out[..n];
-            }
-            &out[..0]
-        }
-        Pushed::WaitingForMoreFragments => &payload[..0],
-        Pushed::DuplicatedFragment => &payload[..0],
-        Pushed::InconsistentMetadata => &payload[..0],
-        Pushed::MissingFragments => &payload[..0],
-        Pushed::MissingLastFragment => &payload[..0],
-        Pushed::Refused(_) => &payload[..0],
+        Ok(Pushed::Single(n)) if n <= payload.len() => &payload[..n],
+        Ok(Pushed::Joined(n)) if n <= out.len() => &out[..n],
+        Ok(Pushed::Joined(_)) => &out[..0],
+        _ => &payload[..0],
     }
 }
 
 // Rules T4 to T9: a push to the lent table, which is changed in place. push_in_place does the work.
-pub fn push(t: &mut Table, store: &mut [u8], out: &mut [u8], a: Arrival, payload: &[u8]) -> Pushed
+pub fn push(
+    t: &mut Table,
+    store: &mut [u8],
+    out: &mut [u8],
+    a: Arrival,
+    payload: &[u8],
+) -> Result<Pushed, Refusal>
     requires { Made t.old }
     ensures { Goes (way t.old store.old a payload.now (length out.old)) t.old store.old out.old a payload.now result t.new store.new out.new }
 {
