@@ -3,7 +3,7 @@ use mathlib.Core.Path.{◌≡◌, refl, sym, ap, ◌∙◌}
 use mathlib.Core.Bool.{Bool, true, false, cond}
 use mathlib.Core.List.{List, [], ◌∷◌, ◌++◌, flatten, append_assoc}
 use mathlib.Core.Logic.{inl, inr}
-use mathlib.Core.Option.{Option, none, some}
+use Rattle.std.specs.Prelude.{Option, None, Some}
 use Prim.Native.Nat.{ℕ, zero, suc, ◌≤◌}
 use native.Mathlib.Omega.{arith}
 use lib.ListN.{take, drop}
@@ -25,10 +25,10 @@ is_in_lem r b e = go (leb r.low b) refl e where
   go false t e = never_true e
 
 -- a first byte and bytes that fit what it awaits are a character
-is_character : (fs : List Form) (b : ℕ) (rs : List Range) (c : List ℕ) → begun fs b ≡ some rs → Fits rs c → OneOf fs (b ∷ c)
+is_character : (fs : List Form) (b : ℕ) (rs : List Range) (c : List ℕ) → begun fs b ≡ Some rs → Fits rs c → OneOf fs (b ∷ c)
 is_character [] b rs c e f = let z : ◌≡◌ {A = ℕ} 0 1 = cc in absurd (omega arith)
 is_character (g ∷ fs) b rs c e f = go (in_range g.first b) refl e (is_character fs b rs c) where
-  go : (t : Bool) → in_range g.first b ≡ t → cond t (some g.behind) (begun fs b) ≡ some rs → (begun fs b ≡ some rs → Fits rs c → OneOf fs (b ∷ c)) → OneOf (g ∷ fs) (b ∷ c)
+  go : (t : Bool) → in_range g.first b ≡ t → cond t (Some g.behind) (begun fs b) ≡ Some rs → (begun fs b ≡ Some rs → Fits rs c → OneOf fs (b ∷ c)) → OneOf (g ∷ fs) (b ∷ c)
   go true t e on = let i = is_in_lem g.first b t in let same : g.behind ≡ rs = cc in inl (i.0, i.1, rw same f)
   go false t e on = inr (on e f)
 
@@ -47,8 +47,8 @@ split [] (r ∷ rs) e = never_true e
 split (b ∷ s) [] e = go (begun forms b) refl e (split s)
   where
     go : (o : Option (List Range)) → begun forms b ≡ o → goes_on_lem o (λ t. accepts t s) ≡ true → ((rs : List Range) → accepts rs s ≡ true → Split rs s) → Split [] (b ∷ s)
-    go none o e on = never_true e
-    go (some ts) o e on =
+    go None o e on = never_true e
+    go (Some ts) o e on =
         let x = on ts e in
         let y = x.octets in
         let one : OneOf forms (b ∷ x.part) = is_character forms b ts x.part o x.fits in
@@ -56,7 +56,7 @@ split (b ∷ s) [] e = go (begun forms b) refl e (split s)
         record { part = []; fits = tt; behind = b ∷ s; octets = record { list = (b ∷ x.part) ∷ y.list; each = (one, y.each); all = all }; all = refl }
 split (b ∷ s) (r ∷ rs) e = go (in_range r b) refl e (split s rs)
   where
-    go : (t : Bool) → in_range r b ≡ t → goes_on_lem (cond t (some rs) none) (λ t. accepts t s) ≡ true → (accepts rs s ≡ true → Split rs s) → Split (r ∷ rs) (b ∷ s)
+    go : (t : Bool) → in_range r b ≡ t → goes_on_lem (cond t (Some rs) None) (λ t. accepts t s) ≡ true → (accepts rs s ≡ true → Split rs s) → Split (r ∷ rs) (b ∷ s)
     go true t e on =
         let x = on e in
         let i = is_in_lem r b t in

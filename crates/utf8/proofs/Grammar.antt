@@ -3,16 +3,16 @@ use mathlib.Core.Path.{◌≡◌, refl, sym, ap, ◌∙◌}
 use mathlib.Core.Bool.{Bool, true, false, cond}
 use mathlib.Core.List.{List, [], ◌∷◌}
 use mathlib.Core.Logic.{◌⊎◌, inl, inr}
-use mathlib.Core.Option.{none, some}
-use Prim.Native.Nat.{ℕ, zero, suc, ◌+◌, ◌<◌, ◌≤◌}
-use native.Mathlib.Numerals.{add-one}
+use Rattle.std.specs.Prelude.{None, Some}
+use Prim.Native.Nat.{ℕ, zero, suc, ◌+◌, ◌-◌, ◌<◌, ◌≤◌}
+use native.Mathlib.Numerals.{add-one, sub-one}
 use native.Mathlib.Omega.{arith}
-use lib.ListN.{length, get_or, drop, drop_of_length-le}
-use lib.Seq.{drop-cons}
+use lib.ListN.{length, get_or, drop, take, drop_of_length-le, length-drop, replicate}
+use lib.Seq.{drop-cons, take_all}
 use lib.Bits.{bit_or, and_le_l, and_le_r, or_add_and}
 use lib.Dec.{leb, ltb, eqb, T, eqb-suc-zero}
 use borrow.Author.Tests.{le-leb, lt-leb, ltb-true}
-use Rattle.utf8.specs.Utf8.{Range, Form, forms, in_range, begun, onward, may_end, accepts, is_utf8_lem}
+use Rattle.utf8.specs.Utf8.{Range, ◌to◌, tail, Form, forms, in_range, begun, onward, may_end, accepts, is_utf8_lem}
 use Rattle.utf8.specs.PrivateUtf8.{ranges}
 
 -- a byte is in a range, or below it, or above it
@@ -50,12 +50,12 @@ higher h (f ∷ fs) b rs t x = go (ltb h f.first.low) refl t x (higher h fs b rs
   go true e t (inr y) on = on t y
   go false e t y on = absurd t
 
-pub begun_is : (fs : List Form) (b : ℕ) (rs : List Range) → T (increasing fs) → Begins fs b rs → begun fs b ≡ some rs
+pub begun_is : (fs : List Form) (b : ℕ) (rs : List Range) → T (increasing fs) → Begins fs b rs → begun fs b ≡ Some rs
 begun_is [] b rs t x = absurd x
 begun_is (f ∷ fs) b rs t x = go (above f.first.high fs) refl t x (begun_is fs b rs) where
-  go : (d : Bool) → above f.first.high fs ≡ d → T (cond d (increasing fs) false) → Begins (f ∷ fs) b rs → (T (increasing fs) → Begins fs b rs → begun fs b ≡ some rs) →
-      begun (f ∷ fs) b ≡ some rs
-  go true e t (inl y) on = rw (in_range_lem f.first b y.0 y.1) (ap some y.2)
+  go : (d : Bool) → above f.first.high fs ≡ d → T (cond d (increasing fs) false) → Begins (f ∷ fs) b rs → (T (increasing fs) → Begins fs b rs → begun fs b ≡ Some rs) →
+      begun (f ∷ fs) b ≡ Some rs
+  go true e t (inl y) on = rw (in_range_lem f.first b y.0 y.1) (ap Some y.2)
   go true e t (inr y) on =
       let u : T (above f.first.high fs) = rw e tt in
       rw (above_range f.first b (higher f.first.high fs b rs u y)) (on t y)
@@ -66,19 +66,36 @@ abbrev pub Outside : List Form → ℕ → Type 0
 Outside [] b = Unit
 Outside (f ∷ fs) b = ((b < f.first.low) ⊎ (f.first.high < b)) × Outside fs b
 
-pub begun_none : (fs : List Form) (b : ℕ) → Outside fs b → begun fs b ≡ none
+pub begun_none : (fs : List Form) (b : ℕ) → Outside fs b → begun fs b ≡ None
 begun_none [] b x = refl
 begun_none (f ∷ fs) b x = go x.0 (begun_none fs b x.1) where
-  go : (b < f.first.low) ⊎ (f.first.high < b) → begun fs b ≡ none → begun (f ∷ fs) b ≡ none
+  go : (b < f.first.low) ⊎ (f.first.high < b) → begun fs b ≡ None → begun (f ∷ fs) b ≡ None
   go (inl h) e = rw (below_range f.first b h) e
   go (inr h) e = rw (above_range f.first b h) e
 
+-- what is awaited of a character that has begun, and the bytes that are not
+pub some_left : (n low high b : ℕ) → 0 < n → low ≤ b → b ≤ high → onward (ranges n low high) b ≡ Some (ranges (n - 1) 0x80 0xBF)
+some_left zero low high b z l h = absurd (omega arith)
+some_left (suc n) low high b z l h = rw (in_range_lem (low to high) b l h, sub-one (suc n)) (ap Some (tails n))
+  where
+    tails : (n : ℕ) → replicate n tail ≡ ranges n 0x80 0xBF
+    tails zero = refl
+    tails (suc n) = refl
+
+pub too_low : (n low high b : ℕ) → 0 < n → b < low → onward (ranges n low high) b ≡ None
+too_low zero low high b z l = absurd (omega arith)
+too_low (suc n) low high b z l = rw (below_range (low to high) b l)
+
+pub too_high : (n low high b : ℕ) → 0 < n → high < b → onward (ranges n low high) b ≡ None
+too_high zero low high b z l = absurd (omega arith)
+too_high (suc n) low high b z l = rw (above_range (low to high) b l)
+
 -- the test goes on by the byte at i
-pub goes_on : (rs ts : List Range) (s : List ℕ) (i : ℕ) → i < length s → onward rs (get_or s i 0) ≡ some ts → accepts rs (drop i s) ≡ accepts ts (drop (i + 1) s)
+pub goes_on : (rs ts : List Range) (s : List ℕ) (i : ℕ) → i < length s → onward rs (get_or s i 0) ≡ Some ts → accepts rs (drop i s) ≡ accepts ts (drop (i + 1) s)
 unfolding accepts
 goes_on rs ts s i h e = rw (add-one i, drop-cons s i 0 h, e)
 
-pub goes_off : (rs : List Range) (s : List ℕ) (i : ℕ) → i < length s → onward rs (get_or s i 0) ≡ none → accepts rs (drop i s) ≡ false
+pub goes_off : (rs : List Range) (s : List ℕ) (i : ℕ) → i < length s → onward rs (get_or s i 0) ≡ None → accepts rs (drop i s) ≡ false
 unfolding accepts
 goes_off rs s i h e = rw (drop-cons s i 0 h, e)
 
@@ -97,31 +114,18 @@ ascii s i j e h b = rw e (goes_on [] [] s i h (begun_is forms (get_or s i 0) [] 
 both_low : (a b : ℕ) → bit_or a b < 0x80 → (a < 0x80) × (b < 0x80)
 both_low a b h = let x = or_add_and a b in let y = and_le_l a b in let z = and_le_r a b in (omega arith, omega arith)
 
--- four of them, which have no highest bit together
-abbrev pub four_at_lem : List ℕ → ℕ → ℕ → ℕ → ℕ → ℕ
-four_at_lem s i j k l = bit_or (bit_or (bit_or (get_or s i 0) (get_or s j 0)) (get_or s k 0)) (get_or s l 0)
-
-four_low : (a b c d : ℕ) → bit_or (bit_or (bit_or a b) c) d < 0x80 → (a < 0x80) × (b < 0x80) × (c < 0x80) × (d < 0x80)
-four_low a b c d h =
-    let z = both_low (bit_or (bit_or a b) c) d h in
-    let y = both_low (bit_or a b) c z.0 in
-    let x = both_low a b y.0 in
-    (x.0, x.1, y.1, z.1)
-
-ascii_four : (s : List ℕ) (i : ℕ) → i + 4 ≤ length s → four_at_lem s i (i + 1) (i + 2) (i + 3) < 0x80 →
-    is_utf8_lem (drop i s) ≡ is_utf8_lem (drop (i + 4) s)
-ascii_four s i h low =
-    let x = four_low (get_or s i 0) (get_or s (i + 1) 0) (get_or s (i + 2) 0) (get_or s (i + 3) 0) low in
-    ascii s i (i + 1) refl (omega arith) x.0 ∙ ascii s (i + 1) (i + 2) (omega arith) (omega arith) x.1 ∙ ascii s (i + 2) (i + 3) (omega arith) (omega arith) x.2 ∙
-    ascii s (i + 3) (i + 4) (omega arith) (omega arith) x.3
-
--- and eight
-pub ascii_eight : (s : List ℕ) (i : ℕ) → i + 8 ≤ length s → bit_or (four_at_lem s i (i + 1) (i + 2) (i + 3)) (four_at_lem s (i + 4) (i + 5) (i + 6) (i + 7)) < 0x80 →
-    is_utf8_lem (drop i s) ≡ is_utf8_lem (drop (i + 8) s)
-ascii_eight s i h low =
-    let x = both_low (four_at_lem s i (i + 1) (i + 2) (i + 3)) (four_at_lem s (i + 4) (i + 5) (i + 6) (i + 7)) low in
-    let a : i + 4 + 1 ≡ i + 5 = omega arith in
-    let b : i + 4 + 2 ≡ i + 6 = omega arith in
-    let c : i + 4 + 3 ≡ i + 7 = omega arith in
-    let d : i + 4 + 4 ≡ i + 8 = omega arith in
-    ascii_four s i (omega arith) x.0 ∙ (rw (a, b, c, d) at (ascii_four s (i + 4) (omega arith))) x.1
+-- eight of them at the start, which have no highest bit together
+pub ascii_eight : (s : List ℕ) → 8 ≤ length s →
+    bit_or (bit_or (bit_or (bit_or (bit_or (bit_or (bit_or (get_or s 0 0) (get_or s 1 0)) (get_or s 2 0)) (get_or s 3 0)) (get_or s 4 0)) (get_or s 5 0)) (get_or s 6 0)) (get_or s 7 0) < 0x80 →
+    is_utf8_lem s ≡ is_utf8_lem (take (length s - 8) (drop 8 s))
+ascii_eight s l low =
+    let h = both_low _ (get_or s 7 0) low in
+    let g = both_low _ (get_or s 6 0) h.0 in
+    let f = both_low _ (get_or s 5 0) g.0 in
+    let e = both_low _ (get_or s 4 0) f.0 in
+    let d = both_low _ (get_or s 3 0) e.0 in
+    let c = both_low _ (get_or s 2 0) d.0 in
+    let b = both_low (get_or s 0 0) (get_or s 1 0) c.0 in
+    let all : take (length s - 8) (drop 8 s) ≡ drop 8 s = take_all _ _ (simp length-drop (omega arith)) in
+    ascii s 0 1 refl (omega arith) b.0 ∙ ascii s 1 2 refl (omega arith) b.1 ∙ ascii s 2 3 refl (omega arith) c.1 ∙ ascii s 3 4 refl (omega arith) d.1 ∙
+    ascii s 4 5 refl (omega arith) e.1 ∙ ascii s 5 6 refl (omega arith) f.1 ∙ ascii s 6 7 refl (omega arith) g.1 ∙ ascii s 7 8 refl (omega arith) h.1 ∙ ap is_utf8_lem (sym all)

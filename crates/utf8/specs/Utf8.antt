@@ -11,7 +11,7 @@
 --     UTF8-tail   = %x80-BF
 use Rattle.std.specs.Prelude.{◌≡◌, Bool, true, false, cond, ◌⊎◌, ℕ, ◌≤◌, leb}
 use mathlib.Core.List.{List, [], ◌∷◌, flatten}
-use Rattle.std.proofs.Math.Option.{Option, none, some}
+use Rattle.std.specs.Prelude.{Option, None, Some}
 
 -- the bytes from `low` to `high`
 pub record Range : Type 0 where
@@ -77,21 +77,21 @@ in_range r b = cond (leb r.low b) (leb b r.high) false
 
 -- the ranges after the first byte b of a character; none where no character begins with b
 abbrev pub begun : List Form → ℕ → Option (List Range)
-begun [] b = none
-begun (f ∷ fs) b = cond (in_range f.first b) (some f.behind) (begun fs b)
+begun [] b = None
+begun (f ∷ fs) b = cond (in_range f.first b) (Some f.behind) (begun fs b)
 
 -- what is awaited after the byte b
 abbrev pub onward : List Range → ℕ → Option (List Range)
 onward [] b = begun forms b
-onward (r ∷ rs) b = cond (in_range r b) (some rs) none
+onward (r ∷ rs) b = cond (in_range r b) (Some rs) None
 
 abbrev pub may_end : List Range → Bool
 may_end [] = true
 may_end (r ∷ rs) = false
 
 abbrev pub goes_on_lem : Option (List Range) → (List Range → Bool) → Bool
-goes_on_lem none f = false
-goes_on_lem (some rs) f = f rs
+goes_on_lem None f = false
+goes_on_lem (Some rs) f = f rs
 
 unfoldable pub accepts : List Range → List ℕ → Bool
 accepts rs [] = may_end rs
