@@ -1,5 +1,6 @@
 -- The TLVs of a walk follow each other: a step goes over each of them, and the next one stands where that step goes on.
 -- The marker is the last.
+use Rattle.std.specs.Prelude.{Some}
 use mathlib.Core.Path.{◌≡◌, refl, sym, ◌∙◌, ap, subst}
 use mathlib.Core.List.{List, ◌∷◌}
 use Prim.Native.Nat.{ℕ, zero, suc, ◌+◌, ◌<◌}
@@ -9,7 +10,8 @@ use lib.Seq.{drop-cons}
 use Rattle.numbers.specs.Numbers.{Answer}
 use Rattle.walking.specs.declared.Tlv.{Tlv}
 use Rattle.walking.specs.Walk.{step_at, walk_of, walk_on, no_tlv, offset_at}
-use Rattle.walking.specs.PrivateSteps.{tlv_by, next_by}
+use Rattle.walking.specs.PrivateSteps.{passed_by}
+use Rattle.walking.specs.declared.Passed.{Passed}
 use Rattle.walking.proofs.Going.{Goes, at_end_lem, onward, final, stopped, Forward, of_steps, is_walk}
 use Rattle.walking.proofs.Stepping.{Passes, passes, lasts}
 use Rattle.walking.proofs.Stepping as step
@@ -65,26 +67,37 @@ module _ (p : List ℕ) where
   pub stands_first : Stands 0 0
   stands_first h = of_walk
 
-  record Over (at : ℕ) (t : Tlv) (ts : List Tlv) (end : Answer ℕ) : Type 0 where
-    is : tlv_by (step_at p at) ≡ t
-    starts : t.offset ≡ at
-    then : 0 < length ts → Has (next_by (step_at p at)) ts end
+  pub record Over (at : ℕ) (t : Tlv) (ts : List Tlv) (end : Answer ℕ) : Type 0 where
+    pub next : ℕ
+    pub is : passed_by (step_at p at) ≡ Some (record { tlv = t; next = next })
+    pub starts : t.offset ≡ at
+    pub then : 0 < length ts → Has next ts end
 
-  over : {at : ℕ} {t : Tlv} {ts : List Tlv} {end : Answer ℕ} → Has at (t ∷ ts) end → Over at t ts end
-  over (onward {at} {t} {next} {ts} {end} e g) = record { is = ap tlv_by (sym e); starts = (passes p at t next e).starts; then = λ h. subst (λ (n : ℕ). Has n ts end) (ap next_by e) g }
-  over (final {at} {t} {to} e) = record { is = ap tlv_by (sym e); starts = (lasts p at t to e).starts; then = λ h. absurd (omega arith) }
+  pub over : {at : ℕ} {t : Tlv} {ts : List Tlv} {end : Answer ℕ} → Has at (t ∷ ts) end → Over at t ts end
+  over (onward {at} {t} {next} {ts} {end} e g) = record { next = next; is = ap passed_by (sym e); starts = (passes p at t next e).starts; then = λ h. g }
+  over (final {at} {t} {to} e) = record { next = to; is = ap passed_by (sym e); starts = (lasts p at t to e).starts; then = λ h. absurd (omega arith) }
 
   module _ (k at : ℕ) (here : Stands k at) (l : k < length (walk_of p).items) where
-    here_over : Over at (get_or (walk_of p).items k no_tlv) (drop (suc k) (walk_of p).items) (walk_of p).end
+    abbrev here_over : Over at (get_or (walk_of p).items k no_tlv) (drop (suc k) (walk_of p).items) (walk_of p).end
     here_over = over (rw (drop-cons (walk_of p).items k no_tlv l) at (here l))
 
     pub stands_at : at ≡ offset_at (walk_of p).items k
     stands_at = sym here_over.starts
 
-    pub tlv_is : (t : Tlv) → t ≡ tlv_by (step_at p at) → t ≡ get_or (walk_of p).items k no_tlv
-    tlv_is t said = said ∙ here_over.is
+    -- what a step there goes over is TLV number k
+    pub is_passed : passed_by (step_at p at) ≡ Some (record { tlv = get_or (walk_of p).items k no_tlv; next = here_over.next })
+    is_passed = here_over.is
 
-    pub stands_next : (next : ℕ) → next ≡ next_by (step_at p at) → Stands (k + 1) next
-    stands_next next said h =
-        let n : k + 1 ≡ suc k = omega arith in
-        subst (λ (m : ℕ). Has next (drop m (walk_of p).items) (walk_of p).end) (sym n) (rw said (here_over.then (omega (arith, length-drop (suc k) (walk_of p).items))))
+    module _ (o : Passed) (said : Some o ≡ passed_by (step_at p at)) where
+      one : o ≡ record { tlv = get_or (walk_of p).items k no_tlv; next = here_over.next }
+      one = let e = said ∙ is_passed in cc
+
+      pub tlv_is : o.tlv ≡ get_or (walk_of p).items k no_tlv
+      tlv_is = ap (λ (q : Passed). q.tlv) one
+
+      pub stands_next : Stands (k + 1) o.next
+      stands_next h =
+          let n : k + 1 ≡ suc k = omega arith in
+          let to : here_over.next ≡ o.next = sym (ap (λ (q : Passed). q.next) one) in
+          subst (λ (m : ℕ). Has o.next (drop m (walk_of p).items) (walk_of p).end) (sym n)
+          (subst (λ (m : ℕ). Has m (drop (suc k) (walk_of p).items) (walk_of p).end) to (here_over.then (omega (arith, length-drop (suc k) (walk_of p).items))))

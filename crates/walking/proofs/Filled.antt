@@ -1,32 +1,36 @@
 -- What the loop that fills the list keeps: the walk's TLV number i stands at `at`, and the entries before i are
 -- written.
-use mathlib.Core.Path.{◌≡◌}
-use mathlib.Core.List.{List, ◌++◌}
+use Rattle.std.specs.Prelude.{Some}
+use mathlib.Core.Path.{◌≡◌, refl, sym, ◌∙◌, ap}
+use mathlib.Core.List.{List}
 use Prim.Native.Nat.{ℕ, ◌+◌, ◌≤◌, ◌<◌}
-use native.Mathlib.Omega.{arith}
-use lib.ListN.{length, take, drop, set}
+use native.Mathlib.Numerals.{add-one}
+use lib.ListN.{length, take, set}
+use lib.Seq.{take-suc, take-suc-set, take_all}
 use Rattle.walking.specs.declared.Tlv.{Tlv}
 use Rattle.walking.specs.Walk.{step_at, walk_of, no_tlv}
-use Rattle.walking.specs.PrivateSteps.{tlv_by, next_by}
+use Rattle.walking.specs.PrivateSteps.{passed_by}
+use Rattle.walking.specs.declared.Passed.{Passed}
 use Rattle.walking.proofs.Chained.{Stands, stands_first, tlv_is, stands_next}
-use Rattle.walking.proofs.Filling.{Front, empty, one_more, full}
 
-module _ (p : List ℕ) (n : ℕ) (ys : List Tlv) where
+module _ (p : List ℕ) where
   abbrev ts : List Tlv
   ts = (walk_of p).items
 
   pub record Filled (i at : ℕ) (zs : List Tlv) : Type 0 where
-    pub so_far : Front ts n ys i zs
+    pub so_far : take i zs ≡ take i ts
     pub here : Stands p i at
 
-  pub begins : Filled 0 0 ys
-  begins = record { so_far = empty ts n ys; here = stands_first p }
+  pub begins : (zs : List Tlv) → Filled 0 0 zs
+  begins zs = record { so_far = refl; here = stands_first p }
 
   module _ (i at : ℕ) (zs : List Tlv) (f : Filled i at zs) where
-    pub goes_on : n ≤ length ts → n ≤ length ys → i < n → (t : Tlv) (next : ℕ) → t ≡ tlv_by (step_at p at) → next ≡ next_by (step_at p at) → Filled (i + 1) next (set zs i t)
-    goes_on few room l t next said goes =
-        let k : i < length ts = omega arith in
-        record { so_far = one_more ts n ys i zs f.so_far few room l no_tlv t (tlv_is p i at f.here k t said); here = stands_next p i at f.here k next goes }
+    pub goes_on : i < length zs → i < length ts → (o : Passed) → Some o ≡ passed_by (step_at p at) → Filled (i + 1) o.next (set zs i o.tlv)
+    goes_on room l o said = record {
+      so_far = ap (λ (m : ℕ). take m (set zs i o.tlv)) (add-one i) ∙ take-suc-set zs i o.tlv room ∙ rw (f.so_far, tlv_is p i at f.here l o said) (sym (take-suc ts i no_tlv l)) ∙ ap (λ (m : ℕ). take m ts) (sym (add-one i));
+      here = stands_next p i at f.here l o said;
+    }
 
-    pub ends : n ≤ i → zs ≡ take n ts ++ drop n ys
-    ends = full ts n ys i zs f.so_far
+    -- as many entries as the walk has TLVs
+    pub ends : length zs ≤ i → length ts ≤ i → zs ≡ ts
+    ends room l = sym (take_all i zs room) ∙ f.so_far ∙ take_all i ts l

@@ -1,5 +1,7 @@
 -- How firm each answer is (rule A4): no two are said alike.
-use mathlib.Core.Path.{◌≡◌, refl, sym, ap}
+use Rattle.std.specs.Prelude.{Result, Ok, Err}
+use Rattle.numbers.specs.Firmness.{Firm}
+use mathlib.Core.Path.{◌≡◌, refl, sym, ap, ◌∙◌}
 use mathlib.Core.List.{◌∷◌}
 use Prim.Native.Nat.{ℕ}
 use native.Mathlib.Omega.{arith}
@@ -7,10 +9,11 @@ use lib.ListN.{length}
 use Rattle.numbers.specs.Numbers.{Answer, refuses, told, number, values}
 use Rattle.numbers.specs.declared.Refusal.{Refusal}
 use Rattle.numbers.proofs.Firm.{firm_numbered, so_many, never}
-use Rattle.numbers.proofs.Answers.{given}
-use Rattle.walking.specs.Walk.{WalkCount, stepped_of, walked_of}
+use Rattle.walking.specs.Steps.{Ahead}
+use Rattle.walking.specs.Walk.{answered_at, ahead_of, stepped_of}
 use Rattle.walking.specs.declared.Stepped.{Stepped}
-use Rattle.walking.specs.declared.Walked.{Walked}
+use Rattle.walking.specs.declared.Tlv.{Tlv}
+use Rattle.walking.specs.declared.Unwalked.{Unwalked}
 
 -- a refusal with an offset, and one without: the first has a value more
 pub with_offset : {A : Type 0} (r r' : Refusal) (at at' : ℕ) → ◌≡◌ {A = Answer A} (refuses (number r) (at ∷ values r)) (refuses (number r') (at' ∷ values r')) → (r ≡ r') × (at ≡ at')
@@ -22,36 +25,29 @@ offset_apart r r' at e =
     let v : at ∷ values r ≡ values r' = cc in
     absurd (omega (arith, so_many r r' n, ap length v))
 
-pub walked_one : (a b : Walked) → walked_of a ≡ walked_of b → a ≡ b
-walked_one (Walked.Count n k) (Walked.Count m l) e =
-    let o = given _ _ e in
-    let i : n ≡ m = ap (λ (c : WalkCount). c.count) o in
-    let j : k ≡ l = ap (λ (c : WalkCount). c.padding) o in
-    rw (i, j)
-walked_one (Walked.Count n k) (Walked.Refused r at) e = never _ _ _ e
-walked_one (Walked.Refused r at) (Walked.Count n k) e = never _ _ _ (sym e)
-walked_one (Walked.Refused r at) (Walked.Refused r' at') e = let o = with_offset r r' at at' e in rw (o.0, o.1)
+answered_at_one : {A : Type 0} (a b : Result A Unwalked) → answered_at a ≡ answered_at b → a ≡ b
+answered_at_one (Ok a) (Ok b) e = ap Ok (cc)
+answered_at_one (Ok a) (Err u) e = never _ _ _ e
+answered_at_one (Err u) (Ok b) e = never _ _ _ (sym e)
+answered_at_one {A = A} (Err u) (Err v) e = let o = with_offset {A = A} u.refusal v.refusal u.at v.at e in ap Err (rw (o.0, o.1))
 
-pub stepped_one : (a b : Stepped) → stepped_of a ≡ stepped_of b → a ≡ b
-stepped_one Stepped.End Stepped.End e = refl
-stepped_one Stepped.End (Stepped.Tlv t n) e = let z : ◌≡◌ {A = ℕ} 0 1 = cc in absurd (omega arith)
-stepped_one (Stepped.Tlv t n) Stepped.End e = let z : ◌≡◌ {A = ℕ} 0 1 = cc in absurd (omega arith)
-stepped_one (Stepped.Tlv t n) (Stepped.Tlv t' n') e =
-    let i : t ≡ t' = cc in
-    let j : n ≡ n' = cc in
-    rw (i, j)
-stepped_one Stepped.End (Stepped.Last t n) e = let z : ◌≡◌ {A = ℕ} 0 1 = cc in absurd (omega arith)
-stepped_one (Stepped.Last t n) Stepped.End e = let z : ◌≡◌ {A = ℕ} 0 1 = cc in absurd (omega arith)
-stepped_one (Stepped.Tlv t n) (Stepped.Last t' n') e = let z : ◌≡◌ {A = ℕ} 0 1 = cc in absurd (omega arith)
-stepped_one (Stepped.Last t n) (Stepped.Tlv t' n') e = let z : ◌≡◌ {A = ℕ} 0 1 = cc in absurd (omega arith)
-stepped_one (Stepped.Last t n) (Stepped.Last t' n') e =
-    let i : t ≡ t' = cc in
-    let j : n ≡ n' = cc in
-    rw (i, j)
-stepped_one Stepped.End (Stepped.Refused r at) e = never _ _ _ e
-stepped_one (Stepped.Refused r at) Stepped.End e = never _ _ _ (sym e)
-stepped_one (Stepped.Tlv t n) (Stepped.Refused r at) e = never _ _ _ e
-stepped_one (Stepped.Refused r at) (Stepped.Tlv t n) e = never _ _ _ (sym e)
-stepped_one (Stepped.Last t n) (Stepped.Refused r at) e = never _ _ _ e
-stepped_one (Stepped.Refused r at) (Stepped.Last t n) e = never _ _ _ (sym e)
-stepped_one (Stepped.Refused r at) (Stepped.Refused r' at') e = let o = with_offset r r' at at' e in rw (o.0, o.1)
+-- a result that is said by what it answers
+pub by_answer_at : {A : Type 0} (defined : Answer A) → Firm (λ r. answered_at r ≡ defined)
+by_answer_at defined a b p q = answered_at_one a b (p ∙ sym q)
+
+ahead_one : (a b : Stepped) → ahead_of a ≡ ahead_of b → a ≡ b
+ahead_one Stepped.End Stepped.End e = refl
+ahead_one Stepped.End (Stepped.Tlv t n) e = cc
+ahead_one Stepped.End (Stepped.Last t n) e = cc
+ahead_one (Stepped.Tlv t n) Stepped.End e = cc
+ahead_one (Stepped.Tlv t n) (Stepped.Tlv t' n') e = cc
+ahead_one (Stepped.Tlv t n) (Stepped.Last t' n') e = cc
+ahead_one (Stepped.Last t n) Stepped.End e = cc
+ahead_one (Stepped.Last t n) (Stepped.Tlv t' n') e = cc
+ahead_one (Stepped.Last t n) (Stepped.Last t' n') e = cc
+
+pub stepped_one : (a b : Result Stepped Unwalked) → stepped_of a ≡ stepped_of b → a ≡ b
+stepped_one (Ok a) (Ok b) e = ap Ok (ahead_one a b (cc))
+stepped_one (Ok a) (Err u) e = never _ _ _ e
+stepped_one (Err u) (Ok b) e = never _ _ _ (sym e)
+stepped_one (Err u) (Err v) e = let o = with_offset {A = Ahead Tlv} u.refusal v.refusal u.at v.at e in ap Err (rw (o.0, o.1))

@@ -1,20 +1,18 @@
 -- Laws of `listed`, from what the counting walk answered.
 use mathlib.Core.Path.{◌≡◌, refl, sym, ap, ◌∙◌}
 use mathlib.Core.Bool.{Bool, true, false, cond}
-use mathlib.Core.List.{List, [], ◌∷◌, ◌++◌}
+use mathlib.Core.List.{List, [], ◌∷◌}
 use Prim.Native.Nat.{ℕ, ◌<◌, ◌≤◌}
-use native.Mathlib.Omega.{arith}
 use lib.Dec.{ltb}
-use lib.ListN.{length, take, drop}
-use lib.Seq.{take-length}
+use lib.ListN.{length}
 use borrow.Author.Tests.{lt-ltb, le-ltb, ltb-false}
 use Rattle.numbers.specs.Numbers.{Answer, gives, refuses, and_then, mapped}
 use Rattle.numbers.proofs.Firm.{never}
-use Rattle.numbers.proofs.Answers.{given, mapped_gave}
+use Rattle.numbers.proofs.Answers.{given, gave, mapped_gave}
 use Rattle.walking.specs.declared.Tlv.{Tlv}
 use Rattle.walking.specs.Steps.{Walk}
-use Rattle.walking.specs.Walk.{WalkCount, walk_of, counted, listed, filled, offset_at}
-use Rattle.walking.specs.PrivateSteps.{fills, Plan}
+use Rattle.walking.specs.declared.WalkCount.{WalkCount}
+use Rattle.walking.specs.Walk.{counted, listed, offset_at}
 
 -- how a walk that was counted ended, and one that was not
 module _ (w : Walk Tlv) where
@@ -44,29 +42,11 @@ module _ (w : Walk Tlv) where
     pub enough : (room : ℕ) → c.count ≤ room → gives c ≡ listed room w
     enough room l = sym (rw (le-ltb room c.count l)) ∙ ap (λ (a : Answer WalkCount). and_then a (room_for room)) e
 
--- what an answer fills in is there and has room, and is what the list then holds
-record Fits (a : Answer WalkCount) (ts : List Tlv) (room : ℕ) : Type 0 where
-  there : fills a ≤ length ts
-  room_for_lem : fills a ≤ room
-  holds_all : (ys : List Tlv) → take (fills a) ts ++ drop (fills a) ys ≡ filled a ts ys
+-- what is counted with a list has room there
+module _ (w : Walk Tlv) (room : ℕ) (c : WalkCount) (e : gives c ≡ listed room w) where
+  by_test : (d : WalkCount) (vs : List ℕ) (b : Bool) → b ≡ ltb room d.count → gives d ≡ counted w → cond b (refuses 14 vs) (gives d) ≡ gives c → (c.count ≡ length w.items) × (c.count ≤ room)
+  by_test d vs true t is g = never _ _ _ (sym g)
+  by_test d vs false t is g = let i = given _ _ g in rw (← i) ((ended_with w d is).1, ltb-false room d.count (sym t))
 
-by_case : (end : Answer ℕ) (b : Bool) (vs : List ℕ) (ts : List Tlv) (room : ℕ) → ltb room (length ts) ≡ b → Fits (and_then (mapped (λ (k : ℕ). record { count = length ts; padding = k }) end) (λ c. cond (ltb room c.count) (refuses 14 vs) (gives c))) ts room
-by_case (gives k) true vs ts room h = rw h (record { there = omega arith; room_for_lem = omega arith; holds_all = λ ys. refl })
-by_case (gives k) false vs ts room h = rw h (record { there = omega arith; room_for_lem = ltb-false room (length ts) h; holds_all = λ ys. rw take-length })
-by_case (refuses m us) b vs ts room h = record { there = omega arith; room_for_lem = omega arith; holds_all = λ ys. refl }
-
-module _ (p : List ℕ) (room count : ℕ) (a : Answer WalkCount) (plan : Plan p room count a) where
-  abbrev w : Walk Tlv
-  w = walk_of p
-
-  fit : Fits (listed room w) w.items room
-  fit = by_case w.end (ltb room (length w.items)) _ w.items room refl
-
-  pub fits : count ≤ room
-  fits = rw plan.counts fit.room_for_lem
-
-  pub few : count ≤ length w.items
-  few = rw plan.counts fit.there
-
-  pub holds : (ys : List Tlv) → take count w.items ++ drop count ys ≡ filled (listed room w) w.items ys
-  holds ys = rw plan.counts (fit.holds_all ys)
+  pub fits : (c.count ≡ length w.items) × (c.count ≤ room)
+  fits = let g = gave (counted w) (room_for w room) c (sym e) in by_test g.first _ _ refl (sym g.is) g.then

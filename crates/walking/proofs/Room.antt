@@ -10,11 +10,13 @@ use borrow.Author.Tests.{le-ltb}
 use Rattle.numbers.specs.Numbers.{Answer, gives, refuses, and_then, mapped}
 use Rattle.numbers.proofs.Firm.{never}
 use Rattle.framing.specs.Claims.{number_in}
-use Rattle.framing.specs.Tlv.{TlvRead, read_tlv_lem, declared}
+use Rattle.framing.specs.declared.TlvRead.{TlvRead}
+use Rattle.framing.specs.Tlv.{read_tlv_lem, declared}
 use Rattle.framing.proofs.Reading.{short}
 use Rattle.walking.specs.declared.Tlv.{Tlv}
 use Rattle.walking.specs.Steps.{ended, Walk, walk_from}
-use Rattle.walking.specs.Walk.{is_marker_lem, step_by_lem, step_at, WalkCount, walk_of, counted, listed, no_tlv, offset_at}
+use Rattle.walking.specs.declared.WalkCount.{WalkCount}
+use Rattle.walking.specs.Walk.{is_marker_lem, step_by_lem, step_at, walk_of, counted, listed, no_tlv, offset_at}
 use Rattle.walking.specs.Pieces.{tlv_in, pieces}
 use Rattle.walking.specs.Claims.{Unmarked, short_tlvs, RoomNeeded}
 use Rattle.walking.proofs.Chained.{Has, of_walk, the_walk}

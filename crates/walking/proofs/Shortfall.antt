@@ -11,7 +11,8 @@ use lib.Seq.{drop-append-le}
 use borrow.Author.Tests.{ltb-true}
 use Rattle.numbers.specs.Numbers.{Answer, gives, refuses}
 use Rattle.numbers.proofs.Firm.{never}
-use Rattle.framing.specs.Tlv.{TlvRead, read_tlv_lem}
+use Rattle.framing.specs.declared.TlvRead.{TlvRead}
+use Rattle.framing.specs.Tlv.{read_tlv_lem}
 use Rattle.framing.specs.Claims.{number_in}
 use Rattle.framing.proofs.Shortfall.{numbered, of_tlv, fills_up}
 use Rattle.walking.specs.declared.Tlv.{Tlv}

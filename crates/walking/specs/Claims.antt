@@ -1,23 +1,25 @@
 -- What is claimed of this crate's calls; proofs/Claims.antt proves it.
-use Rattle.std.specs.Prelude.{◌≡◌, true, false, ℕ, zero, suc, ◌+◌, ◌-◌, ◌/◌, ◌%◌, ◌<◌, ◌≤◌, length, take, drop, get_or, replicate}
+use Rattle.std.specs.Prelude.{◌≡◌, true, false, ℕ, zero, suc, ◌+◌, ◌-◌, ◌/◌, ◌%◌, ◌<◌, ◌≤◌, length, take, drop, get_or, replicate, Result}
 use mathlib.Core.List.{List, [], ◌∷◌, ◌++◌, map, flatten}
 use Rattle.numbers.specs.Numbers.{Answer, gives, refuses}
 use Rattle.numbers.specs.Firmness.{Firm}
-use Rattle.framing.specs.Tlv.{TlvRead, read_tlv_lem, tlv_bytes}
+use Rattle.framing.specs.declared.TlvRead.{TlvRead}
+use Rattle.framing.specs.Tlv.{read_tlv_lem, tlv_bytes}
 use Rattle.framing.specs.Claims.{number_in}
 use Rattle.numbers.specs.Bytes.{AllBytes}
 use Rattle.walking.specs.declared.Tlv.{Tlv}
-use Rattle.walking.specs.declared.Walked.{Walked}
+use Rattle.walking.specs.declared.Unwalked.{Unwalked}
+use Rattle.walking.specs.declared.WalkCount.{WalkCount}
 use Rattle.walking.specs.Pieces.{pieces}
-use Rattle.walking.specs.Walk.{is_marker_lem, stepped_of, step_at, walked_of, walk_of, counted, no_tlv, offset_at, listed, filled}
+use Rattle.walking.specs.Walk.{is_marker_lem, answered_at, stepped_of, step_at, walk_of, counted, no_tlv, offset_at, listed, filled}
 
 -- Rule A4, for each public call by its name: any two outcomes that its contract allows are one.
 pub record Firmness : Type 0 where
   pub step : (p : List ℕ) (at : ℕ) → Firm (λ s. stepped_of s ≡ step_at p at)
-  pub walk : (p : List ℕ) → Firm (λ w. walked_of w ≡ counted (walk_of p))
+  pub walk : (p : List ℕ) → Firm (λ w. answered_at w ≡ counted (walk_of p))
   -- the answer, and what the list holds
   pub walk_into : (list : List Tlv) (p : List ℕ)
-      → Firm {A = Walked × List Tlv} (λ o. (walked_of o.0 ≡ listed (length list) (walk_of p)) × (o.1 ≡ filled (listed (length list) (walk_of p)) (walk_of p).items list))
+      → Firm {A = Result WalkCount Unwalked × List Tlv} (λ o. (answered_at o.0 ≡ listed (length list) (walk_of p)) × (o.1 ≡ filled (listed (length list) (walk_of p)) (walk_of p).items list))
 
 -- the TLV of a record, with its value from the payload
 abbrev pub tlv_of_lem : List ℕ → Tlv → List ℕ

@@ -1,31 +1,30 @@
 -- The walk over a payload's TLVs and where a message ends (rules W1 to W6; IEEE 1905.1, clause 6.4.1, for the marker).
-use Rattle.std.specs.Prelude.{Bool, false, cond, List, [], ◌∷◌, ◌++◌, ℕ, ◌+◌, eqb, ltb, length, drop, get_or}
+use Rattle.std.specs.Prelude.{Bool, false, cond, List, [], ◌∷◌, ◌++◌, ℕ, ◌+◌, eqb, ltb, length, drop, get_or, Result, Ok, Err}
 use Rattle.numbers.specs.Numbers.{Answer, gives, refuses, and_then, mapped, number, values}
-use Rattle.framing.specs.Tlv.{TlvRead, read_tlv_lem}
+use Rattle.framing.specs.declared.TlvRead.{TlvRead}
+use Rattle.framing.specs.Tlv.{read_tlv_lem}
 use Rattle.walking.specs.Steps.{Ahead, ended, passed, last, Walk, walk_from}
 use Rattle.walking.specs.declared.Tlv.{Tlv}
 use Rattle.walking.specs.declared.Stepped.{Stepped}
-use Rattle.walking.specs.declared.Walked.{Walked}
+use Rattle.walking.specs.declared.Unwalked.{Unwalked}
+use Rattle.walking.specs.declared.WalkCount.{WalkCount}
 
 -- Rule W2: the end marker is a TLV of type 0 with an empty value.
 abbrev pub is_marker_lem : Tlv → Bool
 is_marker_lem t = cond (eqb t.tlv_type 0) (eqb t.length 0) false
 
--- Rule W3: what a walk answers, the number of TLVs and the padding's length.
-pub record WalkCount : Type 0 where
-  pub count : ℕ
-  pub padding : ℕ
-
 -- What each answer of a step and of a walk says. A refusal carries an offset in front of its values (rules W4 and N3).
-abbrev pub stepped_of : Stepped → Answer (Ahead Tlv)
-stepped_of Stepped.End = gives ended
-stepped_of (Stepped.Tlv t next) = gives (passed t next)
-stepped_of (Stepped.Last t end) = gives (last t end)
-stepped_of (Stepped.Refused r at) = refuses (number r) (at ∷ values r)
+abbrev pub answered_at : {A : Type 0} → Result A Unwalked → Answer A
+answered_at (Ok a) = gives a
+answered_at (Err u) = refuses (number u.refusal) (u.at ∷ values u.refusal)
 
-abbrev pub walked_of : Walked → Answer WalkCount
-walked_of (Walked.Count n padding) = gives (record { count = n; padding = padding })
-walked_of (Walked.Refused r at) = refuses (number r) (at ∷ values r)
+abbrev pub ahead_of : Stepped → Ahead Tlv
+ahead_of Stepped.End = ended
+ahead_of (Stepped.Tlv t next) = passed t next
+ahead_of (Stepped.Last t end) = last t end
+
+abbrev pub stepped_of : Result Stepped Unwalked → Answer (Ahead Tlv)
+stepped_of r = mapped ahead_of (answered_at r)
 
 -- The step over a TLV that ends at `end`, the marker or another (rules W2 and W6).
 abbrev pub step_over_lem : Tlv → ℕ → Ahead Tlv

@@ -1,12 +1,6 @@
--- `offset_of` meets its contract: after i turns the walk's TLV number i stands at `at`.
-use Prim.Native.Nat.{◌≤◌, ◌<◌, ◌-◌}
-use lib.ListN.{length}
-use Rattle.walking.specs.Walk.{walk_of}
+-- `offset_of` meets its contract: after so many turns the walk's TLV of that number stands at `at`.
 use Rattle.walking.proofs.Chained.{Stands}
 use Rattle.walking.proofs.offset_of.Given as goal
 
-abbrev pub invariant-loop-i : goal.invariant-loop-i
-invariant-loop-i l = (l.i ≤ l.k) × (l.k < length (walk_of l.payload).items) × Stands l.payload l.i l.at
-
-abbrev pub decreases-loop-i : goal.decreases-loop-i
-decreases-loop-i l = l.k - l.i
+abbrev pub invariant-loop : goal.invariant-loop
+invariant-loop l = Stands l.payload l.counter l.at

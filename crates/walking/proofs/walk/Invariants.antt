@@ -4,8 +4,8 @@ use lib.ListN.{length}
 use Rattle.walking.proofs.Walking.{Walking}
 use Rattle.walking.proofs.walk.Given as goal
 
-abbrev pub invariant-loop-next : goal.invariant-loop-next
-invariant-loop-next l = Walking l.payload l.at l.count
+abbrev pub invariant-loop-found : goal.invariant-loop-found
+invariant-loop-found l = Walking l.payload l.at l.count
 
-abbrev pub decreases-loop-next : goal.decreases-loop-next
-decreases-loop-next l = length l.payload - l.at
+abbrev pub decreases-loop-found : goal.decreases-loop-found
+decreases-loop-found l = length l.payload - l.at

@@ -1,28 +1,40 @@
 -- `walk_into` meets its contract: the plan says how many entries fit, and each turn writes one more of them.
-use Rattle.std.proofs.Common.{length, ◌∙◌, arith}
-use Rattle.walking.specs.Walk.{walked_of}
+use Rattle.std.proofs.Common.{◌<◌, length, drop, ◌++◌}
+use mathlib.Core.List.{List}
+use mathlib.Core.Path.{refl, sym, ◌∙◌, ap}
+use native.Mathlib.Omega.{arith}
+use lib.Seq.{length-take-le}
+use Rattle.walking.specs.Walk.{walk_of}
+use Rattle.walking.specs.declared.Tlv.{Tlv}
+use Rattle.walking.proofs.Chained.{is_passed}
 use Rattle.walking.proofs.Filled.{begins, goes_on, ends}
-use Rattle.walking.proofs.Listed.{fits, few, holds}
+use Rattle.walking.proofs.Listed.{fits}
 use Rattle.walking.proofs.walk_into.Goals as goal
 
-pub loop-i-init : goal.loop-i-init
-loop-i-init c = begins _ _ _
+pub loop-element-init : goal.loop-element-init
+loop-element-init c = begins _ _
 
-pub bounds-list-i : goal.bounds-list-i
-bounds-list-i c =
-    let room = fits c.args.payload.now (length c.args.list.now) c.plan-planned.result.count (walked_of c.plan-planned.result.answer) c.plan-planned.ensures in
-    omega arith
-
-pub loop-i-preserved : goal.loop-i-preserved
-loop-i-preserved c =
-    let plan = c.plan-planned in
+pub unwrap-passed-requires : goal.unwrap-passed-requires
+unwrap-passed-requires c =
     let p = c.args.payload.now in
-    let room = fits p (length c.args.list.now) plan.result.count (walked_of plan.result.answer) plan.ensures in
-    goes_on p plan.result.count c.args.list.now c.loop-i.i c.loop-i.at c.loop-i.list c.loop-i.invariant (few p (length c.args.list.now) plan.result.count (walked_of plan.result.answer) plan.ensures) room c.loop-i-test.true _ _ c.pass-passed.ensures.0 c.pass-passed.ensures.1
+    let list = c.args.list.now in
+    let f = fits (walk_of p) (length list) _ c.in_ok-planned.ensures in
+    let l : c.loop-element.element-index < length (walk_of p).items = omega (arith, length-take-le c.in_ok-planned.planned.count list f.1) in
+    rw (c.pass.ensures, is_passed p c.loop-element.element-index _ c.loop-element.invariant.here l) refl
+
+pub loop-element-preserved : goal.loop-element-preserved
+loop-element-preserved c =
+    let p = c.args.payload.now in
+    let list = c.args.list.now in
+    let f = fits (walk_of p) (length list) _ c.in_ok-planned.ensures in
+    let n = length-take-le c.in_ok-planned.planned.count list f.1 in
+    goes_on p _ _ _ c.loop-element.invariant (omega arith) (omega arith) _ (sym c.unwrap-passed.ensures ∙ c.pass.ensures)
 
 pub returns : goal.returns
 returns c =
-    let plan = c.plan-planned in
     let p = c.args.payload.now in
-    let ys = c.args.list.now in
-    (plan.ensures.answered, ends p plan.result.count ys c.loop-i.i c.loop-i.at c.loop-i.list c.loop-i.invariant c.loop-i-test.false ∙ holds p (length ys) plan.result.count (walked_of plan.result.answer) plan.ensures ys)
+    let list = c.args.list.now in
+    let answer = c.in_ok-planned.ensures in
+    let f = fits (walk_of p) (length list) _ answer in
+    let n = length-take-le c.in_ok-planned.planned.count list f.1 in
+    (answer, ap (λ (ts : List Tlv). ts ++ drop c.in_ok-planned.planned.count list) (ends p _ _ _ c.loop-element.invariant (omega arith) (omega arith)) ∙ rw (← answer))
