@@ -6,10 +6,10 @@ firmness : Firmness
 firmness = record {
   association_with = λ station point joined. by_equation _;
   no_address = by_equation _;
-  event_numbers = λ answered. by_equation _;
-  applied_numbers = λ size applied. by_equation _;
+  event_numbers = λ heard. by_equation _;
+  applied_numbers = λ size taken. by_equation _;
   where_numbers = λ place. by_equation _;
-  row_numbers = λ listed. by_equation _;
+  row_numbers = λ seat. by_equation _;
 }
 
 pub claims : Claims

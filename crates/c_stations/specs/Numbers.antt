@@ -1,14 +1,13 @@
 -- Rule C1: the answers of the station table (part P), in the numbers that cross to C. An address crosses as it is, six
 -- bytes in their order.
-use Rattle.std.specs.Prelude.{Bool, true, false, cond, ℕ, ◌-◌}
+use Rattle.std.specs.Prelude.{Bool, true, false, cond, ℕ, ◌-◌, Option, Some, None}
 use Rattle.numbers.specs.Numbers.{Answer, gives, refuses}
 use Rattle.records.specs.declared.MacAddr.{MacAddr}
 use Rattle.records.specs.declared.AssociationState.{AssociationState}
 use Rattle.records.specs.declared.ClientAssociation.{ClientAssociation}
 use Rattle.stations.specs.declared.Heard.{Heard}
-use Rattle.stations.specs.declared.Where.{Where}
-use Rattle.stations.specs.declared.Listed.{Listed}
-use Rattle.stations.specs.Events.{Taken}
+use Rattle.stations.specs.declared.Taken.{Taken}
+use Rattle.stations.specs.declared.Seat.{Seat}
 use Rattle.c_stations.specs.declared.AshlarHeard.{AshlarHeard}
 use Rattle.c_stations.specs.declared.AshlarApplied.{AshlarApplied}
 use Rattle.c_stations.specs.declared.AshlarAt.{AshlarAt}
@@ -50,11 +49,11 @@ applied_numbers_lem size (gives x) =
 applied_numbers_lem size (refuses n vs) = record { consumed = 0; rest = 0; heard = refused_as_lem n }
 
 -- Rule P7: where a station is.
-abbrev pub where_numbers_lem : Where → AshlarAt
-where_numbers_lem Where.Nowhere = record { point = no_address_lem; held = false }
-where_numbers_lem (Where.At point) = record { point = point; held = true }
+abbrev pub where_numbers_lem : Option MacAddr → AshlarAt
+where_numbers_lem None = record { point = no_address_lem; held = false }
+where_numbers_lem (Some point) = record { point = point; held = true }
 
 -- Rule P7: what a row holds.
-abbrev pub row_numbers_lem : Listed → AshlarRow
-row_numbers_lem Listed.Free = record { station = no_address_lem; point = no_address_lem; held = false }
-row_numbers_lem (Listed.Occupied station point) = record { station = station; point = point; held = true }
+abbrev pub row_numbers_lem : Option Seat → AshlarRow
+row_numbers_lem None = record { station = no_address_lem; point = no_address_lem; held = false }
+row_numbers_lem (Some seat) = record { station = seat.station; point = seat.point; held = true }

@@ -3,11 +3,12 @@
 #![tactic(auto)]
 
 ghost use Rattle.std.specs.Prelude.{◌≡◌};
-ghost use Rattle.stations.specs.Events.{answered_of, applied_of};
+ghost use Rattle.numbers.specs.Numbers.{answered};
 ghost use Rattle.c_stations.specs.Numbers.{association_with_lem, no_address_lem, heard_as_lem, heard_numbers_lem, refused_as_lem, event_numbers_lem, applied_numbers_lem, where_numbers_lem, row_numbers_lem};
 
+use numbers::Refusal;
 use records::{AssociationState, ClientAssociation, MacAddr};
-use stations::{Applied, EventAnswer, Heard, Listed, Where};
+use stations::{Heard, Seat, Taken};
 
 // What an event did (rules P2 and P3): 1 placed, 2 moved, 3 the same, 4 removed, 5 stale; 0 where it is refused. With 2
 // comes the access point where the station was.
@@ -112,30 +113,27 @@ fn refused_as(refusal: u8) -> AshlarHeard
 }
 
 // What an event is answered.
-pub fn event_numbers(answered: EventAnswer) -> AshlarHeard
-    ensures { result ≡ event_numbers_lem (answered_of answered) }
+pub fn event_numbers(heard: Result<Heard, Refusal>) -> AshlarHeard
+    ensures { result ≡ event_numbers_lem (answered heard) }
 {
-    match answered {
-        EventAnswer::Heard(heard) => heard_numbers(heard),
-        EventAnswer::Refused(refusal) => refused_as(numbers::number_of(refusal)),
+    match heard {
+        Ok(heard) => heard_numbers(heard),
+        Err(refusal) => refused_as(numbers::number_of(refusal)),
     }
 }
 
 // The same for an event that was read from a value of this size. One that took more bytes would leave no rest: no call
 // gives such an answer.
-pub fn applied_numbers(size: usize, applied: Applied) -> AshlarApplied
-    ensures { result ≡ applied_numbers_lem size (applied_of applied) }
+pub fn applied_numbers(size: usize, taken: Result<Taken, Refusal>) -> AshlarApplied
+    ensures { result ≡ applied_numbers_lem size (answered taken) }
 {
-    match applied {
-        Applied::Heard { heard, consumed } => {
-            let did = heard_numbers(heard);
-            AshlarApplied {
-                consumed,
-                rest: if consumed <= size { size - consumed } else { 0 },
-                heard: did,
-            }
-        }
-        Applied::Refused(refusal) => AshlarApplied {
+    match taken {
+        Ok(taken) => AshlarApplied {
+            consumed: taken.consumed,
+            rest: size.saturating_sub(taken.consumed),
+            heard: heard_numbers(taken.heard),
+        },
+        Err(refusal) => AshlarApplied {
             consumed: 0,
             rest: 0,
             heard: refused_as(numbers::number_of(refusal)),
@@ -144,12 +142,12 @@ pub fn applied_numbers(size: usize, applied: Applied) -> AshlarApplied
 }
 
 // Where a station is.
-pub fn where_numbers(place: Where) -> AshlarAt
+pub fn where_numbers(place: Option<MacAddr>) -> AshlarAt
     ensures { result ≡ where_numbers_lem place }
 {
     match place {
-        Where::At(point) => AshlarAt { point, held: true },
-        Where::Nowhere => AshlarAt {
+        Some(point) => AshlarAt { point, held: true },
+        None => AshlarAt {
             point: no_address(),
             held: false,
         },
@@ -157,16 +155,16 @@ pub fn where_numbers(place: Where) -> AshlarAt
 }
 
 // What a row holds.
-pub fn row_numbers(listed: Listed) -> AshlarRow
-    ensures { result ≡ row_numbers_lem listed }
+pub fn row_numbers(seat: Option<Seat>) -> AshlarRow
+    ensures { result ≡ row_numbers_lem seat }
 {
-    match listed {
-        Listed::Occupied { station, point } => AshlarRow {
-            station,
-            point,
+    match seat {
+        Some(seat) => AshlarRow {
+            station: seat.station,
+            point: seat.point,
             held: true,
         },
-        Listed::Free => AshlarRow {
+        None => AshlarRow {
             station: no_address(),
             point: no_address(),
             held: false,

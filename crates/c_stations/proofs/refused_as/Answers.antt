@@ -1,5 +1,0 @@
--- `refused_as` meets its contract: no address goes with the number.
-use Rattle.c_stations.proofs.refused_as.Goals as goal
-
-pub returns : goal.returns
-returns c = rw c.no_address.ensures
