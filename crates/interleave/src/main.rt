@@ -3,16 +3,17 @@
 // orders were played and how many differed.
 #![tactic(auto)]
 
-ghost use Rattle.std.specs.Prelude.{◌<◌};
+ghost use Rattle.std.specs.Prelude.{◌<◌, ◌≤◌};
 ghost use Rattle.pushing.specs.Made.{Made};
 
+use numbers::Refusal;
 use pushing::{AfterPush, Arrival, Fragment, Pushed};
 use std::io;
 use table::{STORE_SIZE, Table};
 
 // A push to a table that these calls made leaves such a table (rule A1).
 fn pushed_on(t: Table, store: &mut [u8], out: &mut [u8], a: Arrival, payload: &[u8]) -> AfterPush
-    requires { Made t × (a.fragment.number < 256) }
+    requires { Made t }
     ensures { Made result.table }
 {
     pushing::push_step(t, store, out, a, payload)
@@ -23,180 +24,102 @@ fn digit(order: u64, k: u64) -> u64
     ensures { result < 3 }
 {
     let mut rest = order;
-    let mut i = 0;
-    while i < k {
-        rest = rest / 3;
-        i += 1;
+    for _ in 0..k {
+        rest /= 3;
     }
     rest % 3
 }
 
 // How many of the first n turns are this sender's.
-fn turns(order: u64, n: u64, sender: u64) -> u64 {
-    let mut found = 0;
-    let mut k = 0;
-    while k < n {
-        if digit(order, k) == sender {
-            found = std::num::wrapping_add_u64(found, 1);
-        }
-        k += 1;
-    }
-    found
+fn turns(order: u64, n: u64, sender: u64) -> usize
+    ensures { result ≤ n }
+{
+    (0..n).filter(|k| digit(order, *k) == sender).count()
 }
 
 // An answer as a number, and the bytes of its message folded into it.
-fn folded_reply<'a>(answer: Pushed, payload: &'a [u8], out: &'a [u8]) -> u64 {
+fn folded_reply(answer: Result<Pushed, Refusal>, payload: &[u8], out: &[u8]) -> u64 {
     let code = match answer {
-        Pushed::WaitingForMoreFragments => 1,
-        Pushed::DuplicatedFragment => 2,
-        Pushed::InconsistentMetadata => 3,
-        Pushed::MissingFragments => 4,
-        Pushed::MissingLastFragment => 5,
-        Pushed::Single(_) => 6,
-        Pushed::Joined(_) => 7,
-        Pushed::Refused(_) => 8,
+        Ok(Pushed::WaitingForMoreFragments) => 1,
+        Ok(Pushed::DuplicatedFragment) => 2,
+        Ok(Pushed::InconsistentMetadata) => 3,
+        Ok(Pushed::MissingFragments) => 4,
+        Ok(Pushed::MissingLastFragment) => 5,
+        Ok(Pushed::Single(_)) => 6,
+        Ok(Pushed::Joined(_)) => 7,
+        Err(_) => 8,
     };
-    let message = reassembler::show(answer, payload, out);
-    folded(code, message)
+    folded(code, reassembler::show(answer, payload, out))
 }
 
 // A number that changes with every byte of a message and with their order.
 fn folded(start: u64, bytes: &[u8]) -> u64 {
     let mut sum = start % 16777216;
-    let mut i = 0;
-    while i < bytes.len() {
-        sum = (sum * 31 + bytes[i] as u64) % 16777213;
-        i += 1;
+    for byte in bytes {
+        sum = (sum * 31 + u64::from(*byte)) % 16777213;
     }
     sum
 }
 
-// What the three senders were answered, folded into one number for each.
-#[derive(Clone, Copy)]
-struct Sums {
-    first: u64,
-    second: u64,
-    third: u64,
-}
-
-fn with_reply(s: Sums, sender: u64, what: u64) -> Sums {
-    if sender == 0 {
-        return Sums {
-            first: (s.first % 16777216) * 37 + what % 16777216,
-            second: s.second,
-            third: s.third,
-        };
-    }
-    if sender == 1 {
-        return Sums {
-            first: s.first,
-            second: (s.second % 16777216) * 37 + what % 16777216,
-            third: s.third,
-        };
-    }
-    Sums {
-        first: s.first,
-        second: s.second,
-        third: (s.third % 16777216) * 37 + what % 16777216,
-    }
-}
-
 // The senders use one message id, so that only their addresses keep their messages apart (rule T2).
-fn arrival(sender: u64, number: u64, time: u64) -> Arrival
-    ensures { result.fragment.number < 256 }
-{
-    let fragment = Fragment {
-        message_type: 3,
-        version: 0,
-        number: (number % 256) as u8,
-        last: number == 2,
-    };
+fn arrival(sender: u8, number: u8, time: u64) -> Arrival {
     Arrival {
-        key: keys::key_of(2, 0, 0, 0, 0, (sender % 256) as u8, 7),
+        key: keys::key_of(2, 0, 0, 0, 0, sender, 7),
         time,
-        fragment,
+        fragment: Fragment {
+            message_type: 3,
+            version: 0,
+            number,
+            last: number == 2,
+        },
     }
 }
+
+// What the three senders were answered, folded into one number for each.
+type Sums = [u64; 3];
 
 // One order played from a fresh table: nine pushes.
 fn play(order: u64, store: &mut [u8], out: &mut [u8]) -> Sums {
     let mut t = table::fresh();
-    let mut sums = Sums {
-        first: 0,
-        second: 0,
-        third: 0,
-    };
-    let mut k: u64 = 0;
-    while k < 9 {
+    let mut sums = [0; 3];
+    for k in 0..9 {
         let sender = digit(order, k);
-        let number = turns(order, k, sender);
-        let bytes = [(sender % 256) as u8, (number % 256) as u8, 90, 91];
-        let a = arrival(sender, number, k);
-        let s = pushed_on(t, store, out, a, &bytes);
-        t = s.table;
-        let answer = s.answer;
-        sums = with_reply(sums, sender, folded_reply(answer, &bytes, out));
-        k += 1;
+        let number = turns(order, k, sender) as u8;
+        let payload = [sender as u8, number, 90, 91];
+        let after = pushed_on(t, store, out, arrival(sender as u8, number, k), &payload);
+        t = after.table;
+        let reply = folded_reply(after.answer, &payload, out);
+        let sum = &mut sums[sender as usize];
+        *sum = *sum % 16777216 * 37 + reply % 16777216;
     }
     sums
 }
 
-fn same(a: Sums, b: Sums) -> bool {
-    if a.first == b.first {
-        if a.second == b.second {
-            return a.third == b.third;
-        }
-    }
-    false
-}
-
 // Each sender has three turns.
 fn is_fair(order: u64) -> bool {
-    if turns(order, 9, 0) == 3 {
-        return turns(order, 9, 1) == 3;
-    }
-    false
+    turns(order, 9, 0) == 3 && turns(order, 9, 1) == 3
 }
 
 // How many orders were played, and in how many of them a sender was answered something else.
-#[derive(Drop)]
+#[derive(Clone, Copy)]
 struct Score {
     played: u64,
     differed: u64,
 }
 
-fn with_order(s: Score, differs: bool) -> Score {
-    let played = std::num::wrapping_add_u64(s.played, 1);
-    if differs {
-        return Score {
-            played,
-            differed: std::num::wrapping_add_u64(s.differed, 1),
-        };
-    }
-    Score {
-        played,
-        differed: s.differed,
-    }
-}
-
-// The score with one order more, if each sender has three turns in it.
-fn tried(score: Score, order: u64, expected: Sums, store: &mut [u8], out: &mut [u8]) -> Score {
-    if is_fair(order) {
-        let sums = play(order, store, out);
-        return with_order(score, !same(sums, expected));
-    }
-    score
-}
-
+// The orders in which each sender has three turns.
 fn play_all(expected: Sums, store: &mut [u8], out: &mut [u8]) -> Score {
     let mut score = Score {
         played: 0,
         differed: 0,
     };
-    let mut order: u64 = 0;
-    while order < 19683 {
-        score = tried(score, order, expected, store, out);
-        order += 1;
+    for order in 0..19683 {
+        if is_fair(order) {
+            score.played += 1;
+            if play(order, store, out) != expected {
+                score.differed += 1;
+            }
+        }
     }
     score
 }
@@ -211,6 +134,6 @@ fn main(rt: HostRuntime) -> io::Result<()> {
     let score = play_all(expected, &mut store, &mut out);
     println!(rt;
         "{} orders played, {} differed; one by one the senders were told {} {} {}",
-        score.played, score.differed, expected.first, expected.second, expected.third
+        score.played, score.differed, expected[0], expected[1], expected[2]
     )
 }

@@ -1,9 +1,6 @@
--- `folded` meets its contract: the sum stays small.
-use Rattle.std.proofs.Common.{◌-◌, ◌<◌, ◌≤◌, length}
+-- The sum stays small.
+use Rattle.std.proofs.Common.{◌<◌}
 use Rattle.interleave.proofs.folded.Given as goal
 
-abbrev pub invariant-loop-i : goal.invariant-loop-i
-invariant-loop-i l = (l.i ≤ length l.bytes) × (l.sum < 16777216)
-
-abbrev pub decreases-loop-i : goal.decreases-loop-i
-decreases-loop-i l = length l.bytes - l.i
+abbrev pub invariant-loop-byte : goal.invariant-loop-byte
+invariant-loop-byte l = l.sum < 16777216
