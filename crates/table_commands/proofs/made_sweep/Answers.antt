@@ -1,6 +1,0 @@
--- `made_sweep` meets its contract: after a sweep the table is one that the table's calls made.
-use Rattle.pushing.proofs.Calls.{sweep_made}
-use Rattle.table_commands.proofs.made_sweep.Goals as goal
-
-pub returns : goal.returns
-returns c = sweep_made _ _ _ _ c.requires c.sweep-dropped.ensures
