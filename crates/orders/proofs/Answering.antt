@@ -8,9 +8,11 @@ use lib.Dec.{leb}
 use lib.ListN.{length, take, drop, drop_of_length-le}
 use lib.Seq.{length-take-le, take_all, take_at, drop_at}
 use borrow.Author.Tests.{leb-true, leb-false}
+use Rattle.std.specs.Prelude.{Result, Ok, Err}
 use Rattle.numbers.specs.Numbers.{Answer, gives}
+use Rattle.numbers.specs.declared.Refusal.{Refusal}
 use Rattle.pushing.specs.declared.Pushed.{Pushed}
-use Rattle.pushing.specs.declared.Pushed.TheVariants.{WaitingForMoreFragments, DuplicatedFragment, InconsistentMetadata, MissingFragments, MissingLastFragment, Single, Joined, Refused}
+use Rattle.pushing.specs.declared.Pushed.TheVariants.{WaitingForMoreFragments, DuplicatedFragment, InconsistentMetadata, MissingFragments, MissingLastFragment, Single, Joined}
 use Rattle.pushing.specs.Push.{PushAnswer, waiting, duplicated, inconsistent, missing, missing_last, single, joined, Way, pushed_of, Goes, store_by, output_by, answer_by}
 use Rattle.pushing.proofs.Sound.{sound}
 use Rattle.pushing.proofs.Ways.{went}
@@ -28,16 +30,16 @@ use Rattle.orders.proofs.Locality.{good_after, good_start}
 
 -- an answer of the code that says this
 abbrev Said : Answer PushAnswer → Type 0
-Said a = (answer : Pushed) × (pushed_of answer ≡ a)
+Said a = (answer : Result Pushed Refusal) × (pushed_of answer ≡ a)
 
 given_said : (h : PushAnswer) → Said (gives h)
-given_said waiting = (WaitingForMoreFragments, refl)
-given_said duplicated = (DuplicatedFragment, refl)
-given_said inconsistent = (InconsistentMetadata, refl)
-given_said missing = (MissingFragments, refl)
-given_said missing_last = (MissingLastFragment, refl)
-given_said (single n) = (Single n, refl)
-given_said (joined n) = (Joined n, refl)
+given_said waiting = (Ok WaitingForMoreFragments, refl)
+given_said duplicated = (Ok DuplicatedFragment, refl)
+given_said inconsistent = (Ok InconsistentMetadata, refl)
+given_said missing = (Ok MissingFragments, refl)
+given_said missing_last = (Ok MissingLastFragment, refl)
+given_said (single n) = (Ok (Single n), refl)
+given_said (joined n) = (Ok (Joined n), refl)
 
 -- a front that is replaced by one as long
 front_replaced : (d e : List ℕ) (n : ℕ) → length e ≡ length (take n d) → (take n (e ++ drop n d) ≡ e) × (drop n (e ++ drop n d) ≡ drop n d)
@@ -55,11 +57,11 @@ module _ (long : ℕ) (z : State) (g : Good long z) where
   push_said p = by_turn (turn long z p g)
     where
       told : Said (answer_by (own_way long (holding p.arrival.key z) p))
-      told = by_own_way long (holding p.arrival.key z) p (λ (w : Way). Said (answer_by w)) (λ x e. (Refused x, refl)) (DuplicatedFragment, refl) (λ h bytes e. given_said h) (λ e. (WaitingForMoreFragments, refl))
+      told = by_own_way long (holding p.arrival.key z) p (λ (w : Way). Said (answer_by w)) (λ x e. (Err x, refl)) (Ok DuplicatedFragment, refl) (λ h bytes e. given_said h) (λ e. (Ok WaitingForMoreFragments, refl))
 
       by_turn : Turn long z p → Said (answer_by (way_of z p))
       by_turn (as_told e) = subst Said (sym (ap answer_by e) ∙ same_answer (way_of z p)) told
-      by_turn (full r for e own l f) = (Refused r, sym (ap answer_by e))
+      by_turn (full r for e own l f) = (Err r, sym (ap answer_by e))
 
   push_meets : (p : Push) (out : List ℕ) → length out ≡ p.room → PushMeets z p out (push_said p).0 (output_by (way_of z p) out) (after z (push p))
   push_meets p out room =

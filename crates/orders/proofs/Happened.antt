@@ -8,9 +8,11 @@ use native.Mathlib.Omega.{arith}
 use lib.Dec.{eqb}
 use lib.ListN.{length, get_or, drop, replicate, take-append-drop}
 use borrow.Author.Tests.{eqb-true, eqb-false, eq-eqb}
+use Rattle.std.specs.Prelude.{Ok, Err, Result}
 use Rattle.sweeping.specs.declared.Swept.{Swept}
+use Rattle.numbers.specs.declared.Refusal.{Refusal}
 use Rattle.pushing.specs.declared.Pushed.{Pushed}
-use Rattle.pushing.specs.declared.Pushed.TheVariants.{DuplicatedFragment, Refused}
+use Rattle.pushing.specs.declared.Pushed.TheVariants.{DuplicatedFragment}
 use Rattle.pushing.specs.Push.{pushed_of, Goes, output_by, answer_by}
 use Rattle.pushing.specs.Show.{shown}
 use Rattle.pushing.specs.Made.{Made}
@@ -62,7 +64,7 @@ pub finished_shown : (z : State) (p : Push) (out : List ℕ) → shown (answer_b
 finished_shown z p out = shown_same z.table (part z p) p.arrival p.payload p.room out
 
 -- what a call that happened asked is a step of the run
-push_leads : (z z' : State) (p : Push) (out out' : List ℕ) (answer : Pushed) → length out ≡ p.room → PushMeets z p out answer out' z' → (after z (push p) ≡ z') × (reply_to z (push p) ≡ pushed (pushed_of answer) (shown (pushed_of answer) p.payload out'))
+push_leads : (z z' : State) (p : Push) (out out' : List ℕ) (answer : Result Pushed Refusal) → length out ≡ p.room → PushMeets z p out answer out' z' → (after z (push p) ≡ z') × (reply_to z (push p) ≡ pushed (pushed_of answer) (shown (pushed_of answer) p.payload out'))
 push_leads z z' p out out' answer room m =
     let w = way_of z p in
     let met : Goes w z.table (part z p) out p.arrival p.payload answer z'.table (part z' p) out' = rw room at m.goes in
@@ -226,7 +228,7 @@ module _ (store : List ℕ) (cs : List MixedCall) (z : State × Stations) (h : B
   }
 
 -- a duplicate leaves everything as it was
-pub duplicate_untouched : (z z' : State) (p : Push) (out out' : List ℕ) → PushMeets z p out DuplicatedFragment out' z' → (z' ≡ z) × (out' ≡ out)
+pub duplicate_untouched : (z z' : State) (p : Push) (out out' : List ℕ) → PushMeets z p out (Ok DuplicatedFragment) out' z' → (z' ≡ z) × (out' ≡ out)
 duplicate_untouched z z' p out out' m =
     let same = (P.claims).duplicate_untouched z.table (part z p) out p.arrival p.payload z'.table (part z' p) out' m.goes in
     ((λ i. record { table = same.0 i; store = (sym (take-append-drop p.lent z'.store) ∙ ap (λ (l : List ℕ). l ++ drop p.lent z'.store) same.1 ∙ ap (λ (l : List ℕ). part z p ++ l) m.rest ∙ take-append-drop p.lent z.store) i }), same.2)
@@ -236,6 +238,6 @@ pub totals_in_step : (store : List ℕ) (calls : List TableCall) (z : State) →
 totals_in_step store calls z h = let made = (is_run store calls z h).made in ((P.claims).made_in_step z.table made, (P.claims).made_within_shares z.table made)
 
 pub room_for_others : (store : List ℕ) (calls : List TableCall) (z : State) → Happened table_contract (start store) calls z → (p : Push) (out out' : List ℕ) (z' : State)
-    → (others : List ℕ) → length others < 4 → OnlyOf z.table (sender_of_lem p.arrival.key ∷ others) → PushMeets z p out (Refused TableFull) out' z' → ⊥
+    → (others : List ℕ) → length others < 4 → OnlyOf z.table (sender_of_lem p.arrival.key ∷ others) → PushMeets z p out (Err TableFull) out' z' → ⊥
 room_for_others store calls z h p out out' z' others few only m =
     (P.claims).room_for_few z.table (part z p) out p.arrival p.payload z'.table (part z' p) out' (is_run store calls z h).made others few only m.goes

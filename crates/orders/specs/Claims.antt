@@ -1,13 +1,13 @@
 -- What is claimed about runs of the table, and about calls that happened: the record Claims at the end, which
 -- proofs/Claims.antt proves.
-use Rattle.std.specs.Prelude.{◌≡◌, List, [], ◌∷◌, ◌++◌, map, Bool, true, false, not, cond, ℕ, ◌≤◌, ◌<◌, length, get_or}
+use Rattle.std.specs.Prelude.{◌≡◌, List, [], ◌∷◌, ◌++◌, map, Bool, true, false, not, cond, ℕ, ◌≤◌, ◌<◌, length, get_or, Ok, Err}
 use Rattle.sweeping.specs.Sweep.{swept}
 use Rattle.table.specs.Rows.{store_size}
 use Rattle.table.specs.InStep.{InStep, WithinShares, OnlyOf}
 use Rattle.numbers.specs.Numbers.{gives}
 use Rattle.numbers.specs.declared.Refusal.TheVariants.{TableFull}
 use Rattle.pushing.specs.Joining.{Held, kept, Fragments, is_kept_lem, held_of, due}
-use Rattle.pushing.specs.declared.Pushed.TheVariants.{DuplicatedFragment, Refused}
+use Rattle.pushing.specs.declared.Pushed.TheVariants.{DuplicatedFragment}
 use Rattle.pushing.specs.Push.{waiting, answer_by, output_by}
 use Rattle.pushing.specs.Show.{shown}
 use Rattle.pushing.specs.Made.{Made}
@@ -201,9 +201,9 @@ pub record Claims : Type 0 where
   -- rule D7: whatever calls happened, a push is not refused by 10 if the keys held are of its own sender and of fewer
   -- than four others
   pub room_for_others : (store : List ℕ) (calls : List TableCall) (z : State) → Happened table_contract (start store) calls z → (p : Push) (out out' : List ℕ) (z' : State)
-      → (others : List ℕ) → length others < 4 → OnlyOf z.table (sender_of_lem p.arrival.key ∷ others) → PushMeets z p out (Refused TableFull) out' z' → ⊥
+      → (others : List ℕ) → length others < 4 → OnlyOf z.table (sender_of_lem p.arrival.key ∷ others) → PushMeets z p out (Err TableFull) out' z' → ⊥
   -- rule T5: a duplicate changes nothing, and what its caller lent comes back as it was
-  pub duplicate_untouched : (z z' : State) (p : Push) (out out' : List ℕ) → PushMeets z p out DuplicatedFragment out' z' → (z' ≡ z) × (out' ≡ out)
+  pub duplicate_untouched : (z z' : State) (p : Push) (out out' : List ℕ) → PushMeets z p out (Ok DuplicatedFragment) out' z' → (z' ≡ z) × (out' ≡ out)
   -- rules T3 and T6: a fragment that waits is held as it came, its mark included
   pub kept_as_pushed : (z : State) → Made z.table → (p : Push) (bytes : List ℕ) → reply_to z (push p) ≡ pushed (gives waiting) bytes
       → (holding p.arrival.key (after z (push p))).fragments p.arrival.fragment.number ≡ kept (held_of p.arrival.fragment p.payload)

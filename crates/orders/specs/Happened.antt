@@ -1,5 +1,6 @@
 -- Calls of push and sweep that happened, by their contracts, with keys made by key_of.
-use Rattle.std.specs.Prelude.{◌≡◌, List, [], map, Bool, false, not, ◌&&◌, ◌||◌, ℕ, eqb, length, drop}
+use Rattle.std.specs.Prelude.{◌≡◌, List, [], map, Bool, false, not, ◌&&◌, ◌||◌, ℕ, eqb, length, drop, Result}
+use Rattle.numbers.specs.declared.Refusal.{Refusal}
 use Rattle.numbers.specs.Bytes.{is_same_lem}
 use Rattle.machines.specs.Machine.{those}
 use Rattle.machines.specs.Happened.{Outcome, Asks, asks_for, steps_of}
@@ -19,7 +20,7 @@ pub data TableAsked : Type 0 where
   sweep_asked : ℕ → TableAsked
 
 pub data TableGot : Type 0 where
-  push_got : Pushed → (out' : List ℕ) → TableGot
+  push_got : Result Pushed Refusal → (out' : List ℕ) → TableGot
   sweep_got : ℕ → TableGot
 
 abbrev pub TableCall : Type 0
@@ -30,7 +31,7 @@ abbrev pub MixedCall : Type 0
 MixedCall = Either TableCall StationCall
 
 -- The contract of push (rules T4 to T9, T11). It is lent the first bytes of the store, and the others stay.
-pub record PushMeets (z : State) (p : Push) (out : List ℕ) (answer : Pushed) (out' : List ℕ) (z' : State) : Type 0 where
+pub record PushMeets (z : State) (p : Push) (out : List ℕ) (answer : Result Pushed Refusal) (out' : List ℕ) (z' : State) : Type 0 where
   pub goes : Goes (way z.table (part z p) p.arrival p.payload (length out)) z.table (part z p) out p.arrival p.payload answer z'.table (part z' p) out'
   pub rest : drop p.lent z'.store ≡ drop p.lent z.store
 
@@ -57,7 +58,7 @@ calls_of = steps_of asks_call
 
 -- What the caller got: the answer of a push and the bytes that show then shows (rule T10), or the number of a sweep.
 pub data CallerGot : Type 0 where
-  from_push : Pushed → List ℕ → CallerGot
+  from_push : Result Pushed Refusal → List ℕ → CallerGot
   from_sweep : ℕ → CallerGot
 
 abbrev pub got_from : TableAsked → TableGot → CallerGot
