@@ -12,10 +12,7 @@ pub fn read_some<R: Read>(input: &mut R, room: &mut [u8]) -> usize
     ensures long { length room.new ≡ length room.old }
     ensures bytes { Consumes (R.remaining input.old) (R.remaining input.new) (take result room.new) }
 {
-    match input.read(room) {
-        Ok(more) => more,
-        Err(_) => 0,
-    }
+    input.read(room).unwrap_or(0)
 }
 
 // Reads until the room is full or nothing more comes, and returns how many bytes came.
