@@ -7,7 +7,8 @@ use Rattle.numbers.specs.Numbers.{Answer, gives, refuses, mapped, and_then}
 use Rattle.numbers.proofs.Firm.{never}
 use Rattle.numbers.proofs.Answers.{given, gave, mapped_gave, follows}
 use Rattle.layouts.specs.Layouts.{Layout}
-use Rattle.layouts.specs.Access.{Span, numbers, nth_of}
+use Rattle.layouts.specs.declared.Span.{Span}
+use Rattle.layouts.specs.Access.{numbers, nth_of}
 use Rattle.layouts.proofs.Within.{Within, end_within}
 use Rattle.layouts.proofs.Finding.{numbers_more}
 use Rattle.texts.specs.Texts.{TextKind, text_kind, radio}

@@ -10,15 +10,16 @@ use lib.Seq.{length-take-le}
 use lib.Dec.{eqb}
 use borrow.Author.Tests.{eqb-true}
 use Rattle.numbers.specs.Numbers.{Answer, gives, refuses, mapped, is_given}
-use Rattle.numbers.proofs.Firm.{by_equation, by_telling, both, never}
+use Rattle.numbers.proofs.Firm.{by_equation, by_answer, both, never}
 use Rattle.numbers.proofs.Answers.{given, gave, mapped_gave, follows, stops, mapped_given, mapped_refused}
 use Rattle.layouts.specs.Layouts.{Layout, bytes}
-use Rattle.layouts.specs.Reading.{Consumed, listing_of, ending_of, reading_of}
-use Rattle.layouts.specs.Access.{Span, located_of, part_of, nth_of, counted_of}
+use Rattle.layouts.specs.declared.Consumed.{Consumed}
+use Rattle.layouts.specs.declared.Span.{Span}
+use Rattle.layouts.specs.Access.{part_of, nth_of}
 use Rattle.layouts.specs.Claims.{Shown}
 use Rattle.layouts.proofs.Within.{end_within}
 use Rattle.layouts.proofs.Spans.{spans_many, nth_past}
-use Rattle.layouts.proofs.Claims.{listing_told, ending_told, reading_told, located_told, counted_told, part_alone}
+use Rattle.layouts.proofs.Claims.{part_alone}
 use Rattle.utf8.specs.Utf8.{is_utf8_lem}
 use Rattle.texts.specs.Texts.{TextKind, string, text_kind, radio, is_text_lem}
 use Rattle.texts.specs.Reading.{text_span_lem, radio_list_lem, Laid, text_in_lem, all_valid_lem, whole_of, consumed_in, read_text}
@@ -32,15 +33,15 @@ use Rattle.texts.proofs.Local.{span_same, counted_alone, whole_value, all_consum
 firmness : Firmness
 firmness = record {
   is_text = λ code. by_equation _;
-  read_value = λ code s. by_telling reading_of reading_told _;
-  locate = λ code path s. by_telling located_of located_told _;
+  read_value = λ code s. by_answer _;
+  locate = λ code path s. by_answer _;
   entry = λ code path s. both _ _ (by_equation _) (by_equation _);
-  count = λ code path s. by_telling counted_of counted_told _;
-  radios = λ code s. by_telling listing_of listing_told _;
-  radio_end = λ s at. by_telling ending_of ending_told _;
-  locate_text = λ code number s. by_telling located_of located_told _;
+  count = λ code path s. by_answer _;
+  radios = λ code s. by_answer _;
+  radio_end = λ s at. by_answer _;
+  locate_text = λ code number s. by_answer _;
   text = λ code number s. both _ _ (by_equation _) (by_equation _);
-  locate_radio_text = λ number s. by_telling located_of located_told _;
+  locate_radio_text = λ number s. by_answer _;
   radio_text = λ number s. both _ _ (by_equation _) (by_equation _);
 }
 

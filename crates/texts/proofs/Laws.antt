@@ -6,6 +6,9 @@ use Prim.Native.Nat.{ℕ, suc, ◌+◌, ◌-◌, ◌<◌, ◌≤◌}
 use native.Mathlib.Nat.{sub-zero}
 use native.Mathlib.Numerals.{add-one}
 use native.Mathlib.Omega.{arith}
+use Rattle.std.specs.Prelude.{Some, None, unwrap_or}
+use Rattle.std.specs.List.{position, position_or_len}
+use Rattle.std.proofs.lemmas.List.Recursion.{is_position_or_len}
 use lib.ListN.{length, get_or, take, drop, length-drop, drop_of_length-le}
 use lib.Seq.{drop-cons, length-take-le}
 use lib.Dec.{eqb, ltb}
@@ -14,9 +17,12 @@ use Rattle.numbers.specs.Numbers.{Answer, gives, refuses, and_then, mapped}
 use Rattle.numbers.proofs.Firm.{never}
 use Rattle.numbers.proofs.Answers.{given, follows, stops, mapped_given}
 use Rattle.layouts.specs.Layouts.{Counting, c1, to_end, Layout, bytes, entry}
-use Rattle.layouts.specs.Reading.{ListAt, count_at_lem, list_of, entries_end, end_of}
-use Rattle.layouts.specs.Access.{Span, nth_of, Spans, before, spans_from}
-use Rattle.layouts.proofs.Within.{reached, behind_head, list_within, entries_within, ends_in, end_within}
+use Rattle.layouts.specs.declared.ListAt.{ListAt}
+use Rattle.layouts.specs.Reading.{count_at_lem, list_of, entries_end, end_of}
+use Rattle.layouts.specs.declared.Span.{Span}
+use Rattle.layouts.specs.Access.{nth_of, Spans, before, spans_from}
+use Rattle.layouts.proofs.Laws.{one_entry}
+use Rattle.layouts.proofs.Within.{Within, reached, behind_head, list_within, entries_within, ends_in, end_within}
 use Rattle.layouts.proofs.Spans.{span, spans_many, nth_past, nth}
 use Rattle.utf8.specs.Utf8.{is_utf8_lem}
 use Rattle.texts.specs.Reading.{until_zero_lem, count_size_lem, text_span_lem, text_in_lem}
@@ -42,6 +48,20 @@ until_within (b ∷ s) = go (eqb b 0) (until_within s) where
   go : (t : Bool) → until_zero_lem s ≤ length s → cond t 0 (suc (until_zero_lem s)) ≤ suc (length s)
   go true h = omega arith
   go false h = omega arith
+
+-- it is where the first zero byte stands, or the length
+until_position : (s : List ℕ) → until_zero_lem s ≡ position_or_len (λ b. eqb b 0) s
+unfolding until_zero_lem
+until_position s = is_position_or_len until_zero_lem (λ b. eqb b 0) refl (λ b s. ways (eqb b 0) (until_zero_lem s)) s where
+  ways : (t : Bool) (n : ℕ) → cond t 0 (suc n) ≡ cond t 0 (1 + n)
+  ways true n = refl
+  ways false n = omega arith
+
+pub until_zero_found : (s : List ℕ) → unwrap_or (position (λ b. eqb b 0) s) (length s) ≡ until_zero_lem s
+until_zero_found s = rw (← (until_position s)) (go (ltb (until_zero_lem s) (length s)) refl) where
+  go : (t : Bool) → ltb (until_zero_lem s) (length s) ≡ t → unwrap_or (cond t (Some (until_zero_lem s)) None) (length s) ≡ until_zero_lem s
+  go true e = refl
+  go false e = let l = ltb-false (until_zero_lem s) (length s) e in let w = until_within s in omega arith
 
 -- a list starts after the head and the count
 list_first : (n : ℕ) (w : Counting) (e : Layout) (s : List ℕ) (p : ℕ) (m : ListAt) → list_of (entry n w e) s p ≡ gives m → m.first ≡ p + n + count_size_lem w
@@ -69,6 +89,15 @@ text_lies (entry n w e) s p q x =
     let v = list_within (entry n w e) s p g.list g.has in
     let u = entries_within (end_of e s) s (end_within e s) g.list.many g.list.first q v.1 g.ends in
     record { low = omega arith; ordered = omega arith; high = omega arith }
+
+pub text_inside : (l : Layout) (s : List ℕ) (p q : ℕ) (t : Span) → entries_end (end_of l s) 1 p ≡ gives q → t ≡ text_span_lem l s (span p q) → Within t.start t.end s
+text_inside l s p q t e x =
+    let has = sym (one_entry (end_of l s) p) ∙ e in
+    let w = end_within l s p q has in
+    let a = text_lies l s p q has in
+    let o = a.ordered in
+    let h = a.high in
+    rw x (o, omega arith)
 
 -- A loop over n entries that start at `at`, which finds out whether their texts are valid: those from i on, the next of
 -- which starts at p, say what all do.

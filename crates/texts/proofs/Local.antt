@@ -12,7 +12,8 @@ use lib.Seq.{take_all}
 use Rattle.numbers.specs.Numbers.{gives}
 use Rattle.numbers.proofs.Answers.{given, follows, mapped_given}
 use Rattle.layouts.specs.Layouts.{to_end, Layout, bytes, entry, c1_of, to_end_of}
-use Rattle.layouts.specs.Reading.{ListAt, count_at_lem, end_of}
+use Rattle.layouts.specs.declared.ListAt.{ListAt}
+use Rattle.layouts.specs.Reading.{count_at_lem, end_of}
 use Rattle.layouts.specs.Access.{part_of, Spans, spans_from}
 use Rattle.layouts.proofs.Within.{behind_head, ends_in, end_within}
 use Rattle.layouts.proofs.Table.{all_counted}

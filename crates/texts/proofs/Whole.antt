@@ -9,14 +9,16 @@ use Rattle.numbers.specs.Numbers.{Answer, gives, refuses, and_then, mapped}
 use Rattle.numbers.proofs.Firm.{never}
 use Rattle.numbers.proofs.Answers.{given, gave, mapped_gave, mapped_given, follows, stops, regrouped}
 use Rattle.layouts.specs.Layouts.{c1_of}
-use Rattle.layouts.specs.Reading.{ListAt, entries_end, end_of}
+use Rattle.layouts.specs.declared.ListAt.{ListAt}
+use Rattle.layouts.specs.Reading.{entries_end, end_of}
 use Rattle.layouts.specs.Access.{nth_of, Spans, spans_from}
 use Rattle.layouts.proofs.Within as layouts
 use Rattle.layouts.proofs.Within.{Within, end_within}
 use Rattle.layouts.proofs.Spans.{spans_end, spans_within}
 use Rattle.texts.specs.Texts.{TextKind, radio}
 use Rattle.texts.specs.Reading.{radio_list_lem, radios_in_lem, Laid, laid_of, all_valid_lem, valid_of, whole_of}
-use Rattle.texts.specs.PrivateSteps.{valid_in, nth_at, Outline, outline_of}
+use Rattle.texts.specs.declared.reading.Outline.{Outline}
+use Rattle.texts.specs.PrivateSteps.{valid_in, nth_at, outline_of}
 use Rattle.texts.proofs.Laws.{nth_held}
 
 -- the outline of a value: where its pieces end, its list, and where its radios end

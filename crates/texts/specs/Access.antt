@@ -2,8 +2,9 @@
 -- whole value has to read first: 16, 3, 18, and then 6.
 use Rattle.std.specs.Prelude.{List, [], ◌∷◌, ℕ}
 use Rattle.numbers.specs.Numbers.{Answer, gives, refuses, and_then, mapped}
-use Rattle.layouts.specs.Reading.{ListAt}
-use Rattle.layouts.specs.Access.{Span, nth_of}
+use Rattle.layouts.specs.declared.ListAt.{ListAt}
+use Rattle.layouts.specs.declared.Span.{Span}
+use Rattle.layouts.specs.Access.{nth_of}
 use Rattle.texts.specs.Texts.{TextKind, inventory_code, text_kind, radio}
 use Rattle.texts.specs.Reading.{text_span_lem, radios_in_lem, Laid, whole_of}
 

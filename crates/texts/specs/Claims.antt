@@ -1,12 +1,14 @@
 -- What is claimed of this crate's calls and definitions; proofs/Claims.antt proves it.
 use Rattle.std.specs.Prelude.{◌≡◌, true, false, List, [], ◌∷◌, ℕ, ◌+◌, ◌<◌, ◌≤◌, length, take}
 use Rattle.std.specs.Borrow.{Bor}
-use Rattle.numbers.specs.Numbers.{Answer, gives, refuses}
+use Rattle.numbers.specs.Numbers.{Answer, gives, refuses, answered}
 use Rattle.numbers.specs.Firmness.{Firm}
 use Rattle.numbers.specs.Parts.{behind}
 use Rattle.layouts.specs.declared.Path.{Path}
-use Rattle.layouts.specs.Reading.{end_of, Consumed, listing_of, ending_of, reading_of}
-use Rattle.layouts.specs.Access.{numbers_of, Span, located_of, part_of, start_in, counted_of}
+use Rattle.layouts.specs.declared.Consumed.{Consumed}
+use Rattle.layouts.specs.Reading.{end_of}
+use Rattle.layouts.specs.declared.Span.{Span}
+use Rattle.layouts.specs.Access.{numbers_of, part_of, start_in}
 use Rattle.layouts.specs.Claims.{Shown}
 use Rattle.utf8.specs.Utf8.{is_utf8_lem}
 use Rattle.texts.specs.Texts.{TextKind, inventory_code, text_kind, radio, is_text_lem}
@@ -17,17 +19,17 @@ use Rattle.texts.specs.Access.{locate_radio, count_radios, radios_of, locate_tex
 -- its place.
 pub record Firmness : Type 0 where
   pub is_text : (code : ℕ) → Firm (λ r. r ≡ is_text_lem code)
-  pub read_value : (code : ℕ) (s : List ℕ) → Firm (λ r. reading_of r ≡ read_text code s)
-  pub locate : (code : ℕ) (path : Path) (s : List ℕ) → Firm (λ r. located_of r ≡ locate_radio code (numbers_of path) s)
+  pub read_value : (code : ℕ) (s : List ℕ) → Firm (λ r. answered r ≡ read_text code s)
+  pub locate : (code : ℕ) (path : Path) (s : List ℕ) → Firm (λ r. answered r ≡ locate_radio code (numbers_of path) s)
   pub entry : (code : ℕ) (path : Path) (s : Bor (List ℕ)) → Firm {A = List ℕ × (ℕ × ℕ)} (λ r.
       (r.0 ≡ part_of (locate_radio code (numbers_of path) s.now) s.now) × (r.1 ≡ behind (start_in (locate_radio code (numbers_of path) s.now)) s))
-  pub count : (code : ℕ) (path : Path) (s : List ℕ) → Firm (λ r. counted_of r ≡ count_radios code (numbers_of path) s)
-  pub radios : (code : ℕ) (s : List ℕ) → Firm (λ r. listing_of r ≡ radios_of code s)
-  pub radio_end : (s : List ℕ) (at : ℕ) → Firm (λ r. ending_of r ≡ end_of radio s at)
-  pub locate_text : (code number : ℕ) (s : List ℕ) → Firm (λ r. located_of r ≡ locate_text_lem code number s)
+  pub count : (code : ℕ) (path : Path) (s : List ℕ) → Firm (λ r. answered r ≡ count_radios code (numbers_of path) s)
+  pub radios : (code : ℕ) (s : List ℕ) → Firm (λ r. answered r ≡ radios_of code s)
+  pub radio_end : (s : List ℕ) (at : ℕ) → Firm (λ r. answered r ≡ end_of radio s at)
+  pub locate_text : (code number : ℕ) (s : List ℕ) → Firm (λ r. answered r ≡ locate_text_lem code number s)
   pub text : (code number : ℕ) (s : Bor (List ℕ)) → Firm {A = List ℕ × (ℕ × ℕ)} (λ r.
       (r.0 ≡ part_of (locate_text_lem code number s.now) s.now) × (r.1 ≡ behind (start_in (locate_text_lem code number s.now)) s))
-  pub locate_radio_text : (number : ℕ) (s : List ℕ) → Firm (λ r. located_of r ≡ locate_radio_text_lem number s)
+  pub locate_radio_text : (number : ℕ) (s : List ℕ) → Firm (λ r. answered r ≡ locate_radio_text_lem number s)
   pub radio_text : (number : ℕ) (s : Bor (List ℕ)) → Firm {A = List ℕ × (ℕ × ℕ)} (λ r.
       (r.0 ≡ part_of (locate_radio_text_lem number s.now) s.now) × (r.1 ≡ behind (start_in (locate_radio_text_lem number s.now)) s))
 

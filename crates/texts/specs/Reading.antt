@@ -3,8 +3,11 @@
 use Rattle.std.specs.Prelude.{Bool, true, false, cond, List, [], ◌∷◌, ℕ, suc, ◌+◌, ◌-◌, eqb, length}
 use Rattle.numbers.specs.Numbers.{Answer, gives, refuses, and_then, mapped}
 use Rattle.layouts.specs.Layouts.{Counting, c1, to_end, Layout, bytes, entry, c1_of}
-use Rattle.layouts.specs.Reading.{ListAt, list_of, entries_end, end_of, Consumed}
-use Rattle.layouts.specs.Access.{Span, part_of, Spans, spans_from}
+use Rattle.layouts.specs.declared.ListAt.{ListAt}
+use Rattle.layouts.specs.declared.Consumed.{Consumed}
+use Rattle.layouts.specs.Reading.{list_of, entries_end, end_of}
+use Rattle.layouts.specs.declared.Span.{Span}
+use Rattle.layouts.specs.Access.{part_of, Spans, spans_from}
 use Rattle.utf8.specs.Utf8.{is_utf8_lem}
 use Rattle.texts.specs.Texts.{TextKind, text_kind, radio}
 

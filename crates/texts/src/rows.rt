@@ -1,9 +1,10 @@
 // The table of the kinds that hold text (rule K2).
 ghost use Rattle.std.specs.Prelude.{◌≡◌};
+ghost use Rattle.numbers.specs.Numbers.{answered, mapped};
 ghost use Rattle.layouts.specs.Layouts.{c1_of};
 ghost use Rattle.layouts.specs.Rows.{row_layout};
 ghost use Rattle.texts.specs.Texts.{text_kind, radio};
-ghost use Rattle.texts.specs.PrivateSteps.{row_told};
+ghost use Rattle.texts.specs.PrivateSteps.{row_kind};
 
 use crate::{CONTROL_URL, DEVICE_IDENTIFICATION_TYPE, DEVICE_INVENTORY};
 use layouts::LayoutRow;
@@ -15,12 +16,6 @@ pub(crate) struct TextRow {
     pub many: usize,
     pub piece: LayoutRow,
     pub radios: bool,
-}
-
-#[derive(Clone, Copy)]
-pub(crate) enum TextKindRow {
-    Text(TextRow),
-    Refused(Refusal),
 }
 
 // A piece of h bytes. At level 1 a list of bytes follows, after its count or to the end.
@@ -58,24 +53,24 @@ pub(crate) fn radio_list() -> LayoutRow
     }
 }
 
-fn text_row(many: usize, piece: LayoutRow, radios: bool) -> TextKindRow
-    ensures { result ≡ TextKindRow.Text (record { many = many; piece = piece; radios = radios }) }
+fn text_row(many: usize, piece: LayoutRow, radios: bool) -> TextRow
+    ensures { result ≡ record { many = many; piece = piece; radios = radios } }
 {
-    TextKindRow::Text(TextRow {
+    TextRow {
         many,
         piece,
         radios,
-    })
+    }
 }
 
 // The row of the kind with this code.
-pub(crate) fn row_of(code: u8) -> TextKindRow
-    ensures { row_told result ≡ text_kind code }
+pub(crate) fn row_of(code: u8) -> Result<TextRow, Refusal>
+    ensures { mapped row_kind (answered result) ≡ text_kind code }
 {
     match code {
-        DEVICE_IDENTIFICATION_TYPE => text_row(3, piece(0, true, 64), false),
-        CONTROL_URL => text_row(1, piece(1, false, 0), false),
-        DEVICE_INVENTORY => text_row(3, piece(1, true, 0), true),
-        _ => TextKindRow::Refused(Refusal::UnknownKind),
+        DEVICE_IDENTIFICATION_TYPE => Ok(text_row(3, piece(0, true, 64), false)),
+        CONTROL_URL => Ok(text_row(1, piece(1, false, 0), false)),
+        DEVICE_INVENTORY => Ok(text_row(3, piece(1, true, 0), true)),
+        _ => Err(Refusal::UnknownKind),
     }
 }

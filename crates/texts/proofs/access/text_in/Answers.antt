@@ -1,34 +1,34 @@
 -- The text with this number of the value that was read.
-use mathlib.Core.Path.{◌≡◌, sym, ap, ◌∙◌}
-use Rattle.numbers.specs.Numbers.{mapped}
-use Rattle.numbers.proofs.Answers.{follows}
+use mathlib.Core.Path.{sym, ap, ◌∙◌}
+use Rattle.numbers.specs.Numbers.{gives}
+use Rattle.numbers.proofs.Answers.{follows, mapped_given, mapped_refused}
 use Rattle.layouts.specs.Rows.{row_layout}
-use Rattle.layouts.specs.Access.{nth_of, located_of}
 use Rattle.layouts.proofs.Within.{end_within}
-use Rattle.texts.specs.Reading.{text_span_lem, whole_of}
+use Rattle.std.proofs.lemmas.Result.{err_from_is_err_and}
+use Rattle.texts.specs.Reading.{text_span_lem}
 use Rattle.texts.specs.PrivateSteps.{row_kind}
-use Rattle.texts.proofs.Whole.{Whole, whole_of_lem, not_read, text_found}
-use Rattle.texts.proofs.Asked.{in_value, text_among}
+use Rattle.texts.proofs.Whole.{whole_of_lem, text_found}
+use Rattle.texts.proofs.Asked.{text_among}
 use Rattle.texts.proofs.access.text_in.Goals as goal
 
-pub text_of-requires : goal.text_of-requires
-text_of-requires c =
-    let whole : Whole (whole_of (row_kind c.args.row) c.args.s.now) (record { list = record { many = c.in-Of.n; first = c.in-Of.first }; end = c.in-Of.end }) =
-    whole_of_lem _ _ (sym (rw c.in-Of.is at c.read_row.ensures)) in
-    let found : located_of c.nth.result ≡ nth_of whole.value.texts.each c.args.number =
-    c.nth.ensures ∙ text_found (row_kind c.args.row) c.args.s.now _ whole c.args.number in
-    let w = whole in
-    rw found
-    (in_value _ c.args.s.now (λ r e. end_within (row_layout c.args.row.piece) c.args.s.now r.start r.end (text_among (row_kind c.args.row) c.args.s.now w.value w.is c.args.number r e).reads))
+pub returns-in_err-piece : goal.returns-in_err-piece
+returns-in_err-piece c =
+    let a = c.args in
+    let w = whole_of_lem _ _ (sym c.in_ok-read_row.ensures) in
+    let none = sym (c.in_err-piece.ensures ∙ text_found (row_kind a.row) a.s.now _ w a.number) in
+    let p = err_from_is_err_and c.from_residual-in_err-piece.result c.from_residual-in_err-piece.ensures.1 in
+    rw (p.1, p.2) (sym (follows _ _ _ w.is ∙ mapped_refused _ _ _ _ none))
 
-pub returns-in-Of : goal.returns-in-Of
-returns-in-Of c =
-    let whole : Whole (whole_of (row_kind c.args.row) c.args.s.now) (record { list = record { many = c.in-Of.n; first = c.in-Of.first }; end = c.in-Of.end }) =
-    whole_of_lem _ _ (sym (rw c.in-Of.is at c.read_row.ensures)) in
-    let found : located_of c.nth.result ≡ nth_of whole.value.texts.each c.args.number =
-    c.nth.ensures ∙ text_found (row_kind c.args.row) c.args.s.now _ whole c.args.number in
-    c.text_of.ensures ∙ ap (mapped (text_span_lem (row_layout c.args.row.piece) c.args.s.now)) found ∙ sym (follows _ _ _ whole.is)
+pub text_span-requires : goal.text_span-requires
+text_span-requires c =
+    let a = c.args in
+    let w = whole_of_lem _ _ (sym c.in_ok-read_row.ensures) in
+    let found = sym (c.in_ok-piece.ensures ∙ text_found (row_kind a.row) a.s.now _ w a.number) in
+    end_within (row_layout a.row.piece) a.s.now _ _ (text_among (row_kind a.row) a.s.now w.value w.is a.number _ found).reads
 
-pub returns-in-Refused : goal.returns-in-Refused
-returns-in-Refused c =
-    not_read (row_kind c.args.row) c.args.s.now (λ v. mapped (text_span_lem (row_layout c.args.row.piece) c.args.s.now) (nth_of v.texts.each c.args.number)) _ _ (sym (rw c.in-Refused.is at c.read_row.ensures))
+pub returns : goal.returns
+returns c =
+    let a = c.args in
+    let w = whole_of_lem _ _ (sym c.in_ok-read_row.ensures) in
+    let found = sym (c.in_ok-piece.ensures ∙ text_found (row_kind a.row) a.s.now _ w a.number) in
+    sym (follows _ _ _ w.is ∙ mapped_given (text_span_lem (row_layout a.row.piece) a.s.now) _ _ found ∙ ap gives (sym c.text_span.ensures))
