@@ -1,6 +1,6 @@
 -- Laws of `empty`, `fixed` and `read_record_lem`: a law for each way that reading can go.
 use mathlib.Core.Path.{◌≡◌, refl, ap}
-use mathlib.Core.Bool.{Bool, true, false}
+use mathlib.Core.Bool.{Bool, true}
 use mathlib.Core.List.{List, []}
 use Prim.Native.Nat.{ℕ, ◌<◌, ◌≤◌}
 use lib.ListN.{length}
@@ -24,10 +24,6 @@ module _ (n : ℕ) (ok : Bool) (r : Record) (s : List ℕ) where
   pub cut : length s < n → refuses 3 [] ≡ fixed n ok r s
   unfolding fixed
   cut h = simp (lt-ltb (length s) n h)
-
-  pub wrong : n ≤ length s → ok ≡ false → refuses 5 [] ≡ fixed n ok r s
-  unfolding fixed
-  wrong h a = simp (le-ltb (length s) n h, a)
 
   pub whole : n ≤ length s → ok ≡ true → gives (record { value = r; consumed = n }) ≡ fixed n ok r s
   unfolding fixed

@@ -7,18 +7,18 @@ use numbers::Refusal;
 
 mod reading;
 
-// A caller that reads client associations and no other kind uses their own reader.
 ghost use Rattle.std.specs.Prelude.{◌≡◌};
 ghost use Rattle.numbers.specs.Numbers.{answered, mapped};
-ghost use Rattle.records.specs.Values.{band_of_lem, version_of_lem, result_of, profile_of_lem, state_of, units_of};
+ghost use Rattle.records.specs.Values.{band_of_lem, band_byte_lem, version_of_lem, version_byte_lem, result_of, result_byte_lem, profile_of_lem, profile_byte_lem, state_of, state_byte_lem, units_of};
 ghost use Rattle.records.specs.Kinds.{record_kinds, code_of, kind_of};
 ghost use Rattle.records.specs.Reading.{read_record_lem, with_code, is_record_lem};
 
+// A caller that reads client associations and no other kind uses their own reader.
 pub use reading::read_client_association;
 
 // An address, its six bytes in their order (rule K3). It is passed to C as it is.
 #[repr(C)]
-#[derive(Clone, Copy)]
+#[derive(Clone, Copy, PartialEq, Eq)]
 pub struct MacAddr {
     pub b0: u8,
     pub b1: u8,
@@ -29,7 +29,7 @@ pub struct MacAddr {
 }
 
 // A band by its name, or reserved with its number (rule K5).
-#[derive(Clone, Copy)]
+#[derive(Clone, Copy, PartialEq, Eq)]
 pub enum SupportedFreqBand {
     Band_802_11_2_4,
     Band_802_11_5,
@@ -37,10 +37,10 @@ pub enum SupportedFreqBand {
     Reserved(u8),
 }
 
-impl SupportedFreqBand {
-    pub(crate) fn from_u8(input: u8) -> Self
-        ensures { result ≡ band_of_lem input }
-    {
+impl From<u8> for SupportedFreqBand {
+    ghost from_gives = { λ input r. r ≡ band_of_lem input };
+
+    fn from(input: u8) -> Self {
         match input {
             0 => Self::Band_802_11_2_4,
             1 => Self::Band_802_11_5,
@@ -50,18 +50,31 @@ impl SupportedFreqBand {
     }
 }
 
+impl From<SupportedFreqBand> for u8 {
+    ghost from_gives = { λ code r. r ≡ band_byte_lem code };
+
+    fn from(code: SupportedFreqBand) -> Self {
+        match code {
+            SupportedFreqBand::Band_802_11_2_4 => 0,
+            SupportedFreqBand::Band_802_11_5 => 1,
+            SupportedFreqBand::Band_802_11_60 => 2,
+            SupportedFreqBand::Reserved(number) => number,
+        }
+    }
+}
+
 // A version by its name, or reserved with its number (rule K5).
-#[derive(Clone, Copy)]
+#[derive(Clone, Copy, PartialEq, Eq)]
 pub enum Ieee1905ProfileVersion {
     Ieee1905_1,
     Ieee1905_1a,
     Reserved(u8),
 }
 
-impl Ieee1905ProfileVersion {
-    pub(crate) fn from_u8(input: u8) -> Self
-        ensures { result ≡ version_of_lem input }
-    {
+impl From<u8> for Ieee1905ProfileVersion {
+    ghost from_gives = { λ input r. r ≡ version_of_lem input };
+
+    fn from(input: u8) -> Self {
         match input {
             0 => Self::Ieee1905_1,
             1 => Self::Ieee1905_1a,
@@ -70,20 +83,43 @@ impl Ieee1905ProfileVersion {
     }
 }
 
+impl From<Ieee1905ProfileVersion> for u8 {
+    ghost from_gives = { λ code r. r ≡ version_byte_lem code };
+
+    fn from(code: Ieee1905ProfileVersion) -> Self {
+        match code {
+            Ieee1905ProfileVersion::Ieee1905_1 => 0,
+            Ieee1905ProfileVersion::Ieee1905_1a => 1,
+            Ieee1905ProfileVersion::Reserved(number) => number,
+        }
+    }
+}
+
 // A result by its name, or reserved with its number (rule K5).
-#[derive(Clone, Copy)]
+#[derive(Clone, Copy, PartialEq, Eq)]
 pub enum LinkMetricResultCode {
     InvalidNeighbor,
     UnknownCode(u8),
 }
 
-impl LinkMetricResultCode {
-    pub(crate) fn from_u8(input: u8) -> Self
-        ensures { result ≡ result_of input }
-    {
+impl From<u8> for LinkMetricResultCode {
+    ghost from_gives = { λ input r. r ≡ result_of input };
+
+    fn from(input: u8) -> Self {
         match input {
             0 => Self::InvalidNeighbor,
             _ => Self::UnknownCode(input),
+        }
+    }
+}
+
+impl From<LinkMetricResultCode> for u8 {
+    ghost from_gives = { λ code r. r ≡ result_byte_lem code };
+
+    fn from(code: LinkMetricResultCode) -> Self {
+        match code {
+            LinkMetricResultCode::InvalidNeighbor => 0,
+            LinkMetricResultCode::UnknownCode(number) => number,
         }
     }
 }
@@ -97,20 +133,33 @@ pub struct LinkMetricQuery {
 }
 
 // Whether the station joined the access point or left it (rule K5).
-#[derive(Clone, Copy)]
+#[derive(Clone, Copy, PartialEq, Eq)]
 pub enum AssociationState {
     LeftBss,
     JoinedBss,
 }
 
 impl AssociationState {
-    // The last byte of a client association that is accepted, 0x80 or 0x00.
+    // The last byte of a client association that is accepted, 0x80 or 0x00. This is no `From`, which would be public:
+    // no other byte is a state.
     pub(crate) fn from_u8(input: u8) -> Self
         ensures { result ≡ state_of input }
     {
-        match input {
-            0x80 => Self::JoinedBss,
-            _ => Self::LeftBss,
+        if input == 0x80 {
+            Self::JoinedBss
+        } else {
+            Self::LeftBss
+        }
+    }
+}
+
+impl From<AssociationState> for u8 {
+    ghost from_gives = { λ state r. r ≡ state_byte_lem state };
+
+    fn from(state: AssociationState) -> Self {
+        match state {
+            AssociationState::LeftBss => 0,
+            AssociationState::JoinedBss => 0x80,
         }
     }
 }
@@ -123,7 +172,7 @@ pub struct ClientAssociation {
 }
 
 // A profile by its name, or reserved with its number (rule K5).
-#[derive(Clone, Copy)]
+#[derive(Clone, Copy, PartialEq, Eq)]
 pub enum MultiApProfile {
     Profile1,
     Profile2,
@@ -131,15 +180,28 @@ pub enum MultiApProfile {
     Reserved(u8),
 }
 
-impl MultiApProfile {
-    pub(crate) fn from_u8(input: u8) -> Self
-        ensures { result ≡ profile_of_lem input }
-    {
+impl From<u8> for MultiApProfile {
+    ghost from_gives = { λ input r. r ≡ profile_of_lem input };
+
+    fn from(input: u8) -> Self {
         match input {
             1 => Self::Profile1,
             2 => Self::Profile2,
             3 => Self::Profile3,
             _ => Self::Reserved(input),
+        }
+    }
+}
+
+impl From<MultiApProfile> for u8 {
+    ghost from_gives = { λ code r. r ≡ profile_byte_lem code };
+
+    fn from(code: MultiApProfile) -> Self {
+        match code {
+            MultiApProfile::Profile1 => 1,
+            MultiApProfile::Profile2 => 2,
+            MultiApProfile::Profile3 => 3,
+            MultiApProfile::Reserved(number) => number,
         }
     }
 }

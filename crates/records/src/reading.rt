@@ -1,4 +1,4 @@
-// Reading: a function for each kind of rule K2, with its size, what it refuses and its fields.
+// Reading each kind of rule K2: its size, what it refuses and its fields.
 ghost use Rattle.std.specs.Prelude.{◌≡◌, ◌≤◌, get_or};
 ghost use Rattle.numbers.specs.Numbers.{answered};
 ghost use Rattle.records.specs.Values.{address_at_lem};
@@ -11,26 +11,38 @@ use crate::{
 };
 use numbers::Refusal;
 
-// Reads a value by its kind (rule K1).
+// Reads a value by its kind (rule K1): the size of the kind's layout, whether its value is accepted, and the record.
 pub(crate) fn read_as(kind: RecordKind, s: &[u8]) -> Result<RecordRead, Refusal>
     ensures { answered result ≡ of_kind_lem kind s.now }
 {
+    let first = byte_at(s, 0);
     match kind {
         RecordKind::EndOfMessage => read_end_of_message(s),
-        RecordKind::AlMacAddress => read_al_mac_address(s),
-        RecordKind::MacAddress => read_mac_address(s),
-        RecordKind::SearchedRole => read_searched_role(s),
-        RecordKind::SupportedRole => read_supported_role(s),
-        RecordKind::SupportedFreqBand => read_supported_freq_band(s),
-        RecordKind::Ieee1905ProfileVersion => read_ieee1905_profile_version(s),
-        RecordKind::LinkMetricResultCode => read_link_metric_result_code(s),
+        RecordKind::AlMacAddress => fixed(6, true, Record::AlMacAddress(address_at(s, 0)), s),
+        RecordKind::MacAddress => fixed(6, true, Record::MacAddress(address_at(s, 0)), s),
+        RecordKind::SearchedRole => fixed(1, first == 0, Record::SearchedRole(first), s),
+        RecordKind::SupportedRole => fixed(1, first == 0, Record::SupportedRole(first), s),
+        RecordKind::SupportedFreqBand => fixed(1, true, Record::SupportedFreqBand(first.into()), s),
+        RecordKind::Ieee1905ProfileVersion => fixed(
+            1,
+            true,
+            Record::Ieee1905ProfileVersion(first.into()),
+            s,
+        ),
+        RecordKind::LinkMetricResultCode => fixed(
+            1,
+            true,
+            Record::LinkMetricResultCode(first.into()),
+            s,
+        ),
         RecordKind::LinkMetricQuery => read_link_metric_query(s),
         RecordKind::ClientAssociation => read_client_association(s),
-        RecordKind::MultiApProfile => read_multi_ap_profile(s),
+        RecordKind::MultiApProfile => fixed(1, 0 < first, Record::MultiApProfile(first.into()), s),
         RecordKind::Profile2ApCapability => read_profile2_ap_capability(s),
     }
 }
 
+#[tactic(auto, unfolding(crate::specs::Reading::empty))]
 fn read_end_of_message(s: &[u8]) -> Result<RecordRead, Refusal>
     ensures { answered result ≡ of_kind_lem RecordKind.EndOfMessage s.now }
 {
@@ -41,53 +53,6 @@ fn read_end_of_message(s: &[u8]) -> Result<RecordRead, Refusal>
         value: Record::EndOfMessage,
         consumed: 0,
     })
-}
-
-fn read_al_mac_address(s: &[u8]) -> Result<RecordRead, Refusal>
-    ensures { answered result ≡ of_kind_lem RecordKind.AlMacAddress s.now }
-{
-    fixed(6, true, Record::AlMacAddress(address_at(s, 0)), s)
-}
-
-fn read_mac_address(s: &[u8]) -> Result<RecordRead, Refusal>
-    ensures { answered result ≡ of_kind_lem RecordKind.MacAddress s.now }
-{
-    fixed(6, true, Record::MacAddress(address_at(s, 0)), s)
-}
-
-fn read_searched_role(s: &[u8]) -> Result<RecordRead, Refusal>
-    ensures { answered result ≡ of_kind_lem RecordKind.SearchedRole s.now }
-{
-    let role = byte_at(s, 0);
-    fixed(1, role == 0, Record::SearchedRole(role), s)
-}
-
-fn read_supported_role(s: &[u8]) -> Result<RecordRead, Refusal>
-    ensures { answered result ≡ of_kind_lem RecordKind.SupportedRole s.now }
-{
-    let role = byte_at(s, 0);
-    fixed(1, role == 0, Record::SupportedRole(role), s)
-}
-
-fn read_supported_freq_band(s: &[u8]) -> Result<RecordRead, Refusal>
-    ensures { answered result ≡ of_kind_lem RecordKind.SupportedFreqBand s.now }
-{
-    let band = SupportedFreqBand::from_u8(byte_at(s, 0));
-    fixed(1, true, Record::SupportedFreqBand(band), s)
-}
-
-fn read_ieee1905_profile_version(s: &[u8]) -> Result<RecordRead, Refusal>
-    ensures { answered result ≡ of_kind_lem RecordKind.Ieee1905ProfileVersion s.now }
-{
-    let version = Ieee1905ProfileVersion::from_u8(byte_at(s, 0));
-    fixed(1, true, Record::Ieee1905ProfileVersion(version), s)
-}
-
-fn read_link_metric_result_code(s: &[u8]) -> Result<RecordRead, Refusal>
-    ensures { answered result ≡ of_kind_lem RecordKind.LinkMetricResultCode s.now }
-{
-    let result = LinkMetricResultCode::from_u8(byte_at(s, 0));
-    fixed(1, true, Record::LinkMetricResultCode(result), s)
 }
 
 // Only a query about one neighbour, whose first byte is 1, has an address (rule K2).
@@ -128,14 +93,6 @@ pub fn read_client_association(s: &[u8]) -> Result<RecordRead, Refusal>
     )
 }
 
-fn read_multi_ap_profile(s: &[u8]) -> Result<RecordRead, Refusal>
-    ensures { answered result ≡ of_kind_lem RecordKind.MultiApProfile s.now }
-{
-    let first = byte_at(s, 0);
-    let profile = MultiApProfile::from_u8(first);
-    fixed(1, 0 < first, Record::MultiApProfile(profile), s)
-}
-
 // Byte 2 holds the units, three flags and three reserved bits (rule K6). The reserved bits are kept.
 fn read_profile2_ap_capability(s: &[u8]) -> Result<RecordRead, Refusal>
     ensures { answered result ≡ of_kind_lem RecordKind.Profile2ApCapability s.now }
@@ -156,6 +113,7 @@ fn read_profile2_ap_capability(s: &[u8]) -> Result<RecordRead, Refusal>
 
 // A layout of `size` bytes, and the record in them. A value that ends inside the layout is refused, and then one that
 // its kind's check refuses (rule K7). Bytes after the layout are the rest (rule K1).
+#[tactic(auto, unfolding(crate::specs::Reading::fixed))]
 fn fixed(size: usize, accepted: bool, item: Record, s: &[u8]) -> Result<RecordRead, Refusal>
     ensures { answered result ≡ fixed size accepted item s.now }
 {
@@ -190,5 +148,5 @@ fn address_at(s: &[u8], p: usize) -> MacAddr
 fn byte_at(s: &[u8], i: usize) -> u8
     ensures { result ≡ get_or s.now i 0 }
 {
-    if i < s.len() { s[i] } else { 0 }
+    s.get(i).copied().unwrap_or(0)
 }
