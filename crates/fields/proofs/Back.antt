@@ -13,7 +13,8 @@ use Rattle.numbers.proofs.Firm.{never}
 use Rattle.numbers.proofs.Answers.{given, gave, follows, mapped_given}
 use Rattle.layouts.specs.Layouts.{size_of}
 use Rattle.layouts.proofs.Within.{reaches}
-use Rattle.fields.specs.Fields.{fields_at, TextPlace, text_at, WithText, nothing_there, entry_at, Fielded, row_for, fields_for, entry_for}
+use Rattle.fields.specs.declared.parts.TextPlace.{TextPlace}
+use Rattle.fields.specs.Fields.{fields_at, text_at, WithText, nothing_there, entry_at, Fielded, row_for, fields_for, entry_for}
 use Rattle.fields.specs.Answers.{crossing, zero_filled}
 use Rattle.fields.specs.Writing.{only_zeros_lem, text_bytes, longest_text_lem, entry_of, entry_in}
 use Rattle.fields.proofs.Laws.{tested, every, each, text_there}

@@ -12,15 +12,18 @@ use Rattle.numbers.proofs.Firm.{never}
 use Rattle.numbers.proofs.Bytes.{both_true}
 use Rattle.numbers.proofs.Answers.{given, gave, mapped_gave}
 use Rattle.layouts.specs.Layouts.{c1, to_end, Layout, bytes, entry, size_of, layout_of}
-use Rattle.layouts.specs.Reading.{head_of, count_at_lem, end_of, Consumed, read_as_lem, read_value_lem}
-use Rattle.layouts.specs.Access.{child_at, below, Spot, find_entry_lem, Span, span_of, locate_entry}
+use Rattle.layouts.specs.declared.Consumed.{Consumed}
+use Rattle.layouts.specs.Reading.{head_of, count_at_lem, end_of, read_as_lem, read_value_lem}
+use Rattle.layouts.specs.declared.Span.{Span}
+use Rattle.layouts.specs.Access.{child_at, below, Spot, find_entry_lem, span_of, locate_entry}
 use Rattle.layouts.proofs.Within.{reached, behind_head, ends_in, end_within}
 use Rattle.layouts.proofs.Spans.{plain_start}
 use Rattle.layouts.proofs.Values.{asked, ended}
 use Rattle.texts.specs.Texts.{inventory_code}
 use Rattle.texts.specs.Access.{radio_in_lem, locate_radio}
 use Rattle.texts.proofs.Asked as texts
-use Rattle.fields.specs.Fields.{fields_at, TextPlace, text_at, nothing_there, entry_at, Fielded, row_for, fields_for, entry_for}
+use Rattle.fields.specs.declared.parts.TextPlace.{TextPlace}
+use Rattle.fields.specs.Fields.{fields_at, text_at, nothing_there, entry_at, Fielded, row_for, fields_for, entry_for}
 use Rattle.fields.proofs.Laws.{text_there, tested, every, each}
 
 -- the layout so many levels down

@@ -1,15 +1,15 @@
 -- Laws of entries that are put into lent room: what is made, and what the room holds afterwards.
+use Rattle.std.specs.Prelude.{Option, Some}
 use mathlib.Core.Path.{◌≡◌, refl, sym, ap, ◌∙◌}
 use mathlib.Core.Bool.{Bool, true, false, cond, ◌&&◌}
 use mathlib.Core.List.{List, [], ◌∷◌, ◌++◌, append_assoc}
-use Prim.Native.Nat.{ℕ, suc, ◌+◌, ◌-◌, ◌<◌, ◌≤◌}
+use Prim.Native.Nat.{ℕ, ◌+◌, ◌-◌, ◌<◌, ◌≤◌}
 use native.Mathlib.Omega.{arith}
-use native.Mathlib.Numerals.{add-one}
-use borrow.Author.Tests.{eq-eqb, ne_eqb, lt-ltb, le-ltb, leb-true}
+use borrow.Author.Tests.{lt-ltb, le-ltb, leb-true}
 use borrow.Rule.Slice.PartMut.{mid_of, put_mid}
-use lib.Dec.{eqb, leb, T}
-use lib.ListN.{length, take, drop, get_or, length-append, drop_of_length-le}
-use lib.Seq.{take-length, take-append_seam, drop-append_seam, drop-drop, drop-cons}
+use lib.Dec.{leb}
+use lib.ListN.{length, take, drop, length-append}
+use lib.Seq.{take-length, take-append_seam, drop-append_seam, drop-drop}
 use Rattle.numbers.specs.Numbers.{Answer, gives, refuses, and_then}
 use Rattle.framing.specs.Tlv.{leaves}
 use Rattle.framing.proofs.Writing.{tail_put}
@@ -17,7 +17,7 @@ use Rattle.layouts.specs.Layouts.{size_of}
 use Rattle.fields.specs.Fields.{Fielded, row_for}
 use Rattle.fields.specs.Writing.{only_zeros_lem, text_bytes, longest_text_lem, entry_of, entry_in, count_made, put_size, made_bytes}
 use Rattle.fields.specs.PrivateSteps.{size_in_lem, made_with}
-use Rattle.fields.proofs.Laws.{every, some, positive, by_code}
+use Rattle.fields.proofs.Laws.{by_row}
 
 -- what a writing call answers and leaves
 abbrev pub Puts : Answer (List ℕ) → List ℕ → Answer ℕ → List ℕ → Type 0
@@ -57,16 +57,6 @@ both_put own v out between ys e e' =
     tail_put (length own) between v ys e' ∙ (λ i. start i ++ (v ++ rest i)) ∙
     ap (λ n. own ++ (v ++ drop n out)) (sym (length-append own v)) ∙ sym (append_assoc own v (drop (length (own ++ v)) out))
 
--- the test for zeros, byte by byte
-pub zeros_end : (s : List ℕ) (i : ℕ) → length s ≤ i → true ≡ only_zeros_lem (drop i s)
-zeros_end s i h = rw (drop_of_length-le s {i = i} h)
-
-pub zeros_next : (s : List ℕ) (i : ℕ) → i < length s → get_or s i 0 ≡ 0 → only_zeros_lem (drop (i + 1) s) ≡ only_zeros_lem (drop i s)
-zeros_next s i h z = ap (λ n. only_zeros_lem (drop n s)) (add-one i) ∙ sym (ap only_zeros_lem (drop-cons s i 0 h) ∙ rw z)
-
-pub zeros_not : (s : List ℕ) (i : ℕ) → i < length s → (get_or s i 0 ≡ 0 → ⊥) → false ≡ only_zeros_lem (drop i s)
-zeros_not s i h z = sym (ap only_zeros_lem (drop-cons s i 0 h) ∙ ap (λ b. b && only_zeros_lem (drop (suc i) s)) (ne_eqb (get_or s i 0) 0 z))
-
 and_right : (a b : Bool) → (a && b) ≡ true → b ≡ true
 and_right true b e = e
 and_right false b e = absurd (never_true e) where
@@ -81,25 +71,19 @@ module _ (text : Bool) (n : ℕ) (bytes t : List ℕ) where
   abbrev readable : Bool
   readable = only_zeros_lem (drop n bytes) && leb (length t) (longest_text_lem text)
 
-  pub made_nowhere : n ≡ 0 → refuses 16 [] ≡ made_with text n bytes t
-  unfolding made_with
-  made_nowhere e = rw (eq-eqb n 0 e)
-
-  pub made_never : (n ≡ 0 → ⊥) → readable ≡ false → refuses 9 [] ≡ made_with text n bytes t
+  pub made_never : readable ≡ false → refuses 9 [] ≡ made_with text (Some n) bytes t
   unfolding made_with entry_of
-  made_never h e = rw (ne_eqb n 0 h, e)
+  made_never e = rw e
 
-  pub made : (n ≡ 0 → ⊥) → readable ≡ true → gives (take n bytes ++ text_bytes text t) ≡ made_with text n bytes t
+  pub made : readable ≡ true → gives (take n bytes ++ text_bytes text t) ≡ made_with text (Some n) bytes t
   unfolding made_with entry_of
-  made h e = rw (ne_eqb n 0 h, e)
+  made e = rw e
 
 -- the same by the code of a kind
-pub in_code : (text : Bool) (fs : List Fielded) → T (every some fs) → (code n : ℕ) (bytes t : List ℕ) → n ≡ size_in_lem (row_for fs code) → made_with text n bytes t ≡ entry_in text fs code bytes t
+pub in_code : (text : Bool) (fs : List Fielded) (code : ℕ) (n : Option ℕ) (bytes t : List ℕ) → n ≡ size_in_lem (row_for fs code) → made_with text n bytes t ≡ entry_in text fs code bytes t
 unfolding made_with entry_in
-in_code text fs h code n bytes t sized =
-    rw sized
-    (by_code some code (λ x. cond (eqb (size_in_lem x) 0) (refuses 16 []) (entry_of text (size_in_lem x) bytes t) ≡ and_then x (λ g. entry_of text (size_of g.sizes) bytes t))
-    refl (λ g same holds. rw (ne_eqb (size_of g.sizes) 0 (omega (arith, positive g holds)))) fs h)
+in_code text fs code n bytes t sized =
+    rw sized (by_row (λ x. made_with text (size_in_lem x) bytes t ≡ and_then x (λ g. entry_of text (size_of g.sizes) bytes t)) refl (λ g. refl) fs code)
 
 pub counted : (n : ℕ) → leb n 255 ≡ true → gives (n ∷ []) ≡ count_made n
 unfolding count_made

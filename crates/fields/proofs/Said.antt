@@ -11,7 +11,8 @@ use lib.Seq.{length-take-le, drop-drop}
 use Rattle.numbers.specs.Numbers.{Answer, gives, refuses, mapped, and_then}
 use Rattle.records.specs.Values.{octets, address_at_lem}
 use Rattle.layouts.specs.Layouts.{size_of}
-use Rattle.fields.specs.Fields.{fields_at, TextPlace, text_at, WithText, nothing_there, entry_at, Fielded, row_for, fields_for, entry_for}
+use Rattle.fields.specs.declared.parts.TextPlace.{TextPlace}
+use Rattle.fields.specs.Fields.{fields_at, text_at, WithText, nothing_there, entry_at, Fielded, row_for, fields_for, entry_for}
 use Rattle.fields.specs.Answers.{crossing, zero_filled}
 use Rattle.fields.proofs.Laws.{by_bytes, tested, every, each}
 use Rattle.fields.proofs.Order.{padded_add, padded_own}

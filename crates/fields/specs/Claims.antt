@@ -8,8 +8,10 @@ use Rattle.framing.specs.Tlv.{leaves}
 use Rattle.records.specs.declared.MacAddr.{MacAddr}
 use Rattle.records.specs.Values.{octets, address_at_lem}
 use Rattle.layouts.specs.Layouts.{size_of, place}
-use Rattle.layouts.specs.Reading.{Consumed, read_value_lem}
-use Rattle.layouts.specs.Access.{Span, locate_entry}
+use Rattle.layouts.specs.declared.Consumed.{Consumed}
+use Rattle.layouts.specs.Reading.{read_value_lem}
+use Rattle.layouts.specs.declared.Span.{Span}
+use Rattle.layouts.specs.Access.{locate_entry}
 use Rattle.texts.specs.Texts.{inventory_code}
 use Rattle.texts.specs.Access.{locate_radio}
 use Rattle.fields.specs.declared.AshlarNeighbour.{AshlarNeighbour}

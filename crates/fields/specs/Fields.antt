@@ -4,15 +4,11 @@ use Rattle.numbers.specs.Numbers.{Answer, gives, refuses, and_then, mapped}
 use Rattle.layouts.specs.Layouts.{size_of, service_fields, local_fields, other_neighbour_fields, neighbour_fields, link_fields, interface_fields, ipv4_fields, ipv6_interface_fields, ipv6_fields, radio_fields, bss_fields, reported_bss_fields, name_fields}
 use Rattle.layouts.specs.Reading.{reaching}
 use Rattle.texts.specs.Texts.{inventory_code}
+use Rattle.fields.specs.declared.parts.TextPlace.{TextPlace}
 
 -- Rule E11: the bytes of fields of these sizes, the first of which starts at p. A value that ends before they do: 3.
 unfoldable pub fields_at : List ℕ → List ℕ → ℕ → Answer (List ℕ)
 fields_at ws s p = reaching (p + size_of ws) s (take (size_of ws) (drop p s))
-
--- where a text lies in the value
-pub record TextPlace : Type 0 where
-  pub start : ℕ
-  pub length : ℕ
 
 -- Rule K8: a name or a text that follows fields. The byte at p says how many bytes it has. A value that ends before
 -- they do: 3.

@@ -1,5 +1,6 @@
 -- The own fields of an entry, written (rule O5): what stands in the room afterwards, or why nothing is written.
 use Rattle.std.specs.Prelude.{Bool, true, false, cond, ◌&&◌, List, [], ◌∷◌, ◌++◌, ℕ, eqb, leb, ltb, length, take, drop}
+use Rattle.std.specs.List.{list_all}
 use Rattle.numbers.specs.Numbers.{Answer, gives, refuses, and_then}
 use Rattle.records.specs.declared.MacAddr.{MacAddr}
 use Rattle.records.specs.Values.{octets}
@@ -41,8 +42,7 @@ abbrev pub bss_bytes : AshlarBss → List ℕ
 bss_bytes r = octets r.bssid ++ r.flags ∷ r.reserved ∷ []
 
 abbrev pub only_zeros_lem : List ℕ → Bool
-only_zeros_lem [] = true
-only_zeros_lem (b ∷ p) = eqb b 0 && only_zeros_lem p
+only_zeros_lem p = list_all (λ b. eqb b 0) p
 
 -- Rule K8: what follows the fields: a text after its length, or nothing.
 abbrev pub text_bytes : Bool → List ℕ → List ℕ

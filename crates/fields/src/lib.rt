@@ -12,7 +12,7 @@ mod putting;
 mod sizes;
 mod writing;
 
-use parts::{byte_at, four_at, outline_at, part_at, refusal_at, sixteen_at};
+use parts::{NO_BYTES, NO_ENTRY, byte_at, bytes_at, crossed, entry_at, own_at};
 use records::MacAddr;
 
 // A pair of a link metric is written by the crate `links`.
@@ -110,10 +110,7 @@ pub struct AshlarBss {
 pub fn there(size: usize, s: &[u8], at: usize) -> bool
     ensures { result ≡ leb (at + size) (length s.now) }
 {
-    if s.len() < at {
-        return false;
-    }
-    size <= s.len() - at
+    at <= s.len() && size <= s.len() - at
 }
 
 // The address in the six bytes from `at` on. Bytes past the end are taken for 0.
@@ -134,9 +131,7 @@ pub fn address_at(s: &[u8], at: usize) -> MacAddr
 pub fn front(code: u8, s: &[u8]) -> AshlarFront
     ensures { result ≡ front_of_lem code s.now }
 {
-    let size = sizes::front_size(code);
-    let refusal = refusal_at(size, s, 0);
-    let own = part_at(size, s, 0);
+    let (refusal, own) = crossed(own_at(sizes::front_size(code), s, 0), NO_BYTES);
     AshlarFront {
         local: address_at(own, 0),
         neighbour: address_at(own, 6),
@@ -148,9 +143,7 @@ pub fn front(code: u8, s: &[u8]) -> AshlarFront
 pub fn neighbour(code: u8, s: &[u8], at: usize) -> AshlarNeighbour
     ensures { result ≡ neighbour_at code s.now at }
 {
-    let size = sizes::neighbour_size(code);
-    let refusal = refusal_at(size, s, at);
-    let own = part_at(size, s, at);
+    let (refusal, own) = crossed(own_at(sizes::neighbour_size(code), s, at), NO_BYTES);
     AshlarNeighbour {
         address: address_at(own, 0),
         flags: byte_at(own, 6, 0),
@@ -162,12 +155,10 @@ pub fn neighbour(code: u8, s: &[u8], at: usize) -> AshlarNeighbour
 pub fn interface(code: u8, s: &[u8], at: usize) -> AshlarInterface
     ensures { result ≡ interface_at code s.now at }
 {
-    let size = sizes::interface_size(code);
-    let refusal = refusal_at(size, s, at);
-    let own = part_at(size, s, at);
+    let (refusal, own) = crossed(own_at(sizes::interface_size(code), s, at), NO_BYTES);
     AshlarInterface {
         address: address_at(own, 0),
-        link_local: sixteen_at(own, 6),
+        link_local: bytes_at(own, 6),
         refusal,
     }
 }
@@ -176,11 +167,10 @@ pub fn interface(code: u8, s: &[u8], at: usize) -> AshlarInterface
 pub fn ipv4(s: &[u8], at: usize) -> AshlarIpv4
     ensures { result ≡ ipv4_at s.now at }
 {
-    let refusal = refusal_at(9, s, at);
-    let own = part_at(9, s, at);
+    let (refusal, own) = crossed(own_at(Some(9), s, at), NO_BYTES);
     AshlarIpv4 {
-        address: four_at(own, 1),
-        dhcp_server: four_at(own, 5),
+        address: bytes_at::<4>(own, 1),
+        dhcp_server: bytes_at::<4>(own, 5),
         type_: byte_at(own, 0, 0),
         refusal,
     }
@@ -190,11 +180,10 @@ pub fn ipv4(s: &[u8], at: usize) -> AshlarIpv4
 pub fn ipv6(s: &[u8], at: usize) -> AshlarIpv6
     ensures { result ≡ ipv6_at s.now at }
 {
-    let refusal = refusal_at(33, s, at);
-    let own = part_at(33, s, at);
+    let (refusal, own) = crossed(own_at(Some(33), s, at), NO_BYTES);
     AshlarIpv6 {
-        address: sixteen_at(own, 1),
-        origin: sixteen_at(own, 17),
+        address: bytes_at::<16>(own, 1),
+        origin: bytes_at::<16>(own, 17),
         type_: byte_at(own, 0, 0),
         refusal,
     }
@@ -204,9 +193,7 @@ pub fn ipv6(s: &[u8], at: usize) -> AshlarIpv6
 pub fn byte(code: u8, s: &[u8], at: usize) -> AshlarByte
     ensures { result ≡ byte_at code s.now at }
 {
-    let size = sizes::single_size(code);
-    let refusal = refusal_at(size, s, at);
-    let own = part_at(size, s, at);
+    let (refusal, own) = crossed(own_at(sizes::single_size(code), s, at), NO_BYTES);
     AshlarByte {
         byte: byte_at(own, 0, 0),
         refusal,
@@ -217,18 +204,14 @@ pub fn byte(code: u8, s: &[u8], at: usize) -> AshlarByte
 pub fn radio(code: u8, s: &[u8], at: usize) -> AshlarRadio
     ensures { result ≡ radio_at code s.now at }
 {
-    let entry = outline_at(
-        code == texts::DEVICE_INVENTORY,
-        sizes::radio_size(code),
-        s,
-        at,
-    );
-    let own = part_at(entry.own, s, at);
+    let has_text = code == texts::DEVICE_INVENTORY;
+    let found = entry_at(has_text, sizes::radio_size(code), s, at);
+    let (refusal, entry) = crossed(found, NO_ENTRY);
     AshlarRadio {
-        text_start: entry.start,
-        text_length: entry.length,
-        id: address_at(own, 0),
-        refusal: entry.refusal,
+        text_start: entry.text.start,
+        text_length: entry.text.length,
+        id: address_at(entry.own, 0),
+        refusal,
     }
 }
 
@@ -236,14 +219,14 @@ pub fn radio(code: u8, s: &[u8], at: usize) -> AshlarRadio
 pub fn bss(code: u8, s: &[u8], at: usize) -> AshlarBss
     ensures { result ≡ bss_at code s.now at }
 {
-    let entry = outline_at(true, sizes::bss_size(code), s, at);
-    let own = part_at(entry.own, s, at);
+    let found = entry_at(true, sizes::bss_size(code), s, at);
+    let (refusal, entry) = crossed(found, NO_ENTRY);
     AshlarBss {
-        name_start: entry.start,
-        name_length: entry.length,
-        bssid: address_at(own, 0),
-        flags: byte_at(own, 6, 0),
-        reserved: byte_at(own, 7, 0),
-        refusal: entry.refusal,
+        name_start: entry.text.start,
+        name_length: entry.text.length,
+        bssid: address_at(entry.own, 0),
+        flags: byte_at(entry.own, 6, 0),
+        reserved: byte_at(entry.own, 7, 0),
+        refusal,
     }
 }

@@ -1,92 +1,94 @@
-// The part of a value that fields stand in, and the text after them. A part that isn't there is empty.
+// The part of a value that fields stand in, and the text after them.
 ghost use Rattle.std.specs.Prelude.{◌≡◌, ◌+◌, get_or, drop};
-ghost use Rattle.fields.specs.Answers.{zero_filled};
+ghost use Rattle.numbers.specs.Numbers.{answered};
+ghost use Rattle.fields.specs.Answers.{crossing, zero_filled};
 ghost use Rattle.fields.specs.Fields.{text_at};
-ghost use Rattle.fields.specs.PrivateSteps.{part_with, refusal_with, outline, outline_with};
+ghost use Rattle.fields.specs.PrivateSteps.{part_told, own_at_lem, entry_told, entry_with};
 
 use crate::there;
-use numbers::wide;
+use numbers::{Refusal, number_of, wide};
 
-// What stands somewhere: how many bytes its own fields have, and where the text after them lies; or why it isn't there,
-// and no bytes.
+// Where a text lies in the value.
 #[derive(Clone, Copy)]
-pub(crate) struct Outline {
-    pub own: usize,
+pub(crate) struct TextPlace {
     pub start: usize,
     pub length: usize,
-    pub refusal: u8,
 }
 
-// The `size` bytes at `at`.
-pub(crate) fn part_at(size: usize, s: &[u8], at: usize) -> &[u8]
-    ensures { result.now ≡ part_with size s.now at }
+// An entry: its own fields, and the text that follows them. One that has none is empty and lies at 0.
+#[derive(Clone, Copy)]
+pub(crate) struct Entry<'a> {
+    pub own: &'a [u8],
+    pub text: TextPlace,
+}
+
+const NO_TEXT: TextPlace = TextPlace {
+    start: 0,
+    length: 0,
+};
+
+// What stands where a call refuses: nothing, so that every field is 0.
+pub(crate) const NO_BYTES: &[u8] = &[];
+
+pub(crate) const NO_ENTRY: Entry<'static> = Entry {
+    own: NO_BYTES,
+    text: NO_TEXT,
+};
+
+// The own fields of the entry at `at` (rule E11): 16 where the kind has no such entries, 3 where the value ends before
+// they do.
+pub(crate) fn own_at(size: Option<usize>, s: &[u8], at: usize) -> Result<&[u8], Refusal>
+    ensures { part_told result ≡ own_at_lem size s.now at }
 {
-    if there(size, s, at) {
-        return &s[at..at + size];
+    let size = size.ok_or(Refusal::UnknownKind)?;
+    if !there(size, s, at) {
+        return Err(Refusal::CutShort);
     }
-    &s[0..0]
+    Ok(&s[at..at + size])
 }
 
-// Why they aren't there (rule E11): 16 for fields without a size, 3 where the value ends before them. 0 if they are.
-pub(crate) fn refusal_at(size: usize, s: &[u8], at: usize) -> u8
-    ensures { result ≡ refusal_with size s.now at }
-{
-    if size == 0 {
-        return 16;
-    }
-    if there(size, s, at) {
-        return 0;
-    }
-    3
-}
-
-// An entry that is not there.
-fn refused(refusal: u8) -> Outline
-    ensures { result ≡ record { own = 0; start = 0; length = 0; refusal = refusal } }
-{
-    Outline {
-        own: 0,
-        start: 0,
-        length: 0,
-        refusal,
-    }
-}
-
-// An entry of `own` bytes with the text at `at`, after the byte that says its length.
-fn with_text(own: usize, s: &[u8], at: usize) -> Outline
-    ensures { result ≡ outline own (text_at s.now at) }
+// The text at `at`, after the byte that says its length.
+#[tactic(auto, using(crate::proofs::Laws::no_length, crate::proofs::Laws::text_cut, crate::proofs::Laws::text_there))]
+fn find_text(s: &[u8], at: usize) -> Result<TextPlace, Refusal>
+    ensures { answered result ≡ text_at s.now at }
 {
     if s.len() <= at {
-        return refused(3);
+        return Err(Refusal::CutShort);
     }
     let length = wide(s[at]);
-    if there(length, s, at + 1) {
-        return Outline {
-            own,
-            start: at + 1,
-            length,
-            refusal: 0,
-        };
+    if !there(length, s, at + 1) {
+        return Err(Refusal::CutShort);
     }
-    refused(3)
+    Ok(TextPlace {
+        start: at + 1,
+        length,
+    })
 }
 
 // The entry at `at` whose own fields have `size` bytes, and then a text if it has one.
-pub(crate) fn outline_at(has_text: bool, size: usize, s: &[u8], at: usize) -> Outline
-    ensures { result ≡ outline_with has_text size s.now at }
+pub(crate) fn entry_at(
+    has_text: bool,
+    size: Option<usize>,
+    s: &[u8],
+    at: usize,
+) -> Result<Entry<'_>, Refusal>
+    ensures { entry_told result ≡ entry_with has_text size s.now at }
 {
-    let refusal = refusal_at(size, s, at);
-    if refusal != 0 {
-        return refused(refusal);
+    let own = own_at(size, s, at)?;
+    if !has_text {
+        return Ok(Entry { own, text: NO_TEXT });
     }
-    if has_text {
-        return with_text(size, s, at + size);
-    }
-    Outline {
-        own: size,
-        start: 0,
-        length: 0,
-        refusal: 0,
+    let text = find_text(s, at + own.len())?;
+    Ok(Entry { own, text })
+}
+
+// What crosses to C (rule C1): what was found and 0, or `none` and the number of the refusal.
+pub(crate) fn crossed<T: Copy>(found: Result<T, Refusal>, none: T) -> (u8, T)
+    ensures { result ≡ crossing (λ n a. (n, a)) none (answered found) }
+{
+    match found {
+        Ok(value) => (0, value),
+        Err(refusal) => (number_of(refusal), none),
     }
 }
 
@@ -94,45 +96,19 @@ pub(crate) fn outline_at(has_text: bool, size: usize, s: &[u8], at: usize) -> Ou
 pub(crate) fn byte_at(s: &[u8], at: usize, k: usize) -> u8
     ensures { result ≡ get_or s.now (at + k) 0 }
 {
-    if at < s.len() {
-        if k < s.len() - at {
-            return s[at + k];
-        }
+    if at < s.len() && k < s.len() - at {
+        return s[at + k];
     }
     0
 }
 
-// The 4 bytes, and the 16 bytes, from `at` on.
-pub(crate) fn four_at(s: &[u8], at: usize) -> [u8; 4]
-    ensures { result ≡ zero_filled 4 (drop at s.now) }
+// The N bytes from `at` on.
+pub(crate) fn bytes_at<const N: usize>(s: &[u8], at: usize) -> [u8; N]
+    ensures { result ≡ zero_filled N (drop at s.now) }
 {
-    [
-        byte_at(s, at, 0),
-        byte_at(s, at, 1),
-        byte_at(s, at, 2),
-        byte_at(s, at, 3),
-    ]
-}
-
-pub(crate) fn sixteen_at(s: &[u8], at: usize) -> [u8; 16]
-    ensures { result ≡ zero_filled 16 (drop at s.now) }
-{
-    [
-        byte_at(s, at, 0),
-        byte_at(s, at, 1),
-        byte_at(s, at, 2),
-        byte_at(s, at, 3),
-        byte_at(s, at, 4),
-        byte_at(s, at, 5),
-        byte_at(s, at, 6),
-        byte_at(s, at, 7),
-        byte_at(s, at, 8),
-        byte_at(s, at, 9),
-        byte_at(s, at, 10),
-        byte_at(s, at, 11),
-        byte_at(s, at, 12),
-        byte_at(s, at, 13),
-        byte_at(s, at, 14),
-        byte_at(s, at, 15),
-    ]
+    let mut bytes = [0; N];
+    for k in 0..N {
+        bytes[k] = byte_at(s, at, k);
+    }
+    bytes
 }

@@ -7,10 +7,10 @@ ghost use Rattle.fields.specs.PrivateSteps.{made_with};
 
 use numbers::Refusal;
 
-// How many bytes the own fields of an entry have, 0 where a kind has no such entry, and whether a text follows them.
+// How many bytes the own fields of an entry have, none where a kind has no such entry, and whether a text follows them.
 #[derive(Clone, Copy)]
 pub(crate) struct Shape {
-    pub size: usize,
+    pub size: Option<usize>,
     pub has_text: bool,
 }
 
@@ -42,10 +42,7 @@ fn put_both(own: &[u8], text: &[u8], out: &mut [u8]) -> Result<usize, Refusal>
     ensures answer { answered result ≡ put_size (gives (own.now ++ text_bytes true text.now)) (length out.old) }
     ensures bytes { out.new ≡ leaves (put_size (gives (own.now ++ text_bytes true text.now)) (length out.old)) (own.now ++ text_bytes true text.now) out.old }
 {
-    if out.len() < own.len() {
-        return Err(Refusal::NoRoom);
-    }
-    if out.len() - own.len() < 1 + text.len() {
+    if out.len() < own.len() || out.len() - own.len() < 1 + text.len() {
         return Err(Refusal::NoRoom);
     }
     out[..own.len()].copy_from_slice(own);
@@ -57,44 +54,28 @@ fn put_both(own: &[u8], text: &[u8], out: &mut [u8]) -> Result<usize, Refusal>
 fn only_zeros(own: &[u8], from: usize) -> bool
     ensures { result ≡ only_zeros_lem (drop from own.now) }
 {
-    let mut i = from;
-    while i < own.len() {
-        if own[i] != 0 {
-            return false;
-        }
-        i += 1;
-    }
-    true
+    own.iter().skip(from).all(|byte| *byte == 0)
 }
 
 // The longest text that can follow the fields.
 fn longest_text(has_text: bool) -> usize
     ensures { result ≡ longest_text_lem has_text }
 {
-    if has_text {
-        return 255;
-    }
-    0
+    if has_text { 255 } else { 0 }
 }
 
 // Whether reading can give these fields and this text: fields that the kind lacks are 0, and the text is not too long.
-fn can_be_read(shape: Shape, own: &[u8], text: &[u8]) -> bool
-    ensures { result ≡ (only_zeros_lem (drop shape.size own.now) && leb (length text.now) (longest_text_lem shape.has_text)) }
+fn can_be_read(size: usize, has_text: bool, own: &[u8], text: &[u8]) -> bool
+    ensures { result ≡ (only_zeros_lem (drop size own.now) && leb (length text.now) (longest_text_lem has_text)) }
 {
-    if only_zeros(own, shape.size) {
-        return text.len() <= longest_text(shape.has_text);
-    }
-    false
+    only_zeros(own, size) && text.len() <= longest_text(has_text)
 }
 
 // The first `size` bytes, or all of them if there are fewer.
 fn first(size: usize, own: &[u8]) -> &[u8]
     ensures { result.now ≡ take size own.now }
 {
-    if size < own.len() {
-        return &own[0..size];
-    }
-    own
+    &own[..size.min(own.len())]
 }
 
 // Puts an entry of this shape at the start of `out`.
@@ -107,21 +88,22 @@ pub(crate) fn put_entry(
     ensures answer { answered result ≡ put_size (made_with shape.has_text shape.size own.now text.now) (length out.old) }
     ensures bytes { out.new ≡ leaves (put_size (made_with shape.has_text shape.size own.now text.now) (length out.old)) (made_bytes (made_with shape.has_text shape.size own.now text.now)) out.old }
 {
-    if shape.size == 0 {
+    let Some(size) = shape.size else {
         return Err(Refusal::UnknownKind);
+    };
+    if !can_be_read(size, shape.has_text, own, text) {
+        return Err(Refusal::NeverRead);
     }
-    if can_be_read(shape, own, text) {
-        let part = first(shape.size, own);
-        if shape.has_text {
-            return put_both(part, text, out);
-        }
-        return put_bytes(part, out);
+    let part = first(size, own);
+    if shape.has_text {
+        put_both(part, text, out)
+    } else {
+        put_bytes(part, out)
     }
-    Err(Refusal::NeverRead)
 }
 
 // Puts an entry of `size` bytes without a text.
-pub(crate) fn put_own(size: usize, own: &[u8], out: &mut [u8]) -> Result<usize, Refusal>
+pub(crate) fn put_own(size: Option<usize>, own: &[u8], out: &mut [u8]) -> Result<usize, Refusal>
     ensures answer { answered result ≡ put_size (made_with false size own.now []) (length out.old) }
     ensures bytes { out.new ≡ leaves (put_size (made_with false size own.now []) (length out.old)) (made_bytes (made_with false size own.now [])) out.old }
 {
@@ -129,5 +111,5 @@ pub(crate) fn put_own(size: usize, own: &[u8], out: &mut [u8]) -> Result<usize, 
         size,
         has_text: false,
     };
-    put_entry(shape, own, &own[0..0], out)
+    put_entry(shape, own, &[], out)
 }

@@ -1,69 +1,62 @@
-// How many bytes the fields of an entry have, by the code of its kind (rule K8). 0 for a kind without such entries.
+// How many bytes the fields of an entry have, by the code of its kind (rule K8). None for a kind without such entries.
 ghost use Rattle.std.specs.Prelude.{◌≡◌};
 ghost use Rattle.fields.specs.Fields.{front_rows, neighbour_rows, interface_rows, byte_rows, radio_rows, bss_rows, row_for};
 ghost use Rattle.fields.specs.PrivateSteps.{size_in_lem};
 
-pub(crate) fn front_size(code: u8) -> usize
+pub(crate) fn front_size(code: u8) -> Option<usize>
     ensures { result ≡ size_in_lem (row_for front_rows code) }
 {
     match code {
-        6 => 6,
-        7 => 6,
-        9 => 12,
-        10 => 12,
-        _ => 0,
+        6 | 7 => Some(6),
+        9 | 10 => Some(12),
+        _ => None,
     }
 }
 
-pub(crate) fn neighbour_size(code: u8) -> usize
+pub(crate) fn neighbour_size(code: u8) -> Option<usize>
     ensures { result ≡ size_in_lem (row_for neighbour_rows code) }
 {
     match code {
-        6 => 6,
-        7 => 7,
-        _ => 0,
+        6 => Some(6),
+        7 => Some(7),
+        _ => None,
     }
 }
 
-pub(crate) fn interface_size(code: u8) -> usize
+pub(crate) fn interface_size(code: u8) -> Option<usize>
     ensures { result ≡ size_in_lem (row_for interface_rows code) }
 {
     match code {
-        4 => 6,
-        23 => 6,
-        24 => 22,
-        _ => 0,
+        4 | 23 => Some(6),
+        24 => Some(22),
+        _ => None,
     }
 }
 
-pub(crate) fn single_size(code: u8) -> usize
+pub(crate) fn single_size(code: u8) -> Option<usize>
     ensures { result ≡ size_in_lem (row_for byte_rows code) }
 {
     match code {
-        0x80 => 1,
-        0x83 => 1,
-        0xB7 => 1,
-        _ => 0,
+        0x80 | 0x83 | 0xB7 => Some(1),
+        _ => None,
     }
 }
 
-pub(crate) fn radio_size(code: u8) -> usize
+pub(crate) fn radio_size(code: u8) -> Option<usize>
     ensures { result ≡ size_in_lem (row_for radio_rows code) }
 {
     match code {
-        0x83 => 6,
-        0xB7 => 6,
-        0xD4 => 6,
-        _ => 0,
+        0x83 | 0xB7 | 0xD4 => Some(6),
+        _ => None,
     }
 }
 
-pub(crate) fn bss_size(code: u8) -> usize
+pub(crate) fn bss_size(code: u8) -> Option<usize>
     ensures { result ≡ size_in_lem (row_for bss_rows code) }
 {
     match code {
-        0x83 => 6,
-        0xB7 => 8,
-        _ => 0,
+        0x83 => Some(6),
+        0xB7 => Some(8),
+        _ => None,
     }
 }

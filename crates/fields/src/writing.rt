@@ -17,11 +17,10 @@ pub fn put_count(n: usize, out: &mut [u8]) -> Result<usize, Refusal>
     ensures answer { answered result ≡ put_size (count_made n) (length out.old) }
     ensures bytes { out.new ≡ leaves (put_size (count_made n) (length out.old)) (made_bytes (count_made n)) out.old }
 {
-    if n <= 255 {
-        let count = [n as u8];
-        return put_bytes(&count, out);
+    if 255 < n {
+        return Err(Refusal::NeverRead);
     }
-    Err(Refusal::NeverRead)
+    put_bytes(&[n as u8], out)
 }
 
 // Writes what stands before the list of a value: of kind 6 or 7 `local` alone, and `neighbour` has to be 0.
@@ -83,7 +82,7 @@ pub fn put_ipv4(ipv4: AshlarIpv4, out: &mut [u8]) -> Result<usize, Refusal>
     let a = ipv4.address;
     let d = ipv4.dhcp_server;
     let own = [ipv4.type_, a[0], a[1], a[2], a[3], d[0], d[1], d[2], d[3]];
-    put_own(9, &own, out)
+    put_own(Some(9), &own, out)
 }
 
 // Writes an IPv6 address of an interface.
@@ -98,7 +97,7 @@ pub fn put_ipv6(ipv6: AshlarIpv6, out: &mut [u8]) -> Result<usize, Refusal>
         a[12], a[13], a[14], a[15], o[0], o[1], o[2], o[3], o[4], o[5], o[6], o[7], o[8], o[9],
         o[10], o[11], o[12], o[13], o[14], o[15],
     ];
-    put_own(33, &own, out)
+    put_own(Some(33), &own, out)
 }
 
 // Writes an entry of one byte.

@@ -8,4 +8,4 @@ use Rattle.fields.proofs.writing.put_bss.Goals as goal
 pub returns : goal.returns
 returns c =
     let a = c.args in
-    let whole = puts_as _ _ a.out.now _ _ (in_code (true) bss_rows tt a.code c.bss_size.result (bss_bytes a.bss) a.name.now c.bss_size.ensures) (c.put_entry.ensures.answer, c.put_entry.ensures.bytes) in record { answer = whole.0; bytes = whole.1 }
+    let whole = puts_as _ _ a.out.now _ _ (in_code (true) bss_rows a.code c.bss_size.result (bss_bytes a.bss) a.name.now c.bss_size.ensures) (c.put_entry.ensures.answer, c.put_entry.ensures.bytes) in record { answer = whole.0; bytes = whole.1 }

@@ -17,5 +17,5 @@ returns c =
     let long : length a.interface.link_local ≡ 16 = search rules in
     let own = ap (λ t. octets a.interface.address ++ t) (all_listed 16 a.interface.link_local long) in
     let whole = puts_as _ _ a.out.now _ _
-    (ap (λ t. made_with false c.interface_size.result t []) own ∙ in_code false interface_rows tt a.code c.interface_size.result (octets a.interface.address ++ a.interface.link_local) [] c.interface_size.ensures)
+    (ap (λ t. made_with false c.interface_size.result t []) own ∙ in_code false interface_rows a.code c.interface_size.result (octets a.interface.address ++ a.interface.link_local) [] c.interface_size.ensures)
     (c.put_own.ensures.answer, c.put_own.ensures.bytes) in record { answer = whole.0; bytes = whole.1 }

@@ -9,4 +9,4 @@ use Rattle.fields.proofs.writing.put_radio.Goals as goal
 pub returns : goal.returns
 returns c =
     let a = c.args in
-    let whole = puts_as _ _ a.out.now _ _ (in_code (eqb a.code inventory_code) radio_rows tt a.code c.radio_size.result (octets a.id) a.text.now c.radio_size.ensures) (c.put_entry.ensures.answer, c.put_entry.ensures.bytes) in record { answer = whole.0; bytes = whole.1 }
+    let whole = puts_as _ _ a.out.now _ _ (in_code (eqb a.code inventory_code) radio_rows a.code c.radio_size.result (octets a.id) a.text.now c.radio_size.ensures) (c.put_entry.ensures.answer, c.put_entry.ensures.bytes) in record { answer = whole.0; bytes = whole.1 }
