@@ -1,17 +1,17 @@
 -- The claims of specs/Claims.antt, proved.
 use lib.ListN.{length}
 use Rattle.numbers.specs.Numbers.{mapped}
-use Rattle.numbers.proofs.Firm.{by_equation, by_telling, both}
-use Rattle.cutting.specs.Cuts.{checked_of, check_of}
-use Rattle.cutting.specs.Greedy.{cut_into, cutting_of, with_ends}
+use Rattle.numbers.proofs.Firm.{by_equation, both}
+use Rattle.cutting.specs.Cuts.{check_of}
+use Rattle.cutting.specs.Greedy.{cut_into, with_ends}
 use Rattle.cutting.specs.Claims.{Firmness, Claims}
 use Rattle.cutting.proofs.Exactly.{always_passes, none_exactly, fewest_of_all, none_cut}
-use Rattle.cutting.proofs.Firm.{cutting_one, checked_one}
+use Rattle.cutting.proofs.Firm.{by_cutting}
 
 firmness : Firmness
 firmness = record {
-  check = λ message fragments payloads. by_telling checked_of checked_one (check_of message fragments payloads);
-  cut = λ message list. both _ _ (by_telling cutting_of cutting_one (mapped length (cut_into message (length list)))) (by_equation (with_ends (cut_into message (length list)) list));
+  check = λ message fragments payloads. by_cutting (check_of message fragments payloads);
+  cut = λ message list. both _ _ (by_cutting (mapped length (cut_into message (length list)))) (by_equation (with_ends (cut_into message (length list)) list));
 }
 
 pub claims : Claims

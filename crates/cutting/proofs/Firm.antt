@@ -1,39 +1,24 @@
 -- How firm each answer is (rule A4): no two are said alike.
-use mathlib.Core.Path.{◌≡◌, refl, sym, ap}
-use mathlib.Core.Bool.{true≢false, false≢true}
-use Rattle.numbers.proofs.Answers.{given}
+use Rattle.std.specs.Prelude.{Result, Ok, Err}
+use mathlib.Core.Path.{◌≡◌, sym, ap, ◌∙◌}
+use Rattle.numbers.specs.Numbers.{Answer}
+use Rattle.numbers.specs.Firmness.{Firm}
 use Rattle.numbers.proofs.Firm.{firm, never}
 use Rattle.walking.proofs.Firm.{with_offset, offset_apart}
-use Rattle.cutting.specs.Cuts.{checked_of}
-use Rattle.cutting.specs.Greedy.{cutting_of}
-use Rattle.cutting.specs.declared.Checked.{Checked}
-use Rattle.cutting.specs.declared.Cutting.{Cutting}
+use Rattle.cutting.specs.Cuts.{cutting_answered}
+use Rattle.cutting.specs.declared.CuttingError.{CuttingError}
 
-pub cutting_one : (a b : Cutting) → cutting_of a ≡ cutting_of b → a ≡ b
-cutting_one (Cutting.Into n) (Cutting.Into m) e = ap Cutting.Into (given _ _ e)
-cutting_one (Cutting.Into n) (Cutting.Unwalked r at) e = never _ _ _ e
-cutting_one (Cutting.Into n) (Cutting.Refused r) e = never _ _ _ e
-cutting_one (Cutting.Unwalked r at) (Cutting.Into n) e = never _ _ _ (sym e)
-cutting_one (Cutting.Unwalked r at) (Cutting.Unwalked r' at') e = let o = with_offset r r' at at' e in rw (o.0, o.1)
-cutting_one (Cutting.Unwalked r at) (Cutting.Refused r') e = offset_apart r r' at e
-cutting_one (Cutting.Refused r) (Cutting.Into n) e = never _ _ _ (sym e)
-cutting_one (Cutting.Refused r) (Cutting.Unwalked r' at) e = offset_apart r' r at (sym e)
-cutting_one (Cutting.Refused r) (Cutting.Refused r') e = ap Cutting.Refused (firm _ r r' e)
+answered_one : {A : Type 0} (a b : Result A CuttingError) → cutting_answered a ≡ cutting_answered b → a ≡ b
+answered_one (Ok a) (Ok b) e = ap Ok (cc)
+answered_one (Ok a) (Err (CuttingError.Unwalked u)) e = never _ _ _ e
+answered_one (Ok a) (Err (CuttingError.Refused r)) e = never _ _ _ e
+answered_one (Err (CuttingError.Unwalked u)) (Ok b) e = never _ _ _ (sym e)
+answered_one (Err (CuttingError.Refused r)) (Ok b) e = never _ _ _ (sym e)
+answered_one {A = A} (Err (CuttingError.Unwalked u)) (Err (CuttingError.Unwalked v)) e = let o = with_offset {A = A} u.refusal v.refusal u.at v.at e in ap (λ x. Err (CuttingError.Unwalked x)) (rw (o.0, o.1))
+answered_one {A = A} (Err (CuttingError.Unwalked u)) (Err (CuttingError.Refused r)) e = offset_apart {A = A} u.refusal r u.at e
+answered_one {A = A} (Err (CuttingError.Refused r)) (Err (CuttingError.Unwalked u)) e = offset_apart {A = A} u.refusal r u.at (sym e)
+answered_one {A = A} (Err (CuttingError.Refused r)) (Err (CuttingError.Refused r')) e = ap (λ x. Err (CuttingError.Refused x)) (firm A r r' e)
 
-pub checked_one : (a b : Checked) → checked_of a ≡ checked_of b → a ≡ b
-checked_one Checked.Accepted Checked.Accepted e = refl
-checked_one Checked.Accepted Checked.NotAccepted e = absurd (true≢false (given _ _ e))
-checked_one Checked.Accepted (Checked.Unwalked r at) e = never _ _ _ e
-checked_one Checked.Accepted (Checked.Refused r) e = never _ _ _ e
-checked_one Checked.NotAccepted Checked.Accepted e = absurd (false≢true (given _ _ e))
-checked_one Checked.NotAccepted Checked.NotAccepted e = refl
-checked_one Checked.NotAccepted (Checked.Unwalked r at) e = never _ _ _ e
-checked_one Checked.NotAccepted (Checked.Refused r) e = never _ _ _ e
-checked_one (Checked.Unwalked r at) Checked.Accepted e = never _ _ _ (sym e)
-checked_one (Checked.Unwalked r at) Checked.NotAccepted e = never _ _ _ (sym e)
-checked_one (Checked.Unwalked r at) (Checked.Unwalked r' at') e = let o = with_offset r r' at at' e in rw (o.0, o.1)
-checked_one (Checked.Unwalked r at) (Checked.Refused r') e = offset_apart r r' at e
-checked_one (Checked.Refused r) Checked.Accepted e = never _ _ _ (sym e)
-checked_one (Checked.Refused r) Checked.NotAccepted e = never _ _ _ (sym e)
-checked_one (Checked.Refused r) (Checked.Unwalked r' at) e = offset_apart r' r at (sym e)
-checked_one (Checked.Refused r) (Checked.Refused r') e = ap Checked.Refused (firm _ r r' e)
+-- a result that is said by what it answers
+pub by_cutting : {A : Type 0} (defined : Answer A) → Firm (λ r. cutting_answered r ≡ defined)
+by_cutting defined a b p q = answered_one a b (p ∙ sym q)

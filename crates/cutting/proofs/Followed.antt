@@ -13,7 +13,6 @@ use Rattle.numbers.proofs.Bytes.{are_same}
 use Rattle.cutting.specs.Cuts.{longest_payload, payload_in, is_tlvs_lem, is_empty_one, is_alike_lem, is_fragment, each_from, is_cutting_lem}
 use Rattle.cutting.specs.PrivateFollowing.{goes_on_lem, first_by_lem, is_headed_lem, is_carried_lem, before, after_good, after_bad, taken_by, follows_from}
 use Rattle.cutting.specs.declared.Proposed.{Proposed}
-use Rattle.cutting.specs.declared.following.Own.{Own}
 use Rattle.cutting.specs.declared.following.Reached.{Reached}
 use Rattle.cutting.proofs.Asked.{as_asked}
 use Rattle.cutting.proofs.Same.{part_by_part, at_end_lem, there}
@@ -118,9 +117,9 @@ module _ (m ps : List ℕ) where
       goes_on s f s.first e g h fs (λ k. follows fs (after_good s f) refl (λ z. omega (arith, z)) k.at_most ∙ ap (λ (q : Proposed). each_from (is_fragment m ps s.count q) (f.number + 1) fs && is_same_lem (flatten (map (payload_in ps) fs)) (drop (s.at + f.length) m)) g)
 
   -- all of them
-  module _ (own : Own) (f : Proposed) (fs : List Proposed) where
+  module _ (f : Proposed) (fs : List Proposed) where
     abbrev start : Reached
-    start = before own (length (f ∷ fs))
+    start = before (length (f ∷ fs))
 
     from_first : start.sound ≡ true → follows_from m ps start (f ∷ fs) ≡ (each_from (is_fragment m ps (length (f ∷ fs)) f) 0 (f ∷ fs) && is_same_lem (flatten (map (payload_in ps) (f ∷ fs))) m)
     from_first e = goes_on start f f e refl (omega arith) fs (λ k. follows fs (after_good start f) refl (λ z. omega (arith, z)) k.at_most)
@@ -130,7 +129,7 @@ module _ (m ps : List ℕ) where
     cut_so true e = from_first e ∙ rw e
     cut_so false e = unsound start (f ∷ fs) e ∙ rw e
 
-  pub all_follow : (own : Own) (fs : List Proposed) → follows_from m ps (before own (length fs)) fs ≡ is_cutting_lem m ps fs
+  pub all_follow : (fs : List Proposed) → follows_from m ps (before (length fs)) fs ≡ is_cutting_lem m ps fs
   unfolding follows_from is_cutting_lem
-  all_follow own [] = refl
-  all_follow own (f ∷ fs) = cut_so own f fs _ refl
+  all_follow [] = refl
+  all_follow (f ∷ fs) = cut_so f fs _ refl

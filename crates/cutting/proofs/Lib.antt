@@ -14,4 +14,3 @@ pub mod Planning
 pub mod Runs
 pub mod Same
 pub mod Whole
-pub mod Written

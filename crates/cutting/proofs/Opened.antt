@@ -1,10 +1,14 @@
 -- Laws of the open fragment: what one more TLV makes of it, and what is answered in the end.
-use mathlib.Core.Path.{◌≡◌}
-use mathlib.Core.Bool.{true, false}
+use mathlib.Core.Path.{◌≡◌, refl}
+use mathlib.Core.Bool.{Bool, true, false, cond}
 use mathlib.Core.List.{[]}
 use Prim.Native.Nat.{ℕ, ◌+◌, ◌-◌, ◌≤◌, ◌<◌}
-use borrow.Author.Tests.{eq-eqb, ne_eqb, le-leb, lt-leb, lt-ltb, le-ltb}
+use native.Mathlib.Omega.{arith}
+use lib.Dec.{eqb, ltb}
+use borrow.Author.Tests.{ltb-false, eq-eqb, ne_eqb, le-leb, lt-leb, lt-ltb, le-ltb}
 use Rattle.numbers.specs.Numbers.{gives, refuses}
+use Rattle.numbers.proofs.Answers.{given}
+use Rattle.numbers.proofs.Firm.{never}
 use Rattle.cutting.specs.Cuts.{longest_payload}
 use Rattle.cutting.specs.PrivateFilling.{unfit, with_tlv_lem, answer_for_lem}
 use Rattle.cutting.specs.declared.filling.Open.{Open}
@@ -42,3 +46,14 @@ module _ (o : Open) (padding room : ℕ) where
   pub enough : padding ≡ 0 → o.fits ≡ true → o.before + 1 ≤ room → gives (o.before + 1) ≡ answer_for_lem o padding room
   unfolding answer_for_lem
   enough h e l = rw (eq-eqb padding 0 h, e, le-ltb room (o.before + 1) l)
+
+  -- a place for each fragment, and one for the open one
+  pub room_for_each : (n : ℕ) → gives n ≡ answer_for_lem o padding room → (n ≡ o.before + 1) × (n ≤ room)
+  unfolding answer_for_lem
+  room_for_each n = by_tests (eqb padding 0) o.fits (ltb room (o.before + 1)) refl
+    where
+      by_tests : (a b c : Bool) → ltb room (o.before + 1) ≡ c → gives n ≡ cond a (cond b (cond c (refuses 7 []) (gives (o.before + 1))) (refuses 21 [])) (refuses 4 []) → (n ≡ o.before + 1) × (n ≤ room)
+      by_tests false b c r e = never _ _ _ e
+      by_tests true false c r e = never _ _ _ e
+      by_tests true true true r e = never _ _ _ e
+      by_tests true true false r e = let i = given _ _ e in (i, omega (arith, i, ltb-false room (o.before + 1) r))

@@ -1,15 +1,15 @@
 -- What the cutter's loop keeps, and how a turn goes on or ends: from `at` on the walk has the rest of the TLVs, and
 -- those before it are in fragments.
-use mathlib.Core.Path.{◌≡◌, refl, ap, ◌∙◌, subst}
+use mathlib.Core.Path.{◌≡◌, refl, sym, ap, ◌∙◌, subst}
 use mathlib.Core.Bool.{Bool, true, false, cond}
 use mathlib.Core.List.{List, [], ◌∷◌, map}
-use Prim.Native.Nat.{ℕ, ◌+◌, ◌-◌, ◌≤◌}
+use Prim.Native.Nat.{ℕ, ◌+◌, ◌-◌}
 use native.Mathlib.Omega.{arith}
 use lib.Dec.{eqb, ltb}
 use lib.ListN.{length, take, drop, set, replicate, length-drop}
 use lib.Seq.{length-take-le}
 use borrow.Author.Tests.{eqb-true, eqb-false, ne_eqb, ltb-true, ltb-false}
-use Rattle.numbers.specs.Numbers.{Answer, gives, refuses, and_then}
+use Rattle.numbers.specs.Numbers.{Answer, gives, refuses, and_then, mapped}
 use Rattle.walking.specs.declared.Tlv.{Tlv}
 use Rattle.walking.specs.Steps.{ended, passed, last}
 use Rattle.walking.specs.Walk.{step_at, walk_of}
@@ -17,9 +17,9 @@ use Rattle.walking.specs.Pieces.{tlv_in}
 use Rattle.walking.proofs.Chained.{Has, of_walk}
 use Rattle.walking.proofs.Going.{at_end_lem, onward, final, stopped, turned}
 use Rattle.walking.proofs.Stepping.{Passes, passes, lasts}
-use Rattle.cutting.specs.Cuts.{tlvs_of, most_fragments}
+use Rattle.cutting.specs.Cuts.{tlvs_of}
 use Rattle.cutting.specs.Greedy.{ends_over, ends_of_lem, cut_into}
-use Rattle.cutting.specs.PrivateFilling.{with_tlv_lem, answer_for_lem, places_filled_lem, Plans}
+use Rattle.cutting.specs.PrivateFilling.{with_tlv_lem, answer_for_lem}
 use Rattle.cutting.specs.declared.filling.Open.{Open}
 use Rattle.cutting.proofs.Filled.{Filled, goes_on as one_more, all_in}
 use Rattle.cutting.proofs.Opened.{padded, no_fragment_lem, no_place, enough}
@@ -54,18 +54,11 @@ module _ (m : List ℕ) where
   unfolding tlvs_of ends_of_lem cut_into
   whole room e a is = rw (e, lengths (of_walk m), is)
 
-  refused : (room n : ℕ) (vs found : List ℕ) → length found ≡ most_fragments → cut_into m room ≡ refuses n vs → Plans m room 0 found (refuses n vs)
-  refused room n vs found h e = record { answered = rw e; holds = λ list. rw e; few = omega arith; long = h; room_for_lem = omega arith }
-
-  -- there is a place for each end
-  placed : (room : ℕ) (o : Open) (found : List ℕ) → o.before + 1 ≤ room → length (take (o.before + 1) found) ≡ o.before + 1 → o.before ≤ 8 → length found ≡ most_fragments
-      → cut_into m room ≡ gives (take (o.before + 1) found) → Plans m room (o.before + 1) found (gives (o.before + 1))
-  placed room o found l n b h e = record { answered = rw (e, n); holds = λ list. rw (e, n); few = omega arith; long = h; room_for_lem = l }
-
   -- all TLVs are in, and the walk ended with this padding
   module _ (at : ℕ) (o : Open) (found : List ℕ) (f : Filled all at o found []) (padding : ℕ) (e : (walk_of m).end ≡ gives padding) (room : ℕ) where
+    -- what is planned, by what is answered
     abbrev Closed : Answer ℕ → Type 0
-    Closed a = Plans m room (places_filled_lem a) found a
+    Closed a = mapped (λ (count : ℕ). take count found) a ≡ cut_into m room
 
     n : length (take (o.before + 1) found) ≡ o.before + 1
     n = length-take-le (o.before + 1) found (omega (arith, f.small, f.long))
@@ -78,15 +71,14 @@ module _ (m : List ℕ) where
     closes = by_tests (eqb padding 0) o.fits (ltb room (o.before + 1)) refl refl refl
       where
         by_tests : (a b c : Bool) → eqb padding 0 ≡ a → o.fits ≡ b → ltb room (o.before + 1) ≡ c → Closed (answer_for_lem o padding room)
-        by_tests false b c p q r = let h = eqb-false padding 0 p in subst Closed (padded o padding room h) (refused room 4 [] found f.long (left_over room padding e h))
-        by_tests true false c p q r = let z = eqb-true padding 0 p in subst Closed (no_fragment_lem o padding room z q) (refused room 21 [] found f.long (unpadded z false q))
+        by_tests false b c p q r = let h = eqb-false padding 0 p in subst Closed (padded o padding room h) (sym (left_over room padding e h))
+        by_tests true false c p q r = let z = eqb-true padding 0 p in subst Closed (no_fragment_lem o padding room z q) (sym (unpadded z false q))
         by_tests true true true p q r =
             let z = eqb-true padding 0 p in
-            subst Closed (no_place o padding room z q (ltb-true room (o.before + 1) r)) (refused room 7 [] found f.long (unpadded z true q ∙ rw (n, r)))
+            subst Closed (no_place o padding room z q (ltb-true room (o.before + 1) r)) (sym (unpadded z true q ∙ rw (n, r)))
         by_tests true true false p q r =
             let z = eqb-true padding 0 p in
-            let l = ltb-false room (o.before + 1) r in
-            subst Closed (enough o padding room z q l) (placed room o found l n f.small f.long (unpadded z true q ∙ rw (n, r)))
+            subst Closed (enough o padding room z q (ltb-false room (o.before + 1) r)) (sym (unpadded z true q ∙ rw (n, r)))
 
   pub record Planning (at : ℕ) (o : Open) (found : List ℕ) : Type 0 where
     pub rest : List Tlv
@@ -109,20 +101,20 @@ module _ (m : List ℕ) where
         let u = turned (step_at m) (length m) w.goes (gives (passed t next)) e in
         rw said (record { rest = u.0; goes = u.1.1; filled = filled_on t next u.0 (passes m at t next e) u.1.0 })
 
-    pub ends : (room : ℕ) → gives ended ≡ step_at m at → (a : Answer ℕ) → a ≡ answer_for_lem o 0 room → (count : ℕ) → count ≡ places_filled_lem a → Plans m room count found a
-    ends room e a said count is =
+    pub ends : (room : ℕ) → gives ended ≡ step_at m at → (a : Answer ℕ) → a ≡ answer_for_lem o 0 room → mapped (λ (count : ℕ). take count found) a ≡ cut_into m room
+    ends room e a said =
         let u = turned (step_at m) (length m) w.goes (gives ended) e in
-        rw (is, said) (closes at o found (rw u.0 at w.filled) 0 u.1 room)
+        rw said (closes at o found (rw u.0 at w.filled) 0 u.1 room)
 
     -- the marker is the last
     module _ (t : Tlv) (to : ℕ) (e : gives (last t to) ≡ step_at m at) (p : Open) (said : p ≡ with_tlv_lem o (to - at)) where
       pub last_in : Filled all to p (set found p.before to) []
       last_in = rw said (filled_on t to [] (lasts m at t to e) (turned (step_at m) (length m) w.goes (gives (last t to)) e).0)
 
-      pub ends_at : (room : ℕ) (a : Answer ℕ) → a ≡ answer_for_lem p (length m - to) room → (count : ℕ) → count ≡ places_filled_lem a → Plans m room count (set found p.before to) a
-      ends_at room a tells count is =
+      pub ends_at : (room : ℕ) (a : Answer ℕ) → a ≡ answer_for_lem p (length m - to) room → mapped (λ (count : ℕ). take count (set found p.before to)) a ≡ cut_into m room
+      ends_at room a tells =
           let u = turned (step_at m) (length m) w.goes (gives (last t to)) e in
-          rw (is, tells) (closes to p (set found p.before to) last_in (length m - to) u.1 room)
+          rw tells (closes to p (set found p.before to) last_in (length m - to) u.1 room)
 
-    pub stops_at : (room n : ℕ) (vs : List ℕ) → refuses n vs ≡ step_at m at → Plans m room 0 found (refuses n vs)
-    stops_at room n vs e = refused room n vs found w.filled.long (unwalked room n vs (turned (step_at m) (length m) w.goes (refuses n vs) e).1)
+    pub stops_at : (room n : ℕ) (vs : List ℕ) → refuses n vs ≡ step_at m at → refuses n vs ≡ cut_into m room
+    stops_at room n vs e = sym (unwalked room n vs (turned (step_at m) (length m) w.goes (refuses n vs) e).1)

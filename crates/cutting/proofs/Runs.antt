@@ -9,7 +9,8 @@ use lib.ListN.{length, take, drop, get_or, length-append}
 use lib.Seq.{take-append_seam, drop-append_seam, drop-length}
 use Rattle.numbers.specs.Numbers.{gives}
 use Rattle.numbers.proofs.Answers.{given}
-use Rattle.framing.specs.Tlv.{TlvRead, read_tlv_lem}
+use Rattle.framing.specs.declared.TlvRead.{TlvRead}
+use Rattle.framing.specs.Tlv.{read_tlv_lem}
 use Rattle.framing.proofs.Reading.{reads}
 use Rattle.framing.proofs.Shortfall.{longer}
 use Rattle.walking.specs.declared.Tlv.{Tlv}

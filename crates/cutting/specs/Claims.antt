@@ -1,21 +1,21 @@
 -- What is claimed of this crate's calls; proofs/Claims.antt proves it.
-use Rattle.std.specs.Prelude.{◌≡◌, true, ℕ, ◌+◌, ◌-◌, ◌≤◌, eqb, length}
+use Rattle.std.specs.Prelude.{◌≡◌, true, ℕ, ◌+◌, ◌-◌, ◌≤◌, eqb, length, Result}
 use mathlib.Core.List.{List, [], ◌∷◌, map, flatten}
 use Rattle.numbers.specs.Numbers.{gives, refuses, mapped}
 use Rattle.numbers.specs.Firmness.{Firm}
 use Rattle.walking.specs.Pieces.{pieces}
-use Rattle.cutting.specs.Cuts.{tlvs_of, payload_in, checked_of, check_of}
-use Rattle.cutting.specs.Greedy.{cut_into, cutting_of, with_ends}
+use Rattle.cutting.specs.Cuts.{tlvs_of, payload_in, cutting_answered, check_of}
+use Rattle.cutting.specs.Greedy.{cut_into, with_ends}
 use Rattle.cutting.specs.declared.Proposed.{Proposed}
-use Rattle.cutting.specs.declared.Cutting.{Cutting}
+use Rattle.cutting.specs.declared.CuttingError.{CuttingError}
 
 -- Rule A4, for each public call by its name: any two outcomes that its contract allows are one.
 pub record Firmness : Type 0 where
   pub check : (message : List ℕ) (fragments : List Proposed) (payloads : List ℕ)
-      → Firm (λ r. checked_of r ≡ check_of message fragments payloads)
+      → Firm (λ r. cutting_answered r ≡ check_of message fragments payloads)
   -- the answer, and what the list holds
   pub cut : (message list : List ℕ)
-      → Firm {A = Cutting × List ℕ} (λ o. (cutting_of o.0 ≡ mapped length (cut_into message (length list))) × (o.1 ≡ with_ends (cut_into message (length list)) list))
+      → Firm {A = Result ℕ CuttingError × List ℕ} (λ o. (cutting_answered o.0 ≡ mapped length (cut_into message (length list))) × (o.1 ≡ with_ends (cut_into message (length list)) list))
 
 -- Rule M5: how ends become fragments, from this number and this offset on. Each begins where the one before it ends,
 -- and only the final one is marked last. Their payloads are parts of the message itself.

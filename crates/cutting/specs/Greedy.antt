@@ -1,8 +1,7 @@
 -- How the cutter cuts a message (rule M5): each fragment is filled as far as whole TLVs go.
 use Rattle.std.specs.Prelude.{Bool, true, cond, ◌&&◌, List, [], ◌∷◌, ◌++◌, map, ℕ, ◌+◌, leb, ltb, length, drop}
-use Rattle.numbers.specs.Numbers.{Answer, gives, refuses, told, number, values, and_then}
+use Rattle.numbers.specs.Numbers.{Answer, gives, refuses, and_then}
 use Rattle.cutting.specs.Cuts.{tlvs_of, longest_payload, most_fragments}
-use Rattle.cutting.specs.declared.Cutting.{Cutting}
 
 -- Rule M5: where the fragments end, over TLVs of these lengths. The open fragment holds `used` bytes so far, and ends
 -- at the offset `at`. A TLV that it has no room for begins the next one.
@@ -29,12 +28,6 @@ ends_of_lem message = and_then (tlvs_of message) (λ tlvs. ends_over (map length
 -- Rule M5: the same for a list of `room` places. Fewer places than fragments: 7.
 unfoldable pub cut_into : (message : List ℕ) (room : ℕ) → Answer (List ℕ)
 cut_into message room = and_then (ends_of_lem message) (λ ends. cond (ltb room (length ends)) (refuses 7 []) (gives ends))
-
--- what each answer of `cut` says: how many fragments there are
-abbrev pub cutting_of : Cutting → Answer ℕ
-cutting_of (Cutting.Into n) = gives n
-cutting_of (Cutting.Unwalked r at) = refuses (number r) (at ∷ values r)
-cutting_of (Cutting.Refused r) = told r
 
 -- Rules M5 and A3: what the lent list then holds. Further elements keep what they held. On a refusal all do.
 abbrev pub with_ends : Answer (List ℕ) → List ℕ → List ℕ

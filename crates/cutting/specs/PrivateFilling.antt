@@ -1,8 +1,9 @@
 -- What the cutter's private steps promise each other. No contract of a public call cites these.
-use Rattle.std.specs.Prelude.{◌≡◌, cond, false, List, [], ◌++◌, ℕ, ◌+◌, ◌-◌, ◌≤◌, eqb, leb, ltb, length, take, drop}
-use Rattle.numbers.specs.Numbers.{Answer, gives, refuses, mapped}
-use Rattle.cutting.specs.Cuts.{longest_payload, most_fragments}
-use Rattle.cutting.specs.Greedy.{cut_into, with_ends}
+use Rattle.std.specs.Prelude.{cond, false, List, [], ℕ, ◌+◌, ◌-◌, eqb, leb, ltb, take, Result, Ok, Err}
+use Rattle.numbers.specs.Numbers.{Answer, gives, refuses}
+use Rattle.cutting.specs.Cuts.{cutting_answered, longest_payload}
+use Rattle.cutting.specs.declared.CuttingError.{CuttingError}
+use Rattle.cutting.specs.declared.filling.Planned.{Planned}
 use Rattle.cutting.specs.declared.filling.Open.{Open}
 
 -- no fragment holds the TLV
@@ -22,15 +23,7 @@ answer_for_lem o padding room =
     cond (eqb padding 0)
     (cond o.fits (cond (ltb room (o.before + 1)) (refuses 7 []) (gives (o.before + 1))) (refuses 21 [])) (refuses 4 [])
 
--- how many elements of the list are filled
-abbrev pub places_filled_lem : Answer ℕ → ℕ
-places_filled_lem (gives n) = n
-places_filled_lem (refuses n vs) = 0
-
--- what is answered, and that the first of the ends that were found go into the list
-pub record Plans (message : List ℕ) (room count : ℕ) (found : List ℕ) (answer : Answer ℕ) : Type 0 where
-  pub answered : answer ≡ mapped length (cut_into message room)
-  pub holds : (list : List ℕ) → take count found ++ drop count list ≡ with_ends (cut_into message room) list
-  pub few : count ≤ most_fragments
-  pub long : length found ≡ most_fragments
-  pub room_for_lem : count ≤ room
+-- the ends that go into the list
+abbrev pub planned_of : Result Planned CuttingError → Answer (List ℕ)
+planned_of (Ok p) = gives (take p.count p.ends)
+planned_of (Err e) = cutting_answered (Err e)

@@ -1,18 +1,15 @@
 -- What the checker's private steps promise each other. No contract of a public call cites these.
 use Rattle.std.specs.Prelude.{Bool, true, false, cond, ◌&&◌, ◌||◌, List, [], ◌∷◌, ℕ, ◌+◌, eqb, leb, length, take, drop}
 use Rattle.std.specs.Bool.{beq}
-use Rattle.numbers.specs.Numbers.{Answer, gives, refuses, number, values}
+use Rattle.numbers.specs.Numbers.{Answer, mapped}
 use Rattle.numbers.specs.Bytes.{is_same_lem}
-use Rattle.cutting.specs.Cuts.{longest_payload, most_fragments, payload_in, is_tlvs_lem, is_empty_one, is_alike_lem, no_fragment}
+use Rattle.cutting.specs.Cuts.{tlvs_of, longest_payload, most_fragments, payload_in, is_tlvs_lem, is_empty_one, is_alike_lem, no_fragment}
 use Rattle.cutting.specs.declared.Proposed.{Proposed}
-use Rattle.cutting.specs.declared.following.Own.{Own}
 use Rattle.cutting.specs.declared.following.Reached.{Reached}
 
--- what is answered, by what is said of the message alone and whether the fragments are fine
-abbrev pub said_of : Own → (fine : Bool) → Answer Bool
-said_of Own.Whole fine = gives fine
-said_of (Own.Unwalked r at) fine = refuses (number r) (at ∷ values r)
-said_of Own.Padded fine = refuses 4 []
+-- what is said of a message alone (rule M1): it is whole TLVs, or it is refused
+abbrev pub alone : (message : List ℕ) → Answer (Unit {0})
+alone message = mapped (λ tlvs. tt {0}) (tlvs_of message)
 
 -- the message goes on with these bytes at the offset `at`
 unfoldable pub goes_on_lem : (message : List ℕ) (at : ℕ) (part : List ℕ) → Bool
@@ -35,15 +32,15 @@ is_carried_lem message payloads s f =
     && goes_on_lem message s.at (payload_in payloads f)
 
 -- before the first of `count` fragments
-abbrev pub before : Own → (count : ℕ) → Reached
-before own count =
-    record { own = own; count = count; number = 0; at = 0; first = no_fragment; sound = leb 1 count && leb count most_fragments }
+abbrev pub before : (count : ℕ) → Reached
+before count =
+    record { count = count; number = 0; at = 0; first = no_fragment; sound = leb 1 count && leb count most_fragments }
 
 abbrev pub after_good : Reached → Proposed → Reached
-after_good s f = record { own = s.own; count = s.count; number = f.number + 1; at = s.at + f.length; first = first_by_lem s f; sound = true }
+after_good s f = record { count = s.count; number = f.number + 1; at = s.at + f.length; first = first_by_lem s f; sound = true }
 
 abbrev pub after_bad : Reached → Reached
-after_bad s = record { own = s.own; count = s.count; number = s.number; at = s.at; first = s.first; sound = false }
+after_bad s = record { count = s.count; number = s.number; at = s.at; first = s.first; sound = false }
 
 -- one fragment more
 unfoldable pub taken_by : (message payloads : List ℕ) → Reached → Proposed → Reached

@@ -1,9 +1,11 @@
 // Filling fragments as far as whole TLVs go (rule M5).
-ghost use Rattle.std.specs.Prelude.{◌≡◌};
-ghost use Rattle.cutting.specs.Greedy.{cutting_of};
-ghost use Rattle.cutting.specs.PrivateFilling.{with_tlv_lem, answer_for_lem, places_filled_lem, Plans};
+ghost use Rattle.std.specs.Prelude.{◌≡◌, ◌≤◌, IfOk};
+ghost use Rattle.numbers.specs.Numbers.{answered};
+ghost use Rattle.cutting.specs.Cuts.{most_fragments};
+ghost use Rattle.cutting.specs.Greedy.{cut_into};
+ghost use Rattle.cutting.specs.PrivateFilling.{with_tlv_lem, answer_for_lem, planned_of};
 
-use crate::Cutting;
+use crate::CuttingError;
 use numbers::Refusal;
 use walking::Stepped;
 
@@ -55,44 +57,34 @@ fn with_tlv(current: Open, size: usize) -> Open
     }
 }
 
-// What is answered once all TLVs are in, for a list of `room` places.
-fn answer_for(current: Open, padding: usize, room: usize) -> Cutting
-    ensures { cutting_of result ≡ answer_for_lem current padding room }
+// How many fragments there are once all TLVs are in, for a list of `room` places.
+fn answer_for(current: Open, padding: usize, room: usize) -> Result<usize, Refusal>
+    ensures { answered result ≡ answer_for_lem current padding room }
 {
     if padding != 0 {
-        return Cutting::Refused(Refusal::LeftOver);
+        return Err(Refusal::LeftOver);
     }
     if !current.fits {
-        return Cutting::Refused(Refusal::NoCutting);
+        return Err(Refusal::NoCutting);
     }
     if room <= current.before {
-        return Cutting::Refused(Refusal::NoRoom);
+        return Err(Refusal::NoRoom);
     }
-    Cutting::Into(current.before + 1)
+    Ok(current.before + 1)
 }
 
-// What the cutter answers, and how many of the ends that were found go into the list.
+// The ends that were found, and how many of them go into the list.
 #[derive(Clone, Copy)]
 pub(crate) struct Planned {
     pub(crate) count: usize,
     pub(crate) ends: [usize; MOST_FRAGMENTS],
-    pub(crate) answer: Cutting,
-}
-
-fn places_filled(answer: Cutting) -> usize
-    ensures { result ≡ places_filled_lem (cutting_of answer) }
-{
-    match answer {
-        Cutting::Into(count) => count,
-        Cutting::Unwalked { refusal: _, at: _ } => 0,
-        Cutting::Refused(_) => 0,
-    }
 }
 
 // Walks the message once. At every step `ends` has the ends of the fragments that are full, and then where the open one
-// ends so far. Its arms change `ends` or leave the loop with it, so they stand here together, in 46 lines.
-pub(crate) fn plan(message: &[u8], room: usize) -> Planned
-    ensures { Plans message.now room result.count result.ends (cutting_of result.answer) }
+// ends so far.
+pub(crate) fn plan(message: &[u8], room: usize) -> Result<Planned, CuttingError>
+    ensures ends { planned_of result ≡ cut_into message.now room }
+    ensures few { IfOk result (λ p. (p.count ≤ most_fragments) × (p.count ≤ room)) }
 {
     let mut ends = [0; MOST_FRAGMENTS];
     let mut current = Open {
@@ -102,15 +94,11 @@ pub(crate) fn plan(message: &[u8], room: usize) -> Planned
     };
     let mut at = 0;
     loop {
-        match walking::step(message, at) {
+        let found = walking::step(message, at)?;
+        match found {
             Stepped::End => {
-                let answer = answer_for(current, 0, room);
-                let count = places_filled(answer);
-                return Planned {
-                    count,
-                    ends,
-                    answer,
-                };
+                let count = answer_for(current, 0, room)?;
+                return Ok(Planned { count, ends });
             }
             Stepped::Tlv { tlv: _, next } => {
                 current = with_tlv(current, next - at);
@@ -122,21 +110,8 @@ pub(crate) fn plan(message: &[u8], room: usize) -> Planned
                 current = with_tlv(current, end - at);
                 let before = current.before;
                 ends[before] = end;
-                let answer = answer_for(current, message.len() - end, room);
-                let count = places_filled(answer);
-                return Planned {
-                    count,
-                    ends,
-                    answer,
-                };
-            }
-            Stepped::Refused { refusal, at } => {
-                let answer = Cutting::Unwalked { refusal, at };
-                return Planned {
-                    count: 0,
-                    ends,
-                    answer,
-                };
+                let count = answer_for(current, message.len() - end, room)?;
+                return Ok(Planned { count, ends });
             }
         }
     }

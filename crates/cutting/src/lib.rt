@@ -6,12 +6,14 @@ mod following;
 
 ghost use Rattle.std.specs.Prelude.{◌≡◌, length};
 ghost use Rattle.numbers.specs.Numbers.{mapped};
-ghost use Rattle.cutting.specs.Cuts.{check_of, checked_of};
-ghost use Rattle.cutting.specs.Greedy.{cut_into, cutting_of, with_ends};
+ghost use Rattle.cutting.specs.Cuts.{cutting_answered, check_of};
+ghost use Rattle.cutting.specs.Greedy.{cut_into, with_ends};
+ghost use Rattle.cutting.specs.declared.CuttingError.{CuttingError};
 
 use filling::plan;
-use following::{begin, finish, follow};
+use following::{begin, follow, is_whole, whole};
 use numbers::Refusal;
+use walking::Unwalked;
 
 // A fragment that is proposed (rule M2). Its payload is the part of the lent payloads that begins at `start` and has
 // `length` bytes.
@@ -27,52 +29,53 @@ pub struct Proposed {
     pub length: usize,
 }
 
-// Whether the fragments are a cutting of the message (rule M4), or why the message itself is refused. A walk's refusal
-// comes with the offset of the TLV that failed.
+// Why a message is not cut and no cutting of it is checked: the walk refuses it, at the offset of the TLV that failed,
+// or the refusal has no offset.
 #[derive(Clone, Copy)]
-pub enum Checked {
-    Accepted,
-    NotAccepted,
-    Unwalked { refusal: Refusal, at: usize },
+pub enum CuttingError {
+    Unwalked(Unwalked),
     Refused(Refusal),
 }
 
-// Into how many fragments the message is cut (rule M5), or why it isn't.
-#[derive(Clone, Copy)]
-pub enum Cutting {
-    Into(usize),
-    Unwalked { refusal: Refusal, at: usize },
-    Refused(Refusal),
-}
+impl From<Unwalked> for CuttingError {
+    ghost from_gives = { λ u e. e ≡ CuttingError.Unwalked u };
 
-// Checks how others cut a message (rule M4): whether these fragments, of any number, are a cutting of it. Each payload
-// is a part of the lent payloads, so that nothing is copied. One that lies outside them is not accepted.
-pub fn check(message: &[u8], fragments: &[Proposed], payloads: &[u8]) -> Checked
-    ensures { checked_of result ≡ check_of message.now fragments.now payloads.now }
-{
-    let mut reached = begin(message, fragments.len());
-    let mut i = 0;
-    while i < fragments.len() {
-        reached = follow(reached, fragments[i], message, payloads);
-        i += 1;
+    fn from(unwalked: Unwalked) -> CuttingError {
+        CuttingError::Unwalked(unwalked)
     }
-    finish(reached, message.len())
+}
+
+impl From<Refusal> for CuttingError {
+    ghost from_gives = { λ r e. e ≡ CuttingError.Refused r };
+
+    fn from(refusal: Refusal) -> CuttingError {
+        CuttingError::Refused(refusal)
+    }
+}
+
+// Checks how others cut a message (rule M4): whether these fragments, of any number, are a cutting of it, or why the
+// message itself is refused. Each payload is a part of the lent payloads, so that nothing is copied. One that lies
+// outside them is not accepted.
+pub fn check(message: &[u8], fragments: &[Proposed], payloads: &[u8]) -> Result<bool, CuttingError>
+    ensures { cutting_answered result ≡ check_of message.now fragments.now payloads.now }
+{
+    whole(message)?;
+    let mut reached = begin(fragments.len());
+    for fragment in fragments {
+        reached = follow(reached, *fragment, message, payloads);
+    }
+    Ok(is_whole(reached, message.len()))
 }
 
 // Cuts a message (rule M5): fills each fragment as far as whole TLVs go, and writes to the list where each one ends,
 // offsets in the message that rise. Nothing is written before the whole message has been walked, so that a refusal
 // changes nothing in the list (rule A3).
-pub fn cut(message: &[u8], ends: &mut [usize]) -> Cutting
-    ensures { (cutting_of result ≡ mapped length (cut_into message.now (length ends.old)))
+pub fn cut(message: &[u8], ends: &mut [usize]) -> Result<usize, CuttingError>
+    ensures { (cutting_answered result ≡ mapped length (cut_into message.now (length ends.old)))
         × (ends.new ≡ with_ends (cut_into message.now (length ends.old)) ends.old) }
 {
-    let planned = plan(message, ends.len());
+    let planned = plan(message, ends.len())?;
     let count = planned.count;
-    let found = planned.ends;
-    let mut i = 0;
-    while i < count {
-        ends[i] = found[i];
-        i += 1;
-    }
-    planned.answer
+    ends[..count].copy_from_slice(&planned.ends[..count]);
+    Ok(count)
 }

@@ -1,43 +1,12 @@
--- `cut` meets its contract: after i turns the first i ends are written.
-use mathlib.Core.Path.{◌≡◌, refl, ◌∙◌}
-use native.Mathlib.Omega.{arith}
-use lib.ListN.{length-set}
-use Rattle.cutting.proofs.Written.{one_more, all_written}
+-- `cut` meets its contract: the ends that were planned are copied.
+use Rattle.std.proofs.Common.{◌≡◌, ap, arith, length, take}
+use lib.Seq.{length-take-le}
 use Rattle.cutting.proofs.cut.Goals as goal
-
-pub loop-i-init : goal.loop-i-init
-loop-i-init c = (omega arith, refl, refl)
-
-pub offset_bounds-found-i : goal.offset_bounds-found-i
-offset_bounds-found-i c = record { fits = omega (arith, c.plan-planned.ensures.few) }
-
-pub bounds-found-i : goal.bounds-found-i
-bounds-found-i c = omega (arith, c.plan-planned.ensures.few)
-
-pub offset_bounds-ends-i : goal.offset_bounds-ends-i
-offset_bounds-ends-i c = record { fits = omega (arith, c.plan-planned.ensures.few) }
-
-pub bounds-ends-i : goal.bounds-ends-i
-bounds-ends-i c = omega (arith, c.plan-planned.ensures.room_for_lem)
-
-pub overflow_add-i : goal.overflow_add-i
-overflow_add-i c = record { fits = omega (arith, c.plan-planned.ensures.few) }
-
-pub loop-i-smaller : goal.loop-i-smaller
-loop-i-smaller c = omega arith
-
-pub loop-i-preserved : goal.loop-i-preserved
-loop-i-preserved c =
-    let v = c.loop-i.invariant in
-    let p = c.plan-planned.ensures in
-    (omega arith, simp length-set v.1, one_more _ _ _ _ (omega (arith, p.few, p.long)) (omega (arith, p.room_for_lem)) v.2)
-
-pub shape_of-ends : goal.shape_of-ends
-shape_of-ends c = c.loop-i.invariant.1
 
 pub returns : goal.returns
 returns c =
-    let p = c.plan-planned.ensures in
-    let v = c.loop-i.invariant in
-    let n : c.loop-i.i ≡ c.plan-planned.result.count = omega arith in
-    (p.answered, all_written _ _ _ _ _ n v.2 ∙ p.holds _)
+    let planned = c.in_ok-planned.planned in
+    let f = c.in_ok-planned.ensures in
+    let copied = c.copy_from_slice.ensures in
+    let n : length (take planned.count planned.ends) ≡ planned.count = omega (arith, ap length copied.after, copied.len, length-take-le planned.count c.args.ends.now f.few.1) in
+    (rw (← f.ends, n), rw (← f.ends, n, copied.after))

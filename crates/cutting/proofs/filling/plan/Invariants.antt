@@ -4,8 +4,8 @@ use lib.ListN.{length}
 use Rattle.cutting.proofs.Planning.{Planning}
 use Rattle.cutting.proofs.filling.plan.Given as goal
 
-abbrev pub invariant-loop-answer : goal.invariant-loop-answer
-invariant-loop-answer l = Planning l.message l.at l.current l.ends
+abbrev pub invariant-loop-found : goal.invariant-loop-found
+invariant-loop-found l = Planning l.message l.at l.current l.ends
 
-abbrev pub decreases-loop-answer : goal.decreases-loop-answer
-decreases-loop-answer l = length l.message - l.at
+abbrev pub decreases-loop-found : goal.decreases-loop-found
+decreases-loop-found l = length l.message - l.at
