@@ -11,11 +11,13 @@ use Rattle.numbers.proofs.Firm.{never}
 use Rattle.numbers.proofs.Answers.{given, mapped_gave}
 use Rattle.framing.specs.Tlv.{write_size, tlv_bytes, leaves}
 use Rattle.records.specs.declared.Record.{Record}
-use Rattle.records.specs.Reading.{RecordRead, read_record_lem}
+use Rattle.records.specs.declared.RecordRead.{RecordRead}
+use Rattle.records.specs.Reading.{read_record_lem}
 use Rattle.records.proofs.Given.{is_known_lem, known, consumed_within}
 use Rattle.layouts.specs.Reading.{read_value_lem}
 use Rattle.layouts.specs.Layouts.{is_list_lem}
-use Rattle.layouts.specs.Access.{Span, part_of, start_in, locate_entry, count_entries}
+use Rattle.layouts.specs.declared.Span.{Span}
+use Rattle.layouts.specs.Access.{part_of, start_in, locate_entry, count_entries}
 use Rattle.layouts.proofs.Claims as lists
 use Rattle.layouts.proofs.Within.{Within as LiesIn}
 use Rattle.texts.specs.Texts.{is_text_lem}
@@ -24,13 +26,15 @@ use Rattle.texts.specs.Access.{locate_radio, count_radios}
 use Rattle.texts.proofs.Asked.{text_within}
 use Rattle.texts.proofs.Claims as texts
 use Rattle.kinds.specs.declared.Family.{Family}
-use Rattle.kinds.specs.Kinds.{Typed, one, family_of_lem, is_kind_by, is_kind_lem, one_record, one_list, read_by, read_kind_lem, without_record, no_entry_in_lem, locate_by, locate_kind, count_by, count_kind, text_by, locate_text_in}
+use Rattle.kinds.specs.declared.Typed.{Typed}
+use Rattle.kinds.specs.declared.Contents.{Contents}
+use Rattle.kinds.specs.Kinds.{family_of_lem, is_kind_by, is_kind_lem, one_record, one_list, read_by, read_kind_lem, without_record, no_entry_in_lem, locate_by, locate_kind, count_by, count_kind, text_by, locate_text_in}
 use Rattle.kinds.specs.Writing.{write_kind_lem, kind_bytes}
 
 -- what is measured of a record is what reading it gives, without the record
 pub record Measures (code : ℕ) (s : List ℕ) (n : ℕ) : Type 0 where
   pub inside : n ≤ length s
-  pub is : gives (record { held = one tt; consumed = n; rest = length s - n }) ≡ mapped without_record (mapped (one_record (length s)) (read_record_lem code s))
+  pub is : gives (record { held = Contents.One tt; consumed = n; rest = length s - n }) ≡ mapped without_record (mapped (one_record (length s)) (read_record_lem code s))
 
 pub measured : (code : ℕ) (s : List ℕ) (n : ℕ) → gives n ≡ mapped (λ (r : RecordRead). r.consumed) (read_record_lem code s) → Measures code s n
 measured code s n e =

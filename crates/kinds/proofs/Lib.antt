@@ -1,5 +1,4 @@
 pub mod Apart
 pub mod Claims
-pub mod Firm
 pub mod Laws
 pub mod RoundTrip

@@ -10,7 +10,8 @@ use lib.Seq.{length-take-le, take-append_seam, take-length, get_or-take, get_or-
 use borrow.Author.Tests.{ltb-true, ltb-false}
 use Rattle.numbers.specs.Numbers.{Answer, gives, refuses, and_then, mapped}
 use Rattle.numbers.proofs.Answers.{given, mapped_gave, mapped_given}
-use Rattle.framing.specs.Tlv.{TlvRead, read_tlv_lem, value_in_lem, longest_value, write_size, tlv_bytes}
+use Rattle.framing.specs.declared.TlvRead.{TlvRead}
+use Rattle.framing.specs.Tlv.{read_tlv_lem, value_in_lem, longest_value, write_size, tlv_bytes}
 use Rattle.numbers.specs.Bytes.{AllBytes}
 use Rattle.framing.proofs.Claims.{round_trip}
 use Rattle.records.specs.declared.Record.{Record}
@@ -27,7 +28,9 @@ use Rattle.texts.specs.Reading.{read_text}
 use Rattle.texts.specs.Access.{locate_radio_text_lem}
 use Rattle.texts.proofs.Claims as texts
 use Rattle.kinds.specs.declared.Family.{Family}
-use Rattle.kinds.specs.Kinds.{Typed, one, family_of_lem, one_record, one_list, read_by, read_kind_lem, locate_by, locate_kind, count_by, count_kind, text_by, locate_text_in}
+use Rattle.kinds.specs.declared.Typed.{Typed}
+use Rattle.kinds.specs.declared.Contents.{Contents}
+use Rattle.kinds.specs.Kinds.{family_of_lem, one_record, one_list, read_by, read_kind_lem, locate_by, locate_kind, count_by, count_kind, text_by, locate_text_in}
 use Rattle.kinds.specs.Writing.{kind_bytes}
 use Rattle.kinds.specs.Claims.{value_at, SameValue, ReadsBack, RecordReadsBack, WritesBack, ValueWritesBack, TlvWritesBack}
 use Rattle.kinds.proofs.Apart.{of_records, inventory}
@@ -107,8 +110,8 @@ module _ (code : ℕ) (s : List ℕ) (bytes : AllBytes s) where
       let v = take g.first.consumed s in
       let l : length v ≡ g.first.consumed = length-take-le g.first.consumed s (consumed_within code s g.first g.is) in
       let z : length v - g.first.consumed ≡ 0 = omega (arith, l) in
-      let r : read_by Family.Record code v ≡ gives (record { held = one g.first.value; consumed = g.first.consumed; rest = 0 })
-      = mapped_given (one_record (length v)) _ _ (round_trips.write_back code s g.first bytes g.is).alone ∙ ap (λ (n : ℕ). gives (record { held = one g.first.value; consumed = g.first.consumed; rest = n })) z in
+      let r : read_by Family.Record code v ≡ gives (record { held = Contents.One g.first.value; consumed = g.first.consumed; rest = 0 })
+      = mapped_given (one_record (length v)) _ _ (round_trips.write_back code s g.first bytes g.is).alone ∙ ap (λ (n : ℕ). gives (record { held = Contents.One g.first.value; consumed = g.first.consumed; rest = n })) z in
       let r' = sym (reads code v e) ∙ r in
       let x = sym (reads code s e) ∙ mapped_given (one_record (length s)) _ _ g.is in
       subst (λ (t : Typed Record). SameBy Family.Record code t s (take t.consumed s)) (given (one_record (length s) g.first) t g.then)
@@ -146,7 +149,7 @@ record_reads_back r behind h =
     let z : length (value_at w) - length (bytes_of r) ≡ 0 = omega (arith, l) in
     sym (reads c (value_at w) (of_records c k))
     ∙ ap (mapped (one_record (length (value_at w)))) b.1
-    ∙ ap (λ (n : ℕ). gives (record { held = one r; consumed = length (bytes_of r); rest = n })) z
+    ∙ ap (λ (n : ℕ). gives (record { held = Contents.One r; consumed = length (bytes_of r); rest = n })) z
 
 -- a record that was read has the code that was read, and the consumed bytes
 record Kept (code : ℕ) (s : List ℕ) (t : Typed Record) (r : Record) : Type 0 where
@@ -154,7 +157,7 @@ record Kept (code : ℕ) (s : List ℕ) (t : Typed Record) (r : Record) : Type 0
   pub bytes : bytes_of r ≡ take t.consumed s
   pub writable : readable r ≡ true
 
-module _ (code : ℕ) (s : List ℕ) (bytes : AllBytes s) (t : Typed Record) (r : Record) (held : t.held ≡ one r) where
+module _ (code : ℕ) (s : List ℕ) (bytes : AllBytes s) (t : Typed Record) (r : Record) (held : t.held ≡ Contents.One r) where
   kept_by : (family : Family) → read_by family code s ≡ gives t → Kept code s t r
   kept_by Family.List h = let g = mapped_gave one_list (read_value_lem code s) t h in let z : ◌≡◌ {A = ℕ} 0 1 = cc (ap (λ t. t.held) (given (one_list g.first) t g.then)) in absurd (omega arith)
   kept_by Family.Text h = let g = mapped_gave one_list (read_text code s) t h in let z : ◌≡◌ {A = ℕ} 0 1 = cc (ap (λ t. t.held) (given (one_list g.first) t g.then)) in absurd (omega arith)

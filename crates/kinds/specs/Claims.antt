@@ -1,13 +1,15 @@
 -- What is claimed of the kinds, besides what the calls promise; proofs/Claims.antt proves it.
 use Rattle.std.specs.Prelude.{◌≡◌, true, false, List, ◌++◌, ℕ, ◌+◌, ◌≤◌, length, take}
 use Rattle.std.specs.Borrow.{Bor}
-use Rattle.numbers.specs.Numbers.{gives, mapped}
+use Rattle.std.specs.Prelude.{Result}
+use Rattle.numbers.specs.Numbers.{gives, mapped, answered}
+use Rattle.numbers.specs.declared.Refusal.{Refusal}
 use Rattle.numbers.specs.Firmness.{Firm}
 use Rattle.numbers.specs.Parts.{behind}
-use Rattle.framing.specs.Tlv.{TlvRead, read_tlv_lem, value_in_lem, written_of, longest_value, write_size, tlv_bytes, leaves}
+use Rattle.framing.specs.declared.TlvRead.{TlvRead}
+use Rattle.framing.specs.Tlv.{read_tlv_lem, value_in_lem, longest_value, write_size, tlv_bytes, leaves}
 use Rattle.numbers.specs.Bytes.{AllBytes}
 use Rattle.framing.specs.Claims.{as_read_lem}
-use Rattle.framing.specs.declared.Written.{Written}
 use Rattle.records.specs.declared.Record.{Record}
 use Rattle.records.specs.Kinds.{code_of, kind_of}
 use Rattle.records.specs.Values.{bytes_of}
@@ -15,25 +17,27 @@ use Rattle.records.specs.Reading.{is_record_lem}
 use Rattle.record_writing.specs.Writing.{readable, record_size_lem}
 use Rattle.layouts.specs.Layouts.{is_list_lem}
 use Rattle.layouts.specs.declared.Path.{Path}
-use Rattle.layouts.specs.Access.{numbers_of, located_of, counted_of, part_of, start_in}
+use Rattle.layouts.specs.Access.{numbers_of, part_of, start_in}
 use Rattle.texts.specs.Texts.{inventory_code, is_text_lem}
 use Rattle.texts.specs.Access.{locate_radio_text_lem}
-use Rattle.kinds.specs.Kinds.{Typed, one, is_kind_lem, kind_read_of, read_kind_lem, kind_size_of, without_record, locate_kind, count_kind, locate_text_in}
+use Rattle.kinds.specs.declared.Typed.{Typed}
+use Rattle.kinds.specs.declared.Contents.{Contents}
+use Rattle.kinds.specs.Kinds.{is_kind_lem, read_kind_lem, without_record, locate_kind, count_kind, locate_text_in}
 use Rattle.kinds.specs.Writing.{write_kind_lem, kind_bytes}
 
 -- Rule A4: for each public call, by its name, any two answers that its contract allows are one, with what the lent room
 -- holds afterwards. A part is its bytes and its place.
 pub record Firmness : Type 0 where
   pub is_kind : (code : ℕ) → Firm (λ r. r ≡ is_kind_lem code)
-  pub read_kind : (code : ℕ) (s : List ℕ) → Firm (λ r. kind_read_of r ≡ read_kind_lem code s)
-  pub measure : (code : ℕ) (s : List ℕ) → Firm (λ r. kind_size_of r ≡ mapped without_record (read_kind_lem code s))
-  pub locate : (code : ℕ) (path : Path) (s : List ℕ) → Firm (λ r. located_of r ≡ locate_kind code (numbers_of path) s)
+  pub read_kind : (code : ℕ) (s : List ℕ) → Firm (λ r. answered r ≡ read_kind_lem code s)
+  pub measure : (code : ℕ) (s : List ℕ) → Firm (λ r. answered r ≡ mapped without_record (read_kind_lem code s))
+  pub locate : (code : ℕ) (path : Path) (s : List ℕ) → Firm (λ r. answered r ≡ locate_kind code (numbers_of path) s)
   pub entry : (code : ℕ) (path : Path) (s : Bor (List ℕ)) → Firm {A = List ℕ × (ℕ × ℕ)} (λ r.
       (r.0 ≡ part_of (locate_kind code (numbers_of path) s.now) s.now) × (r.1 ≡ behind (start_in (locate_kind code (numbers_of path) s.now)) s))
-  pub count : (code : ℕ) (path : Path) (s : List ℕ) → Firm (λ r. counted_of r ≡ count_kind code (numbers_of path) s)
-  pub locate_text : (code number : ℕ) (s : List ℕ) → Firm (λ r. located_of r ≡ locate_text_in code number s)
-  pub write_kind : (code : ℕ) (bytes out : List ℕ) → Firm {A = Written × List ℕ} (λ o.
-      (written_of o.0 ≡ write_kind_lem code bytes (length out)) × (o.1 ≡ leaves (write_kind_lem code bytes (length out)) (kind_bytes code bytes) out))
+  pub count : (code : ℕ) (path : Path) (s : List ℕ) → Firm (λ r. answered r ≡ count_kind code (numbers_of path) s)
+  pub locate_text : (code number : ℕ) (s : List ℕ) → Firm (λ r. answered r ≡ locate_text_in code number s)
+  pub write_kind : (code : ℕ) (bytes out : List ℕ) → Firm {A = Result ℕ Refusal × List ℕ} (λ o.
+      (answered o.0 ≡ write_kind_lem code bytes (length out)) × (o.1 ≡ leaves (write_kind_lem code bytes (length out)) (kind_bytes code bytes) out))
 
 -- Rule K2: no code is in two families (records, lists, values that hold text).
 abbrev pub Apart : Type 0
@@ -68,15 +72,15 @@ ReadsBack = (code : ℕ) (s behind : List ℕ) (t : Typed Record) → AllBytes s
 -- Rule A6: what is written from a record reads back as that record. No reading gives a record that is not written so.
 abbrev pub RecordReadsBack : Type 0
 RecordReadsBack = (r : Record) (behind : List ℕ) → readable r ≡ true
-    → read_kind_lem (code_of (kind_of r)) (value_at (tlv_bytes (code_of (kind_of r)) (bytes_of r) ++ behind)) ≡ gives (record { held = one r; consumed = length (bytes_of r); rest = 0 })
+    → read_kind_lem (code_of (kind_of r)) (value_at (tlv_bytes (code_of (kind_of r)) (bytes_of r) ++ behind)) ≡ gives (record { held = Contents.One r; consumed = length (bytes_of r); rest = 0 })
 
 -- Rule A6: writing what was read as t from the value s gives these bytes. They are written from the bytes of the value,
 -- unless 8 or 7 refuses them; and from the record, where it is one, by `write_record`.
 pub record WritesBack (code : ℕ) (s : List ℕ) (t : Typed Record) (tlv : List ℕ) : Type 0 where
   pub answer : (room : ℕ) → write_kind_lem code s room ≡ write_size t.consumed room
   pub bytes : kind_bytes code s ≡ tlv
-  pub record_answer : (r : Record) → t.held ≡ one r → (room : ℕ) → record_size_lem r room ≡ write_size t.consumed room
-  pub record_bytes : (r : Record) → t.held ≡ one r → tlv_bytes (code_of (kind_of r)) (bytes_of r) ≡ tlv
+  pub record_answer : (r : Record) → t.held ≡ Contents.One r → (room : ℕ) → record_size_lem r room ≡ write_size t.consumed room
+  pub record_bytes : (r : Record) → t.held ≡ Contents.One r → tlv_bytes (code_of (kind_of r)) (bytes_of r) ≡ tlv
 
 -- Rule A6, for a value that was read: the TLV of the consumed bytes, and nothing of the rest.
 abbrev pub ValueWritesBack : Type 0

@@ -1,10 +1,13 @@
 -- Reading a kind by its code (rules K1 and K2). Ten kinds are lists, three hold text, and twelve are records. Any
 -- other code: 16.
 use Rattle.std.specs.Prelude.{Bool, true, cond, List, [], ℕ, ◌-◌, length}
-use Rattle.numbers.specs.Numbers.{Answer, gives, refuses, told, and_then, mapped}
+use Rattle.numbers.specs.Numbers.{Answer, refuses, and_then, mapped}
 use Rattle.records.specs.declared.Record.{Record}
+use Rattle.records.specs.declared.RecordRead.{RecordRead}
 use Rattle.records.specs.Reading as records
 use Rattle.records.specs.Reading.{is_record_lem}
+use Rattle.layouts.specs.declared.Consumed.{Consumed}
+use Rattle.layouts.specs.declared.Span.{Span}
 use Rattle.layouts.specs.Layouts.{is_list_lem}
 use Rattle.layouts.specs.Reading as layouts
 use Rattle.layouts.specs.Access as access
@@ -12,8 +15,8 @@ use Rattle.texts.specs.Texts.{is_text_lem}
 use Rattle.texts.specs.Reading as texts
 use Rattle.texts.specs.Access.{locate_radio, count_radios, locate_text_lem}
 use Rattle.kinds.specs.declared.Family.{Family}
-use Rattle.kinds.specs.declared.KindRead.{KindRead}
-use Rattle.kinds.specs.declared.KindSize.{KindSize}
+use Rattle.kinds.specs.declared.Contents.{Contents}
+use Rattle.kinds.specs.declared.Typed.{Typed}
 
 -- The family of a code. No code is of two families (`Apart`, in Claims). A code that is no list's and no text's is left
 -- to the records, which have it or refuse it by 16.
@@ -29,29 +32,12 @@ is_kind_by Family.Record code = is_record_lem code
 abbrev pub is_kind_lem : ℕ → Bool
 is_kind_lem code = is_kind_by (family_of_lem code) code
 
--- What a typed value holds: a record, given as an R, or a number of entries.
-pub data Contents (R : Type 0) : Type 0 where
-  one : R → Contents R
-  list : ℕ → Contents R
-
--- Rule K1: what reading gives. The rest is how many bytes follow those consumed.
-pub record Typed (R : Type 0) : Type 0 where
-  pub held : Contents R
-  pub consumed : ℕ
-  pub rest : ℕ
-
--- What each answer of `read_kind` says.
-abbrev pub kind_read_of : KindRead → Answer (Typed Record)
-kind_read_of (KindRead.Record r c n) = gives (record { held = one r; consumed = c; rest = n })
-kind_read_of (KindRead.List n c m) = gives (record { held = list n; consumed = c; rest = m })
-kind_read_of (KindRead.Refused r) = told r
-
 -- What was read of a value, a record or entries. For a record the length of the value says how long the rest is.
-abbrev pub one_record : ℕ → records.RecordRead → Typed Record
-one_record size r = record { held = one r.value; consumed = r.consumed; rest = size - r.consumed }
+abbrev pub one_record : ℕ → RecordRead → Typed Record
+one_record size r = record { held = Contents.One r.value; consumed = r.consumed; rest = size - r.consumed }
 
-abbrev pub one_list : layouts.Consumed → Typed Record
-one_list c = record { held = list c.entries; consumed = c.consumed; rest = c.rest }
+abbrev pub one_list : {R : Type 0} → Consumed → Typed R
+one_list c = record { held = Contents.List c.entries; consumed = c.consumed; rest = c.rest }
 
 -- How each family is read. A value that holds text is given as a list: its entries are its radios (rule E8).
 abbrev pub read_by : Family → ℕ → List ℕ → Answer (Typed Record)
@@ -64,14 +50,9 @@ unfoldable pub read_kind_lem : ℕ → List ℕ → Answer (Typed Record)
 read_kind_lem code s = read_by (family_of_lem code) code s
 
 -- Measuring: what reading gives, without the record itself (rules K1 and C1).
-abbrev pub kind_size_of : KindSize → Answer (Typed Unit)
-kind_size_of (KindSize.Record c n) = gives (record { held = one tt; consumed = c; rest = n })
-kind_size_of (KindSize.List n c m) = gives (record { held = list n; consumed = c; rest = m })
-kind_size_of (KindSize.Refused r) = told r
-
 abbrev pub held_without : Contents Record → Contents Unit
-held_without (one r) = one tt
-held_without (list n) = list n
+held_without (Contents.One r) = Contents.One tt
+held_without (Contents.List n) = Contents.List n
 
 abbrev pub without_record : Typed Record → Typed Unit
 without_record t = record { held = held_without t.held; consumed = t.consumed; rest = t.rest }
@@ -81,13 +62,13 @@ without_record t = record { held = held_without t.held; consumed = t.consumed; r
 abbrev pub no_entry_in_lem : {A : Type 0} → ℕ → List ℕ → Answer A
 no_entry_in_lem code s = and_then (read_kind_lem code s) (λ t. refuses 6 [])
 
-abbrev pub locate_by : Family → ℕ → List ℕ → List ℕ → Answer access.Span
+abbrev pub locate_by : Family → ℕ → List ℕ → List ℕ → Answer Span
 locate_by Family.List code numbers s = access.locate_entry code numbers s
 locate_by Family.Text code numbers s = locate_radio code numbers s
 locate_by Family.Record code numbers s = no_entry_in_lem code s
 
 -- Rules E1 and E2: where the entry with these numbers lies in the value s.
-unfoldable pub locate_kind : ℕ → List ℕ → List ℕ → Answer access.Span
+unfoldable pub locate_kind : ℕ → List ℕ → List ℕ → Answer Span
 locate_kind code numbers s = locate_by (family_of_lem code) code numbers s
 
 abbrev pub count_by : Family → ℕ → List ℕ → List ℕ → Answer ℕ
@@ -100,10 +81,10 @@ unfoldable pub count_kind : ℕ → List ℕ → List ℕ → Answer ℕ
 count_kind code numbers s = count_by (family_of_lem code) code numbers s
 
 -- Rule E7: the value's own text with this number.
-abbrev pub text_by : Family → ℕ → ℕ → List ℕ → Answer access.Span
+abbrev pub text_by : Family → ℕ → ℕ → List ℕ → Answer Span
 text_by Family.List code number s = no_entry_in_lem code s
 text_by Family.Text code number s = locate_text_lem code number s
 text_by Family.Record code number s = no_entry_in_lem code s
 
-unfoldable pub locate_text_in : ℕ → ℕ → List ℕ → Answer access.Span
+unfoldable pub locate_text_in : ℕ → ℕ → List ℕ → Answer Span
 locate_text_in code number s = text_by (family_of_lem code) code number s

@@ -4,7 +4,8 @@ use Rattle.std.specs.Prelude.{List, [], ℕ, take}
 use Rattle.numbers.specs.Numbers.{Answer, gives, refuses, and_then}
 use Rattle.framing.specs.Tlv.{write_size, tlv_bytes}
 use Rattle.records.specs.declared.Record.{Record}
-use Rattle.kinds.specs.Kinds.{Typed, read_kind_lem}
+use Rattle.kinds.specs.declared.Typed.{Typed}
+use Rattle.kinds.specs.Kinds.{read_kind_lem}
 
 -- Rules O2 and O3: the number of bytes written, or the refusal.
 unfoldable pub write_kind_lem : ℕ → List ℕ → ℕ → Answer ℕ

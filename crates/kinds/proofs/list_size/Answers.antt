@@ -1,8 +1,0 @@
--- What the list's reader answered, case by case.
-use Rattle.kinds.proofs.list_size.Goals as goal
-
-pub returns-in-Value : goal.returns-in-Value
-returns-in-Value c = rw c.in-Value.is
-
-pub returns-in-Refused : goal.returns-in-Refused
-returns-in-Refused c = rw c.in-Refused.is
