@@ -1,15 +1,16 @@
 // Which records can be written (rule O1), and the bytes of a record's value.
-ghost use Rattle.std.specs.Prelude.{◌≡◌, [], ◌∷◌, ◌++◌, ◌<◌, ◌≤◌, length, take, drop};
-ghost use Rattle.records.specs.Values.{octets, bit, flags_of, query_bytes, association_bytes, capability_bytes, bytes_of};
+ghost use Rattle.std.specs.Prelude.{◌≡◌, ℕ, [], ◌∷◌, ◌++◌, ◌<◌, ◌≤◌, List, length, take, drop};
+ghost use Rattle.records.specs.Values.{octets, bit, units_code, flags_of, query_bytes, association_bytes, capability_bytes, bytes_of};
 ghost use Rattle.record_writing.specs.Writing.{agrees, readable};
 
-use crate::codes::{
-    band_byte, lowest_band, lowest_profile, lowest_result, lowest_version, profile_byte,
-    result_byte, state_byte, units_byte, version_byte,
+use records::{
+    ByteCounterUnits, ClientAssociation, Ieee1905ProfileVersion, LinkMetricQuery,
+    LinkMetricResultCode, MacAddr, MultiApProfile, Profile2ApCapability, Record, SupportedFreqBand,
 };
-use records::{ClientAssociation, LinkMetricQuery, MacAddr, Profile2ApCapability, Record};
+use std::marker::Model;
 
-// Whether reading can return this record (rule O1).
+// Whether reading can return this record (rule O1). A code that is given as reserved, with a byte that has a name, is
+// read as that name; and the byte 0 is no profile.
 pub(crate) fn is_readable(item: Record) -> bool
     ensures { result ≡ readable item }
 {
@@ -19,12 +20,19 @@ pub(crate) fn is_readable(item: Record) -> bool
         Record::MacAddress(_) => true,
         Record::SearchedRole(role) => role == 0,
         Record::SupportedRole(role) => role == 0,
-        Record::SupportedFreqBand(band) => lowest_band(band) <= band_byte(band),
-        Record::Ieee1905ProfileVersion(version) => lowest_version(version) <= version_byte(version),
-        Record::LinkMetricResultCode(result) => lowest_result(result) <= result_byte(result),
+        Record::SupportedFreqBand(band) => SupportedFreqBand::from(u8::from(band)) == band,
+        Record::Ieee1905ProfileVersion(version) => {
+            Ieee1905ProfileVersion::from(u8::from(version)) == version
+        }
+        Record::LinkMetricResultCode(result) => {
+            LinkMetricResultCode::from(u8::from(result)) == result
+        }
         Record::LinkMetricQuery(query) => query_readable(query),
         Record::ClientAssociation(_) => true,
-        Record::MultiApProfile(profile) => lowest_profile(profile) <= profile_byte(profile),
+        Record::MultiApProfile(profile) => {
+            let byte = u8::from(profile);
+            byte != 0 && MultiApProfile::from(byte) == profile
+        }
         Record::Profile2ApCapability(capability) => capability.flags_reserved < 8,
     }
 }
@@ -33,154 +41,121 @@ pub(crate) fn is_readable(item: Record) -> bool
 fn query_readable(query: LinkMetricQuery) -> bool
     ensures { result ≡ agrees query.neighbor_type query.neighbor_mac }
 {
-    let neighbor_mac = query.neighbor_mac;
-    match neighbor_mac {
-        Some(_) => query.neighbor_type == 1,
-        None => query.neighbor_type != 1,
+    query.neighbor_mac.is_some() == (query.neighbor_type == 1)
+}
+
+// A record's value. The longest is an association's, of 13 bytes.
+#[derive(Drop)]
+pub(crate) struct Value {
+    bytes: [u8; 13],
+    size: usize,
+}
+
+impl Model for Value {
+    ghost Value = { List ℕ };
+
+    ghost view = { λ v. take v.size v.bytes };
+
+    ghost invariant = { λ v. v.size ≤ 13 };
+}
+
+impl Value {
+    fn new<const N: usize>(bytes: [u8; N]) -> Self
+        requires { N ≤ 13 }
+        ensures { result ≡ bytes.entry }
+    {
+        let mut all = [0u8; 13];
+        all[..N].copy_from_slice(&bytes);
+        Value {
+            bytes: all,
+            size: N,
+        }
+    }
+
+    pub(crate) fn as_slice(&self) -> &[u8]
+        ensures { result.now ≡ self.now }
+    {
+        &self.bytes[..self.size]
     }
 }
 
-// Copies the value of a record to the start of `out`, which has room for it.
-pub(crate) fn put_value(item: Record, out: &mut [u8])
-    requires { length (bytes_of item) ≤ length out.old }
-    ensures { out.new ≡ bytes_of item ++ drop (length (bytes_of item)) out.old }
-{
-    let value = value_of(item);
-    let size = value.size;
-    let all = value.bytes;
-    out[..size].copy_from_slice(&all[..size]);
-}
-
-// A record's value: the first bytes of an array that has room for the longest, an association.
-#[derive(Clone, Copy)]
-pub(crate) struct Value {
-    pub bytes: [u8; 13],
-    pub size: usize,
-}
-
 pub(crate) fn value_of(item: Record) -> Value
-    ensures { (take result.size result.bytes ≡ bytes_of item) × (result.size ≡ length (bytes_of item)) }
+    ensures { result ≡ bytes_of item }
 {
     match item {
-        Record::EndOfMessage => Value {
-            bytes: [0; 13],
-            size: 0,
-        },
+        Record::EndOfMessage => Value::new([]),
         Record::AlMacAddress(address) => address_value(address),
         Record::MacAddress(address) => address_value(address),
-        Record::SearchedRole(role) => byte_value(role),
-        Record::SupportedRole(role) => byte_value(role),
-        Record::SupportedFreqBand(band) => byte_value(band_byte(band)),
-        Record::Ieee1905ProfileVersion(version) => byte_value(version_byte(version)),
-        Record::LinkMetricResultCode(result) => byte_value(result_byte(result)),
+        Record::SearchedRole(role) => Value::new([role]),
+        Record::SupportedRole(role) => Value::new([role]),
+        Record::SupportedFreqBand(band) => Value::new([band.into()]),
+        Record::Ieee1905ProfileVersion(version) => Value::new([version.into()]),
+        Record::LinkMetricResultCode(result) => Value::new([result.into()]),
         Record::LinkMetricQuery(query) => query_value(query),
         Record::ClientAssociation(association) => association_value(association),
-        Record::MultiApProfile(profile) => byte_value(profile_byte(profile)),
+        Record::MultiApProfile(profile) => Value::new([profile.into()]),
         Record::Profile2ApCapability(capability) => capability_value(capability),
     }
 }
 
-fn byte_value(byte: u8) -> Value
-    ensures { (take result.size result.bytes ≡ byte ∷ []) × (result.size ≡ length (byte ∷ [])) }
-{
-    Value {
-        bytes: [byte, 0, 0, 0, 0, 0, 0, 0, 0, 0, 0, 0, 0],
-        size: 1,
-    }
-}
-
 fn address_value(m: MacAddr) -> Value
-    ensures { (take result.size result.bytes ≡ octets m) × (result.size ≡ length (octets m)) }
+    ensures { result ≡ octets m }
 {
-    Value {
-        bytes: [m.b0, m.b1, m.b2, m.b3, m.b4, m.b5, 0, 0, 0, 0, 0, 0, 0],
-        size: 6,
-    }
+    Value::new([m.b0, m.b1, m.b2, m.b3, m.b4, m.b5])
 }
 
 fn query_value(query: LinkMetricQuery) -> Value
-    ensures { (take result.size result.bytes ≡ query_bytes query) × (result.size ≡ length (query_bytes query)) }
+    ensures { result ≡ query_bytes query }
 {
     let t = query.neighbor_type;
     let metrics = query.requested_metrics;
-    let neighbor_mac = query.neighbor_mac;
-    match neighbor_mac {
-        Some(m) => Value {
-            bytes: [
-                t, m.b0, m.b1, m.b2, m.b3, m.b4, m.b5, metrics, 0, 0, 0, 0, 0,
-            ],
-            size: 8,
-        },
-        None => Value {
-            bytes: [t, metrics, 0, 0, 0, 0, 0, 0, 0, 0, 0, 0, 0],
-            size: 2,
-        },
+    match query.neighbor_mac {
+        Some(m) => Value::new([t, m.b0, m.b1, m.b2, m.b3, m.b4, m.b5, metrics]),
+        None => Value::new([t, metrics]),
     }
 }
 
 fn association_value(association: ClientAssociation) -> Value
-    ensures { (take result.size result.bytes ≡ association_bytes association) × (result.size ≡ length (association_bytes association)) }
+    ensures { result ≡ association_bytes association }
 {
     let s = association.sta_mac;
     let a = association.ap_mac;
-    let state = association.association_state;
-    Value {
-        bytes: [
-            s.b0,
-            s.b1,
-            s.b2,
-            s.b3,
-            s.b4,
-            s.b5,
-            a.b0,
-            a.b1,
-            a.b2,
-            a.b3,
-            a.b4,
-            a.b5,
-            state_byte(state),
-        ],
-        size: 13,
-    }
+    let state = u8::from(association.association_state);
+    Value::new([
+        s.b0, s.b1, s.b2, s.b3, s.b4, s.b5, a.b0, a.b1, a.b2, a.b3, a.b4, a.b5, state,
+    ])
 }
 
 fn capability_value(c: Profile2ApCapability) -> Value
-    ensures { (take result.size result.bytes ≡ capability_bytes c) × (result.size ≡ length (capability_bytes c)) }
+    ensures { result ≡ capability_bytes c }
 {
-    Value {
-        bytes: [
-            c.max_prioritization_rules,
-            c.reserved,
-            flags_of(c),
-            c.max_vids,
-            0,
-            0,
-            0,
-            0,
-            0,
-            0,
-            0,
-            0,
-            0,
-        ],
-        size: 4,
-    }
+    Value::new([
+        c.max_prioritization_rules,
+        c.reserved,
+        flags_of(c),
+        c.max_vids,
+    ])
 }
 
 // Byte 2 of a capability: its units, its three flags and its reserved bits (rule K6).
 fn flags_of(c: Profile2ApCapability) -> u8
     ensures { result ≡ flags_of c }
 {
-    let units = c.byte_counter_units;
-    units_byte(units) * 64
-        + bit_of(c.prioritization) * 32
-        + bit_of(c.dpp_onboarding) * 16
-        + bit_of(c.traffic_separation) * 8
+    units_byte(c.byte_counter_units) * 64
+        + u8::from(c.prioritization) * 32
+        + u8::from(c.dpp_onboarding) * 16
+        + u8::from(c.traffic_separation) * 8
         + c.flags_reserved % 8
 }
 
-fn bit_of(on: bool) -> u8
-    ensures { (result ≡ bit on) × (result < 2) }
+// The number of the units (rule K6).
+pub fn units_byte(units: ByteCounterUnits) -> u8
+    ensures { (result ≡ units_code units) × (result < 4) }
 {
-    if on { 1 } else { 0 }
+    match units {
+        ByteCounterUnits::Bytes => 0,
+        ByteCounterUnits::KiB => 1,
+        ByteCounterUnits::MiB => 2,
+        ByteCounterUnits::Reserved => 3,
+    }
 }
