@@ -4,28 +4,37 @@
 mod cutter;
 mod proposals;
 
-ghost use Rattle.std.specs.Prelude.{◌≤◌};
+ghost use Rattle.std.specs.Prelude.{◌≤◌, IfSome};
 
 use answer_lines::Answers;
+use command_lines::Fields;
+use cutting::CuttingError;
 
-// Which field of a line has the bytes of these commands. For any other letter it is 0.
-pub fn field_of_bytes(letter: u8) -> usize
-    ensures { result ≤ 3 }
+// Which field of a line has the command's bytes, for the letters of these commands.
+pub fn field_of_bytes(letter: u8) -> Option<usize>
+    ensures { IfSome result (λ n. n ≤ 3) }
 {
     match letter {
-        b'q' => 3,
-        b'Q' => 2,
-        _ => 0,
+        b'q' => Some(3),
+        b'Q' => Some(2),
+        _ => None,
     }
 }
 
-// Answers one line from the bytes that it has. Returns where the text then ends.
-pub fn answer(line: &[u8], bytes: &[u8], text: &mut Answers, used: usize) -> usize
-    ensures { result ≤ 65536 }
-{
-    let number = command_lines::size_in(line, 1);
-    match command_lines::byte_at(line, 0) {
-        b'q' => proposals::check(command_lines::field(line, 2), number, bytes, text, used),
-        _ => cutter::cut(bytes, number, text, used),
+fn answered(line: &Fields, bytes: &[u8], text: &mut Answers) -> Result<(), CuttingError> {
+    match line.letter() {
+        b'q' => proposals::check(&line.pieces(2, b','), line.size(1), bytes, text),
+        _ => cutter::cut(bytes, line.size(1), text),
+    }
+}
+
+// Answers one line from the bytes that it has.
+pub fn answer(line: &Fields, bytes: &[u8], text: &mut Answers) {
+    match answered(line, bytes, text) {
+        Ok(()) => {}
+        Err(CuttingError::Unwalked(unwalked)) => {
+            text.put_refused_at(unwalked.refusal, unwalked.at);
+        }
+        Err(CuttingError::Refused(refusal)) => text.put_refused(refusal),
     }
 }

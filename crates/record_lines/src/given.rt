@@ -37,10 +37,8 @@ fn code_in(line: &Fields, n: usize) -> Code {
 impl From<Code> for SupportedFreqBand {
     fn from(code: Code) -> Self {
         match code {
-            Code::Named(0) => Self::Band_802_11_2_4,
-            Code::Named(1) => Self::Band_802_11_5,
-            Code::Named(2) => Self::Band_802_11_60,
-            Code::Named(number) | Code::Reserved(number) => Self::Reserved(number),
+            Code::Named(number) => number.into(),
+            Code::Reserved(number) => Self::Reserved(number),
         }
     }
 }
@@ -48,9 +46,8 @@ impl From<Code> for SupportedFreqBand {
 impl From<Code> for Ieee1905ProfileVersion {
     fn from(code: Code) -> Self {
         match code {
-            Code::Named(0) => Self::Ieee1905_1,
-            Code::Named(1) => Self::Ieee1905_1a,
-            Code::Named(number) | Code::Reserved(number) => Self::Reserved(number),
+            Code::Named(number) => number.into(),
+            Code::Reserved(number) => Self::Reserved(number),
         }
     }
 }
@@ -67,10 +64,8 @@ impl From<Code> for LinkMetricResultCode {
 impl From<Code> for MultiApProfile {
     fn from(code: Code) -> Self {
         match code {
-            Code::Named(1) => Self::Profile1,
-            Code::Named(2) => Self::Profile2,
-            Code::Named(3) => Self::Profile3,
-            Code::Named(number) | Code::Reserved(number) => Self::Reserved(number),
+            Code::Named(number) => number.into(),
+            Code::Reserved(number) => Self::Reserved(number),
         }
     }
 }

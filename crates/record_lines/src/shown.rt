@@ -24,10 +24,8 @@ fn put_code(code: Code, text: &mut Answers) {
 impl From<SupportedFreqBand> for Code {
     fn from(band: SupportedFreqBand) -> Self {
         match band {
-            SupportedFreqBand::Band_802_11_2_4 => Code::Named(0),
-            SupportedFreqBand::Band_802_11_5 => Code::Named(1),
-            SupportedFreqBand::Band_802_11_60 => Code::Named(2),
             SupportedFreqBand::Reserved(number) => Code::Reserved(number),
+            named => Code::Named(named.into()),
         }
     }
 }
@@ -35,9 +33,8 @@ impl From<SupportedFreqBand> for Code {
 impl From<Ieee1905ProfileVersion> for Code {
     fn from(version: Ieee1905ProfileVersion) -> Self {
         match version {
-            Ieee1905ProfileVersion::Ieee1905_1 => Code::Named(0),
-            Ieee1905ProfileVersion::Ieee1905_1a => Code::Named(1),
             Ieee1905ProfileVersion::Reserved(number) => Code::Reserved(number),
+            named => Code::Named(named.into()),
         }
     }
 }
@@ -45,8 +42,8 @@ impl From<Ieee1905ProfileVersion> for Code {
 impl From<LinkMetricResultCode> for Code {
     fn from(res: LinkMetricResultCode) -> Self {
         match res {
-            LinkMetricResultCode::InvalidNeighbor => Code::Named(0),
             LinkMetricResultCode::UnknownCode(number) => Code::Reserved(number),
+            named => Code::Named(named.into()),
         }
     }
 }
@@ -54,10 +51,8 @@ impl From<LinkMetricResultCode> for Code {
 impl From<MultiApProfile> for Code {
     fn from(profile: MultiApProfile) -> Self {
         match profile {
-            MultiApProfile::Profile1 => Code::Named(1),
-            MultiApProfile::Profile2 => Code::Named(2),
-            MultiApProfile::Profile3 => Code::Named(3),
             MultiApProfile::Reserved(number) => Code::Reserved(number),
+            named => Code::Named(named.into()),
         }
     }
 }
