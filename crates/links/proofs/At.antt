@@ -16,7 +16,8 @@ use Rattle.numbers.proofs.Answers.{mapped_given}
 use Rattle.numbers.proofs.Bytes.{part_bytes, number_at_lem, bytes_at_back}
 use Rattle.records.specs.Values.{octets, address_at_lem}
 use Rattle.layouts.specs.Layouts.{size_of, tx_pair_fields, rx_pair_fields}
-use Rattle.layouts.specs.Access.{Span, part_of, locate_entry}
+use Rattle.layouts.specs.declared.Span.{Span}
+use Rattle.layouts.specs.Access.{part_of, locate_entry}
 use Rattle.fields.specs.Fields.{fields_at}
 use Rattle.fields.specs.Answers.{crossing}
 use Rattle.fields.specs.Claims.{split}
@@ -37,10 +38,6 @@ module _ {A B : Type 0} (read : List ℕ → A) (numbers : ℕ → A → B) (ws 
   at_there e x =
       let long : p + size_of ws - p ≡ size_of ws = omega arith in
       x ∙ ap (λ n. numbers 0 (read (take n (drop p s)))) long ∙ rw e
-
-  pub at_cut : leb (p + size_of ws) (length s) ≡ false → r ≡ numbers 3 (read []) → r ≡ crossing numbers (read []) (mapped read (fields_at ws s p))
-  unfolding fields_at
-  at_cut e x = x ∙ rw e
 
 -- the pair that a number leads to
 found : {A B : Type 0} (k : LinkKind) (read : List ℕ → A) (numbers : ℕ → A → B) (ws s : List ℕ) (i : ℕ) (e : Span) → pair_bytes k ≡ size_of ws →

@@ -12,7 +12,7 @@ use mir.Val.{SFits, to_z, of_z}
 use mir.ValLaws.{to_z_pos}
 use mir.Facts.{to_z-of_z}
 use Rattle.links.specs.declared.LinkKind.TheVariants.{Rx}
-use Rattle.links.specs.declared.Lowest.TheVariants.{Signal}
+use Rattle.std.specs.Prelude.{Some}
 use Rattle.links.specs.Reports.{a_signal, signals_fit_lem}
 use Rattle.links.proofs.Signed.{pos_sub, sub_add, sub_times, sub_fits, above, under, up, up_is}
 use Rattle.links.proofs.Machine.{kept, widened}
@@ -30,7 +30,7 @@ high_bound (pos a) f = omega (arith, f.sfits)
 high_bound (negsuc a) f = omega arith
 
 -- with pairs, the test is these two
-two_bounds : (n : ℕ) (l s : ℤ) → 0 < n → SFits w8 l → signals_fit_lem Rx n (Signal l) s ≡ (le_z (pos n *ℤ l) s && le_z s (l +ℤ pos ((n - 1) * 127)))
+two_bounds : (n : ℕ) (l s : ℤ) → 0 < n → SFits w8 l → signals_fit_lem Rx n (Some l) s ≡ (le_z (pos n *ℤ l) s && le_z s (l +ℤ pos ((n - 1) * 127)))
 two_bounds zero l s some f = absurd (none some)
   where
     none : 0 < 0 → ⊥
@@ -94,5 +94,5 @@ module _ (n : ℕ) (l : ℤ) (few : n ≤ 1024) (f : SFits w8 l) where
 
     -- what the test says, once the first of the two is known
     pub by_first : (t : Bool) → 0 < n → le_z (to_z w32 (of_z w32 (to_z w32 n *ℤ as32))) (to_z w32 (of_z w32 s)) ≡ t →
-        (t && le_z s (l +ℤ pos ((n - 1) * 127))) ≡ signals_fit_lem Rx n (Signal l) s
+        (t && le_z s (l +ℤ pos ((n - 1) * 127))) ≡ signals_fit_lem Rx n (Some l) s
     by_first t some is = sym (two_bounds n l s some f ∙ ap (λ t. t && le_z s (l +ℤ pos ((n - 1) * 127))) (sym low_test ∙ is))

@@ -9,23 +9,13 @@ use lib.Dec.{leb}
 use lib.ListN.{length, length-append}
 use Rattle.numbers.specs.Bytes.{AllBytes}
 use Rattle.numbers.specs.Numbers.{Answer, gives, refuses}
-use Rattle.numbers.proofs.Firm.{by_equation, by_telling, both, firm, never}
+use Rattle.numbers.proofs.Firm.{by_equation, by_answer, both, never}
 use Rattle.numbers.proofs.Answers.{given, gave}
 use Rattle.links.specs.declared.LinkKind.{LinkKind}
 use Rattle.links.specs.declared.LinkKind.TheVariants.{Tx, Rx}
 use Rattle.links.specs.declared.LinkReport.{LinkReport}
-use Rattle.links.specs.declared.Reported.{Reported}
-use Rattle.links.specs.declared.Reported.TheVariants.{Over, Refused}
-use Rattle.links.specs.declared.TxPair.{TxPair}
-use Rattle.links.specs.declared.RxPair.{RxPair}
-use Rattle.links.specs.declared.TxPairRead.{TxPairRead}
-use Rattle.links.specs.declared.TxPairRead.TheVariants.{Pair as TxPart, Refused as NoTx}
-use Rattle.links.specs.declared.RxPairRead.{RxPairRead}
-use Rattle.links.specs.declared.RxPairRead.TheVariants.{Pair as RxPart, Refused as NoRx}
-use Rattle.links.specs.Pairs.{pairs_in, tx_read, rx_read}
-use Rattle.framing.specs.Tlv.{written_of}
-use Rattle.framing.proofs.Firm.{written_one}
-use Rattle.links.specs.Reports.{most_pairs, report_over, report_if_few, report_of, reported_of, some_value_gives_lem, same_kind_lem, mergeable, merged}
+use Rattle.links.specs.Pairs.{pairs_in}
+use Rattle.links.specs.Reports.{most_pairs, report_over, report_if_few, report_of, some_value_gives_lem, same_kind_lem, mergeable, merged}
 use Rattle.links.specs.Claims.{Firmness, AnyOrder, ValuesPass, NoOthersPass, MadeFromTwo, Claims}
 use Rattle.links.proofs.At.{same_pair, said_back}
 use Rattle.links.proofs.Joining.{own_kind, over_append, any_order, either_order}
@@ -35,35 +25,16 @@ use Rattle.links.proofs.Reading.{few_reported}
 use Rattle.links.proofs.Loop.{pairs_are_bytes}
 use Rattle.links.proofs.Values.{value_of, value_bytes, pairs_of_value}
 
--- no two answers are said alike
-reported_told : (a b : Reported) → reported_of a ≡ reported_of b → a ≡ b
-reported_told (Over r) (Over q) e = ap Over (given r q e)
-reported_told (Over r) (Refused x) e = never _ _ _ e
-reported_told (Refused x) (Over r) e = never _ _ _ (sym e)
-reported_told (Refused x) (Refused y) e = ap Refused (firm LinkReport x y e)
-
-tx_told : (a b : TxPairRead) → tx_read a ≡ tx_read b → a ≡ b
-tx_told (TxPart p) (TxPart q) e = ap TxPart (given p q e)
-tx_told (TxPart p) (NoTx x) e = never _ _ _ e
-tx_told (NoTx x) (TxPart p) e = never _ _ _ (sym e)
-tx_told (NoTx x) (NoTx y) e = ap NoTx (firm TxPair x y e)
-
-rx_told : (a b : RxPairRead) → rx_read a ≡ rx_read b → a ≡ b
-rx_told (RxPart p) (RxPart q) e = ap RxPart (given p q e)
-rx_told (RxPart p) (NoRx x) e = never _ _ _ e
-rx_told (NoRx x) (RxPart p) e = never _ _ _ (sym e)
-rx_told (NoRx x) (NoRx y) e = ap NoRx (firm RxPair x y e)
-
 firmness : Firmness
 firmness = record {
-  report = λ kind value. by_telling reported_of reported_told _;
-  merge = λ one other. by_telling reported_of reported_told _;
-  tx_pair = λ value number. by_telling tx_read tx_told _;
-  rx_pair = λ value number. by_telling rx_read rx_told _;
+  report = λ kind value. by_answer _;
+  merge = λ one other. by_answer _;
+  tx_pair = λ value number. by_answer _;
+  rx_pair = λ value number. by_answer _;
   tx_pair_at = λ s at. by_equation _;
   rx_pair_at = λ s at. by_equation _;
-  put_tx_pair = λ pair out. both _ _ (by_telling written_of written_one _) (by_equation _);
-  put_rx_pair = λ pair out. both _ _ (by_telling written_of written_one _) (by_equation _);
+  put_tx_pair = λ pair out. both _ _ (by_answer _) (by_equation _);
+  put_rx_pair = λ pair out. both _ _ (by_answer _) (by_equation _);
 }
 
 same_report : AnyOrder

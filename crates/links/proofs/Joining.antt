@@ -10,8 +10,7 @@ use lib.IntN.{ℤ, pos, negsuc, +ℤ_assoc, +ℤ_comm, +ℤ_idl, +ℤ_idr}
 use Rattle.numbers.specs.Numbers.{Answer, gives, refuses}
 use Rattle.links.specs.declared.LinkKind.{LinkKind}
 use Rattle.links.specs.declared.LinkKind.TheVariants.{Tx, Rx}
-use Rattle.links.specs.declared.Lowest.{Lowest}
-use Rattle.links.specs.declared.Lowest.TheVariants.{Absent, Signal}
+use Rattle.std.specs.Prelude.{Option, None, Some}
 use Rattle.links.specs.declared.LinkReport.{LinkReport}
 use Rattle.links.specs.Pairs.{errors_of, packets_of}
 use Rattle.links.specs.Reports.{lower, lower_of_lem, no_pairs_lem, lowest_in_lem, sum_in, one_pair_lem, added, report_over, merged, same_kind_lem, some_value_gives_lem, most_pairs}
@@ -32,17 +31,17 @@ lower_assoc (negsuc a) (pos b) (negsuc c) = refl
 lower_assoc (negsuc a) (negsuc b) (pos c) = refl
 lower_assoc (negsuc a) (negsuc b) (negsuc c) = ap negsuc (omega arith)
 
-lower_of_comm : (x y : Lowest) → lower_of_lem x y ≡ lower_of_lem y x
-lower_of_comm Absent Absent = refl
-lower_of_comm Absent (Signal b) = refl
-lower_of_comm (Signal a) Absent = refl
-lower_of_comm (Signal a) (Signal b) = ap Signal (lower_comm a b)
+lower_of_comm : (x y : Option ℤ) → lower_of_lem x y ≡ lower_of_lem y x
+lower_of_comm None None = refl
+lower_of_comm None (Some b) = refl
+lower_of_comm (Some a) None = refl
+lower_of_comm (Some a) (Some b) = ap Some (lower_comm a b)
 
-lower_of_assoc : (x y z : Lowest) → lower_of_lem (lower_of_lem x y) z ≡ lower_of_lem x (lower_of_lem y z)
-lower_of_assoc Absent y z = refl
-lower_of_assoc (Signal a) Absent z = refl
-lower_of_assoc (Signal a) (Signal b) Absent = refl
-lower_of_assoc (Signal a) (Signal b) (Signal c) = ap Signal (lower_assoc a b c)
+lower_of_assoc : (x y z : Option ℤ) → lower_of_lem (lower_of_lem x y) z ≡ lower_of_lem x (lower_of_lem y z)
+lower_of_assoc None y z = refl
+lower_of_assoc (Some a) None z = refl
+lower_of_assoc (Some a) (Some b) None = refl
+lower_of_assoc (Some a) (Some b) (Some c) = ap Some (lower_assoc a b c)
 
 added_comm : (a b : LinkReport) → a.kind ≡ b.kind → added a b ≡ added b a
 added_comm a b same = λ i. record {
@@ -89,7 +88,7 @@ pub over_next : (k : LinkKind) (ps : List (List ℕ)) (p : List ℕ) → report_
 unfolding report_over
 over_next k ps p = over_append k ps (p ∷ []) ∙ ap (added (report_over k ps)) alone
   where
-    low_alone : (k : LinkKind) → lower_of_lem (lowest_in_lem k p) Absent ≡ lowest_in_lem k p
+    low_alone : (k : LinkKind) → lower_of_lem (lowest_in_lem k p) None ≡ lowest_in_lem k p
     low_alone Tx = refl
     low_alone Rx = refl
 

@@ -1,38 +1,22 @@
 -- One report made from two: what the test says, and that the sums fit the machine's numbers.
 use mathlib.Core.Path.{◌≡◌, refl, sym, ap, subst, ◌∙◌}
-use mathlib.Core.Bool.{Bool, true, false, cond, ◌&&◌, false≢true}
+use mathlib.Core.Bool.{true, false, cond, ◌&&◌, false≢true}
 use mathlib.Core.List.{List, [], ◌∷◌, ◌++◌}
 use Prim.Native.Nat.{ℕ, zero, suc, ◌+◌, ◌≤◌, ◌<◌}
 use native.Mathlib.Omega.{arith}
-use borrow.Author.Tests.{leb-true, ne_eqb}
-use lib.Dec.{leb, eqb}
+use borrow.Author.Tests.{leb-true}
+use lib.Dec.{leb}
 use lib.ListN.{length, length-append}
-use lib.IntN.{ℤ, pos, negsuc}
 use mir.Syntax.{w32}
-use mir.Val.{SFits, of_z}
+use mir.Val.{SFits}
 use Rattle.numbers.specs.Numbers.{Answer, gives, refuses}
 use Rattle.links.specs.declared.LinkKind.{LinkKind}
 use Rattle.links.specs.declared.LinkKind.TheVariants.{Tx, Rx}
 use Rattle.links.specs.declared.LinkReport.{LinkReport}
-use Rattle.links.specs.Reports.{added, report_over, is_zero, some_value_gives_lem, most_pairs, same_kind_lem, mergeable, merged}
+use Rattle.links.specs.Reports.{added, report_over, some_value_gives_lem, most_pairs, same_kind_lem, mergeable, merged}
 use Rattle.links.proofs.Joining.{over_append}
 use Rattle.links.proofs.Passing.{AllPairs, of_errors, of_packets, pairs_are, total_fits, sum_fits}
 use Rattle.links.proofs.Witness.{two, list_length, some_list}
-
--- a test of several, by its first
-pub fails : {a : Bool} (b : Bool) → a ≡ false → false ≡ (a && b)
-fails b h = rw h
-
-pub holds : {a b c : Bool} → a ≡ true → c ≡ b → c ≡ (a && b)
-holds h e = rw h e
-
--- a sum is 0 where its bits are
-pub zero_test : (s : ℤ) → SFits w32 s → eqb (of_z w32 s) 0 ≡ is_zero s
-zero_test (pos n) f = refl
-zero_test (negsuc n) f = ne_eqb (of_z w32 (negsuc n)) 0 (λ e. some n f.sfits e)
-  where
-    some : (n : ℕ) → n < 2147483648 → of_z w32 (negsuc n) ≡ 0 → ⊥
-    some n h e = omega (arith, h, e)
 
 -- every field fits where it is kept
 abbrev pub Fit : LinkReport → Type 0

@@ -15,7 +15,7 @@ use mir.Val.{SFits}
 use Rattle.numbers.specs.Bytes.{big_endian_after, number_at, AllBytes}
 use Rattle.links.specs.declared.LinkKind.{LinkKind}
 use Rattle.links.specs.declared.LinkKind.TheVariants.{Tx, Rx}
-use Rattle.links.specs.declared.Lowest.TheVariants.{Absent, Signal}
+use Rattle.std.specs.Prelude.{None, Some}
 use Rattle.links.specs.declared.LinkReport.{LinkReport}
 use Rattle.links.specs.Pairs.{errors_of, packets_of, signal_of}
 use Rattle.links.specs.Reports.{lower, lower_of_lem, no_pairs_lem, one_pair_lem, added, report_over, signals_fit_lem, some_value_gives_lem, most_pairs}
@@ -112,12 +112,12 @@ lower_up a b c =
     negative : (m : ℕ) → c ≡ min a b + suc m → negsuc m ≡ sub_ℕ (min a b) c
     negative m e = neg_sub m ∙ sub_same 0 (suc m) (min a b) c (omega (arith, e))
 
-pub lowest_up_lem : (p : List ℕ) (ps : List (List ℕ)) → AllPairs (p ∷ ps) → (report_over Rx (p ∷ ps)).low ≡ Signal (sub_ℕ (lowest_up p ps) 128)
+pub lowest_up_lem : (p : List ℕ) (ps : List (List ℕ)) → AllPairs (p ∷ ps) → (report_over Rx (p ∷ ps)).low ≡ Some (sub_ℕ (lowest_up p ps) 128)
 unfolding report_over
-lowest_up_lem p [] h = ap Signal (signal_up_lem p (h 0))
+lowest_up_lem p [] h = ap Some (signal_up_lem p (h 0))
 lowest_up_lem p (q ∷ ps) h =
-    ap (λ x. lower_of_lem (Signal (signal_of p)) x) (lowest_up_lem q ps (λ i. h (suc i))) ∙
-    ap (λ x. Signal (lower x (sub_ℕ (lowest_up q ps) 128))) (signal_up_lem p (h 0)) ∙ ap Signal (lower_up (signal_up p) (lowest_up q ps) 128)
+    ap (λ x. lower_of_lem (Some (signal_of p)) x) (lowest_up_lem q ps (λ i. h (suc i))) ∙
+    ap (λ x. Some (lower x (sub_ℕ (lowest_up q ps) 128))) (signal_up_lem p (h 0)) ∙ ap Some (lower_up (signal_up p) (lowest_up q ps) 128)
 
 pub sum_up_lem : (ps : List (List ℕ)) → AllPairs ps → (report_over Rx ps).sum ≡ sub_ℕ (sum_up ps) (length ps * 128)
 unfolding report_over
@@ -143,7 +143,7 @@ sum_most : (p : List ℕ) (ps : List (List ℕ)) → sum_up (p ∷ ps) ≤ lowes
 sum_most p [] = omega arith
 sum_most p (q ∷ ps) = omega (arith, sum_most q ps, lowest_byte q ps)
 
-raised_fit : (n r s : ℕ) → r ≤ 255 → suc n * r ≤ s → s ≤ r + n * 255 → signals_fit_lem Rx (suc n) (Signal (sub_ℕ r 128)) (sub_ℕ s (suc n * 128)) ≡ true
+raised_fit : (n r s : ℕ) → r ≤ 255 → suc n * r ≤ s → s ≤ r + n * 255 → signals_fit_lem Rx (suc n) (Some (sub_ℕ r 128)) (sub_ℕ s (suc n * 128)) ≡ true
 raised_fit n r s byte least most =
     both (both (sub_le 0 128 r 128 (omega arith)) (sub_le r 128 127 0 (omega (arith, byte))))
     (both
@@ -151,7 +151,7 @@ raised_fit n r s byte least most =
     (ap (le_z (sub_ℕ s (suc n * 128))) (ap (λ x. sub_ℕ r 128 +ℤ x) (pos_sub (n * 127)) ∙ sub_add r 128 (n * 127) 0) ∙
     sub_le s (suc n * 128) (r + n * 127) (128 + 0) (omega (arith, most))))
 
-pub no_lowest : (ps : List (List ℕ)) → (report_over Tx ps).low ≡ Absent
+pub no_lowest : (ps : List (List ℕ)) → (report_over Tx ps).low ≡ None
 unfolding report_over
 no_lowest [] = refl
 no_lowest (p ∷ ps) = no_lowest ps
@@ -163,11 +163,11 @@ no_sum (p ∷ ps) = ap (λ x. pos 0 +ℤ x) (no_sum ps)
 
 signals_fit_law : (k : LinkKind) (ps : List (List ℕ)) → AllPairs ps → signals_fit_lem k (length ps) (report_over k ps).low (report_over k ps).sum ≡ true
 unfolding report_over
-signals_fit_law Tx ps h = ap (λ l. signals_fit_lem Tx (length ps) l (report_over Tx ps).sum) (no_lowest ps) ∙ ap (signals_fit_lem Tx (length ps) Absent) (no_sum ps)
+signals_fit_law Tx ps h = ap (λ l. signals_fit_lem Tx (length ps) l (report_over Tx ps).sum) (no_lowest ps) ∙ ap (signals_fit_lem Tx (length ps) None) (no_sum ps)
 signals_fit_law Rx [] h = refl
 signals_fit_law Rx (p ∷ ps) h =
     ap (λ l. signals_fit_lem Rx (suc (length ps)) l (report_over Rx (p ∷ ps)).sum) (lowest_up_lem p ps h) ∙
-    ap (signals_fit_lem Rx (suc (length ps)) (Signal (sub_ℕ (lowest_up p ps) 128))) (sum_up_lem (p ∷ ps) h) ∙
+    ap (signals_fit_lem Rx (suc (length ps)) (Some (sub_ℕ (lowest_up p ps) 128))) (sum_up_lem (p ∷ ps) h) ∙
     raised_fit (length ps) (lowest_up p ps) (sum_up (p ∷ ps)) (lowest_byte p ps) (sum_least p ps) (sum_most p ps)
 
 pub lists_pass : (k : LinkKind) (ps : List (List ℕ)) → AllPairs ps → length ps ≤ most_pairs → some_value_gives_lem (report_over k ps) ≡ true

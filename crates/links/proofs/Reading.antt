@@ -10,8 +10,10 @@ use Rattle.numbers.specs.Numbers.{Answer, gives, refuses, and_then, mapped}
 use Rattle.numbers.proofs.Firm.{never}
 use Rattle.numbers.proofs.Answers.{given, gave, follows, stops, mapped_given, mapped_refused}
 use Rattle.layouts.specs.Layouts.{to_end, Layout, bytes, entry, layout_of}
-use Rattle.layouts.specs.Reading.{Consumed, read_as_lem, read_value_lem}
-use Rattle.layouts.specs.Access.{Span, span_of, of_value_lem, part_of, nth_of, parts_in, locate_entry}
+use Rattle.layouts.specs.declared.Consumed.{Consumed}
+use Rattle.layouts.specs.Reading.{read_as_lem, read_value_lem}
+use Rattle.layouts.specs.declared.Span.{Span}
+use Rattle.layouts.specs.Access.{span_of, of_value_lem, part_of, nth_of, parts_in, locate_entry}
 use Rattle.layouts.proofs.Claims as lists
 use Rattle.layouts.proofs.Within.{end_within, ends_in}
 use Rattle.layouts.proofs.Spans.{plain_start}

@@ -1,64 +1,69 @@
--- The bytes of a pair, as the code puts them together, and the byte of a signal strength.
-use mathlib.Core.Path.{◌≡◌, refl, sym, ◌∙◌}
-use mathlib.Core.List.{[], ◌∷◌, flatten}
-use mathlib.Core.Bool.{true, false, false≢true}
-use Prim.Native.Nat.{ℕ, suc, ◌/◌, ◌%◌, ◌<◌, ◌≤◌}
+-- The bytes of a pair, as the code puts them together.
+use mathlib.Core.Path.{◌≡◌, ap, ◌∙◌}
+use mathlib.Core.List.{List, [], ◌∷◌, flatten}
+use Prim.Native.Nat.{ℕ, ◌/◌, ◌%◌, ◌<◌}
 use native.Mathlib.Omega.{arith}
-use borrow.Author.Tests.{ltb-true}
-use lib.Dec.{T}
-use lib.IntN.{ℤ, pos, negsuc, ◌-ℤ◌, nat_abs}
-use lib.Signed.{lt_z, non_neg}
-use mir.Syntax.{w8}
-use mir.Val.{Fits, SFits}
+use lib.ListN.{get_or}
+use lib.IntN.{ℤ, pos, negsuc}
+use mir.Val.{SFits}
+use Rattle.std.specs.Int.{w8, w16, w32, to_be_bytes, cast_unsigned}
 use Rattle.links.specs.declared.AshlarTxPair.{AshlarTxPair}
 use Rattle.links.specs.declared.AshlarRxPair.{AshlarRxPair}
 use Rattle.links.specs.Writing.{signed_byte, tx_bytes, rx_bytes}
-use Rattle.links.proofs.Signed.{sub_same, pos_sub}
 
-pub byte_small : (b : ℕ) → b < 256 → b % 256 ≡ b
+-- a number by its bytes, as each list of them is read
+pub record Two (l : List ℕ) (n : ℕ) : Type 0 where
+  pub high : get_or l 0 0 ≡ n / 256 % 256
+  pub low : get_or l 1 0 ≡ n % 256
+
+pub two : (l : List ℕ) (n : ℕ) → l ≡ to_be_bytes w16 n → Two l n
+two l n e = record { high = ap (λ l. get_or l 0 0) e ∙ omega arith; low = ap (λ l. get_or l 1 0) e ∙ omega arith }
+
+pub record Four (l : List ℕ) (n : ℕ) : Type 0 where
+  pub first : get_or l 0 0 ≡ n / 256 / 256 / 256 % 256
+  pub second : get_or l 1 0 ≡ n / 256 / 256 % 256
+  pub third : get_or l 2 0 ≡ n / 256 % 256
+  pub fourth : get_or l 3 0 ≡ n % 256
+
+pub four : (l : List ℕ) (n : ℕ) → l ≡ to_be_bytes w32 n → Four l n
+four l n e = record {
+  first = ap (λ l. get_or l 0 0) e ∙ omega arith;
+  second = ap (λ l. get_or l 1 0) e ∙ omega arith;
+  third = ap (λ l. get_or l 2 0) e ∙ omega arith;
+  fourth = ap (λ l. get_or l 3 0) e ∙ omega arith;
+}
+
+-- a byte by itself
+byte_small : (b : ℕ) → b < 256 → b ≡ b % 256
 byte_small b h = omega (arith, h)
 
-pub tx_sent : (r : AshlarTxPair) → r.bridge % 256 ≡ r.bridge →
-    r.own.b0 ∷ r.own.b1 ∷ r.own.b2 ∷ r.own.b3 ∷ r.own.b4 ∷ r.own.b5 ∷ r.neighbour.b0 ∷ r.neighbour.b1 ∷ r.neighbour.b2 ∷ r.neighbour.b3 ∷ r.neighbour.b4 ∷ r.neighbour.b5 ∷ (r.media / 256 % 256) ∷ (r.media % 256) ∷ r.bridge ∷ (r.errors / 256 / 256 / 256 % 256) ∷ (r.errors / 256 / 256 % 256) ∷ (r.errors / 256 % 256) ∷ (r.errors % 256) ∷ (r.packets / 256 / 256 / 256 % 256) ∷ (r.packets / 256 / 256 % 256) ∷ (r.packets / 256 % 256) ∷ (r.packets % 256) ∷ (r.throughput / 256 % 256) ∷ (r.throughput % 256) ∷ (r.availability / 256 % 256) ∷ (r.availability % 256) ∷ (r.rate / 256 % 256) ∷ (r.rate % 256) ∷ []
+pub tx_sent : (r : AshlarTxPair) (m e p t v q : List ℕ) → r.bridge < 256 → m ≡ to_be_bytes w16 r.media → e ≡ to_be_bytes w32 r.errors → p ≡ to_be_bytes w32 r.packets →
+    t ≡ to_be_bytes w16 r.throughput → v ≡ to_be_bytes w16 r.availability → q ≡ to_be_bytes w16 r.rate →
+    r.own.b0 ∷ r.own.b1 ∷ r.own.b2 ∷ r.own.b3 ∷ r.own.b4 ∷ r.own.b5 ∷ r.neighbour.b0 ∷ r.neighbour.b1 ∷ r.neighbour.b2 ∷ r.neighbour.b3 ∷ r.neighbour.b4 ∷ r.neighbour.b5 ∷ get_or m 0 0 ∷ get_or m 1 0 ∷ r.bridge ∷ get_or e 0 0 ∷ get_or e 1 0 ∷ get_or e 2 0 ∷ get_or e 3 0 ∷ get_or p 0 0 ∷ get_or p 1 0 ∷ get_or p 2 0 ∷ get_or p 3 0 ∷ get_or t 0 0 ∷ get_or t 1 0 ∷ get_or v 0 0 ∷ get_or v 1 0 ∷ get_or q 0 0 ∷ get_or q 1 0 ∷ []
     ≡ flatten (tx_bytes r)
 unfolding flatten
-tx_sent r small = rw small
+tx_sent r m e p t v q small em ee ep et ev eq =
+    let m2 = two m r.media em in
+    let e4 = four e r.errors ee in
+    let p4 = four p r.packets ep in
+    let t2 = two t r.throughput et in
+    let v2 = two v r.availability ev in
+    let q2 = two q r.rate eq in
+    λ i. r.own.b0 ∷ r.own.b1 ∷ r.own.b2 ∷ r.own.b3 ∷ r.own.b4 ∷ r.own.b5 ∷ r.neighbour.b0 ∷ r.neighbour.b1 ∷ r.neighbour.b2 ∷ r.neighbour.b3 ∷ r.neighbour.b4 ∷ r.neighbour.b5 ∷ m2.high i ∷ m2.low i ∷ byte_small r.bridge small i ∷ e4.first i ∷ e4.second i ∷ e4.third i ∷ e4.fourth i ∷ p4.first i ∷ p4.second i ∷ p4.third i ∷ p4.fourth i ∷ t2.high i ∷ t2.low i ∷ v2.high i ∷ v2.low i ∷ q2.high i ∷ q2.low i ∷ []
 
-pub rx_sent : (r : AshlarRxPair) (b : ℕ) → b < 256 → b ≡ signed_byte r.signal →
-    r.own.b0 ∷ r.own.b1 ∷ r.own.b2 ∷ r.own.b3 ∷ r.own.b4 ∷ r.own.b5 ∷ r.neighbour.b0 ∷ r.neighbour.b1 ∷ r.neighbour.b2 ∷ r.neighbour.b3 ∷ r.neighbour.b4 ∷ r.neighbour.b5 ∷ (r.media / 256 % 256) ∷ (r.media % 256) ∷ (r.errors / 256 / 256 / 256 % 256) ∷ (r.errors / 256 / 256 % 256) ∷ (r.errors / 256 % 256) ∷ (r.errors % 256) ∷ (r.packets / 256 / 256 / 256 % 256) ∷ (r.packets / 256 / 256 % 256) ∷ (r.packets / 256 % 256) ∷ (r.packets % 256) ∷ b ∷ []
+-- a signal strength as a byte
+signed_sent : (z : ℤ) → SFits w8 z → cast_unsigned w8 z ≡ signed_byte z % 256
+signed_sent (pos a) f = omega (arith, f.sfits)
+signed_sent (negsuc a) f = omega (arith, f.sfits)
+
+pub rx_sent : (r : AshlarRxPair) (m e p : List ℕ) (b : ℕ) → SFits w8 r.signal → m ≡ to_be_bytes w16 r.media → e ≡ to_be_bytes w32 r.errors → p ≡ to_be_bytes w32 r.packets →
+    b ≡ cast_unsigned w8 r.signal →
+    r.own.b0 ∷ r.own.b1 ∷ r.own.b2 ∷ r.own.b3 ∷ r.own.b4 ∷ r.own.b5 ∷ r.neighbour.b0 ∷ r.neighbour.b1 ∷ r.neighbour.b2 ∷ r.neighbour.b3 ∷ r.neighbour.b4 ∷ r.neighbour.b5 ∷ get_or m 0 0 ∷ get_or m 1 0 ∷ get_or e 0 0 ∷ get_or e 1 0 ∷ get_or e 2 0 ∷ get_or e 3 0 ∷ get_or p 0 0 ∷ get_or p 1 0 ∷ get_or p 2 0 ∷ get_or p 3 0 ∷ b ∷ []
     ≡ flatten (rx_bytes r)
 unfolding flatten
-rx_sent r b h e = rw (← e, byte_small b h)
-
--- a signal below 0, and what is left of -1 without it
-pub record Below (z : ℤ) : Type 0 where
-  pub n : ℕ
-  pub is : z ≡ negsuc n
-  pub left : negsuc 0 -ℤ z ≡ pos n
-  pub few : n < 128
-
-pub below : (z : ℤ) → SFits w8 z → lt_z z (pos 0) ≡ true → Below z
-below (pos a) f h = absurd (none (ltb-true a 0 h)) where
-  none : a < 0 → ⊥
-  none h = omega (arith, h)
-below (negsuc n) f h = record { n = n; is = refl; left = sub_same (suc n) 1 n 0 (omega arith) ∙ sym (pos_sub n); few = omega (arith, f.sfits) }
-
-pub record Least (z : ℤ) : Type 0 where
-  pub n : ℕ
-  pub is : z ≡ pos n
-  pub few : n < 128
-
-pub least : (z : ℤ) → SFits w8 z → lt_z z (pos 0) ≡ false → Least z
-least (pos a) f h = record { n = a; is = refl; few = omega (arith, f.sfits) }
-least (negsuc a) f h = absurd (false≢true (sym h))
-
--- a number from 0 to 127, as an unsigned one
-module _ (y : ℤ) (n : ℕ) (e : y ≡ pos n) (h : n < 128) where
-  pub fits_signed : SFits w8 y
-  fits_signed = rw e (record { sfits = omega (arith, h) })
-
-  pub fits_byte : T (non_neg y) × Fits w8 (nat_abs y)
-  fits_byte = rw e (tt, record { fits = omega (arith, h) })
-
-  pub few_left : nat_abs y ≤ 255
-  few_left = rw e (omega (arith, h))
+rx_sent r m e p b fits em ee ep eb =
+    let m2 = two m r.media em in
+    let e4 = four e r.errors ee in
+    let p4 = four p r.packets ep in
+    let s = eb ∙ signed_sent r.signal fits in
+    λ i. r.own.b0 ∷ r.own.b1 ∷ r.own.b2 ∷ r.own.b3 ∷ r.own.b4 ∷ r.own.b5 ∷ r.neighbour.b0 ∷ r.neighbour.b1 ∷ r.neighbour.b2 ∷ r.neighbour.b3 ∷ r.neighbour.b4 ∷ r.neighbour.b5 ∷ m2.high i ∷ m2.low i ∷ e4.first i ∷ e4.second i ∷ e4.third i ∷ e4.fourth i ∷ p4.first i ∷ p4.second i ∷ p4.third i ∷ p4.fourth i ∷ s i ∷ []

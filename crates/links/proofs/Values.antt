@@ -10,7 +10,8 @@ use Rattle.numbers.specs.Bytes.{AllBytes}
 use Rattle.numbers.specs.Numbers.{gives, mapped}
 use Rattle.numbers.proofs.Answers.{follows, mapped_given}
 use Rattle.layouts.specs.Layouts.{to_end, bytes}
-use Rattle.layouts.specs.Reading.{reaching, ListAt, list_of, count_at_lem, entries_end, end_of, consumed_to_lem, read_as_lem}
+use Rattle.layouts.specs.declared.ListAt.{ListAt}
+use Rattle.layouts.specs.Reading.{reaching, list_of, count_at_lem, entries_end, end_of, consumed_to_lem, read_as_lem}
 use Rattle.layouts.specs.Access.{Spans, before, part_of, spans_from, spans_in, parts_in}
 use Rattle.layouts.proofs.Within.{reaches}
 use Rattle.layouts.proofs.Laws.{read_to}

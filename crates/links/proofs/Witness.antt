@@ -14,8 +14,7 @@ use Rattle.numbers.specs.Bytes.{in_bytes, AllBytes}
 use Rattle.numbers.proofs.Bytes.{said_back}
 use Rattle.links.specs.declared.LinkKind.{LinkKind}
 use Rattle.links.specs.declared.LinkKind.TheVariants.{Tx, Rx}
-use Rattle.links.specs.declared.Lowest.{Lowest}
-use Rattle.links.specs.declared.Lowest.TheVariants.{Absent, Signal}
+use Rattle.std.specs.Prelude.{Option, None, Some}
 use Rattle.links.specs.declared.LinkReport.{LinkReport}
 use Rattle.links.specs.Reports.{report_over, is_zero, signals_fit_lem, some_value_gives_lem, a_signal, most_pairs}
 use Rattle.links.specs.PrivatePairs.{pair_bytes}
@@ -139,10 +138,10 @@ pairs_long k (suc n) t r x zero h = pair_length k (taken t) (r + min x (255 - r)
 pairs_long k (suc n) t r x (suc i) h = pairs_long k n (left t) r (x - min x (255 - r)) i (omega (arith, h))
 
 -- the report over these pairs, field by field
-abbrev report_with : LinkKind → ℕ → (Total → ℕ) → Lowest → ℤ → LinkReport
+abbrev report_with : LinkKind → ℕ → (Total → ℕ) → Option ℤ → ℤ → LinkReport
 report_with k n t l s = record { kind = k; pairs = n; errors = t of_errors; packets = t of_packets; low = l; sum = s }
 
-list_gives : (k : LinkKind) (n : ℕ) (t : Total → ℕ) (r x : ℕ) (l : Lowest) (s : ℤ) → ((f : Total) → t f ≤ n * 4294967295) →
+list_gives : (k : LinkKind) (n : ℕ) (t : Total → ℕ) (r x : ℕ) (l : Option ℤ) (s : ℤ) → ((f : Total) → t f ≤ n * 4294967295) →
     (report_over k (pairs_of k n t r x)).low ≡ l → (report_over k (pairs_of k n t r x)).sum ≡ s → ListGives (report_with k n t l s)
 list_gives k n t r x l s ht hl hs = record {
   list = pairs_of k n t r x;
@@ -205,10 +204,10 @@ module _ (n : ℕ) (t : Total → ℕ) (l s : ℤ) (ht : (f : Total) → t f ≤
           over : (d : ℕ) → 255 ≡ r + d → n * 255 ≡ n * r + n * d
           over d e = rw e (omega arith)
 
-  signals_given : ListGives (report_with Rx (suc n) t (Signal l) s)
+  signals_given : ListGives (report_with Rx (suc n) t (Some l) s)
   signals_given =
-      list_gives Rx (suc n) t r x (Signal l) s ht
-      (lowest_up_lem first others (pairs_bytes Rx (suc n) t r x) ∙ ap (λ u. Signal (sub_ℕ u 128)) (lowest_back n t r x byte x_fits) ∙ ap Signal (sym l_is))
+      list_gives Rx (suc n) t r x (Some l) s ht
+      (lowest_up_lem first others (pairs_bytes Rx (suc n) t r x) ∙ ap (λ u. Some (sub_ℕ u 128)) (lowest_back n t r x byte x_fits) ∙ ap Some (sym l_is))
       (sum_up_lem (first ∷ others) (pairs_bytes Rx (suc n) t r x) ∙
       (λ i. sub_ℕ (sum_back (suc n) t r x byte (wider x_fits) i) (many Rx (suc n) t r x i * 128)) ∙
       ap (λ u. sub_ℕ u (suc n * 128)) (omega (arith, s_low)) ∙ sym (up_is (suc n * 128) s (omega (arith, s_low))))
@@ -226,15 +225,15 @@ module _ (n : ℕ) (t : Total → ℕ) (l s : ℤ) (ht : (f : Total) → t f ≤
       wider h = omega (arith, h)
 
 -- by the kind, the number of pairs and the lowest
-by_fields : (k : LinkKind) (n : ℕ) (t : Total → ℕ) (l : Lowest) (s : ℤ) → ((f : Total) → t f ≤ n * 4294967295) → signals_fit_lem k n l s ≡ true →
+by_fields : (k : LinkKind) (n : ℕ) (t : Total → ℕ) (l : Option ℤ) (s : ℤ) → ((f : Total) → t f ≤ n * 4294967295) → signals_fit_lem k n l s ≡ true →
     ListGives (report_with k n t l s)
 unfolding report_over
-by_fields Tx n t Absent s ht h = list_gives Tx n t 0 0 Absent s ht (no_lowest (pairs_of Tx n t 0 0)) (no_sum (pairs_of Tx n t 0 0) ∙ is_zero_lem s h)
-by_fields Tx n t (Signal l) s ht h = absurd (false≢true h)
-by_fields Rx zero t Absent s ht h = list_gives Rx 0 t 0 0 Absent s ht refl (is_zero_lem s h)
-by_fields Rx zero t (Signal l) s ht h = absurd (false≢true h)
-by_fields Rx (suc n) t Absent s ht h = absurd (false≢true h)
-by_fields Rx (suc n) t (Signal l) s ht h =
+by_fields Tx n t None s ht h = list_gives Tx n t 0 0 None s ht (no_lowest (pairs_of Tx n t 0 0)) (no_sum (pairs_of Tx n t 0 0) ∙ is_zero_lem s h)
+by_fields Tx n t (Some l) s ht h = absurd (false≢true h)
+by_fields Rx zero t None s ht h = list_gives Rx 0 t 0 0 None s ht refl (is_zero_lem s h)
+by_fields Rx zero t (Some l) s ht h = absurd (false≢true h)
+by_fields Rx (suc n) t None s ht h = absurd (false≢true h)
+by_fields Rx (suc n) t (Some l) s ht h =
     let parts = two (a_signal l) (le_z (pos (suc n) *ℤ l) s && le_z s (l +ℤ pos (n * 127))) h in
     let signal = two (le_z (negsuc 127) l) (le_z l (pos 127)) parts.0 in
     let sums = two (le_z (pos (suc n) *ℤ l) s) (le_z s (l +ℤ pos (n * 127))) parts.1 in

@@ -1,38 +1,39 @@
 -- What is claimed of this crate's calls and definitions; proofs/Claims.antt proves it.
-use Rattle.std.specs.Prelude.{◌≡◌, true, ℕ, length, take, drop}
+use Rattle.std.specs.Prelude.{◌≡◌, true, ℕ, length, take, drop, Result}
 use mathlib.Core.List.{List, [], ◌∷◌, ◌++◌, flatten, Permᴰ}
 use Rattle.numbers.specs.Bytes.{AllBytes}
-use Rattle.numbers.specs.Numbers.{Answer, gives}
+use Rattle.numbers.specs.Numbers.{Answer, gives, answered}
 use Rattle.numbers.specs.Firmness.{Firm}
 use Rattle.layouts.specs.Layouts.{size_of, tx_pair_fields, rx_pair_fields}
-use Rattle.layouts.specs.Access.{Span, locate_entry}
-use Rattle.framing.specs.declared.Written.{Written}
-use Rattle.framing.specs.Tlv.{written_of, leaves}
+use Rattle.layouts.specs.declared.Span.{Span}
+use Rattle.layouts.specs.Access.{locate_entry}
+use Rattle.numbers.specs.declared.Refusal.{Refusal}
+use Rattle.framing.specs.Tlv.{leaves}
 use Rattle.fields.specs.Writing.{put_size, made_bytes}
 use Rattle.links.specs.declared.LinkKind.{LinkKind}
 use Rattle.links.specs.declared.LinkKind.TheVariants.{Tx, Rx}
 use Rattle.links.specs.declared.LinkReport.{LinkReport}
 use Rattle.links.specs.declared.AshlarTxPair.{AshlarTxPair}
 use Rattle.links.specs.declared.AshlarRxPair.{AshlarRxPair}
-use Rattle.links.specs.Pairs.{link_code, pairs_in, tx_read, tx_pair_of, rx_read, rx_pair_of, tx_numbers_lem, tx_pair_at_lem, rx_numbers_lem, rx_pair_at_lem}
+use Rattle.links.specs.Pairs.{link_code, pairs_in, tx_pair_of, rx_pair_of, tx_numbers_lem, tx_pair_at_lem, rx_numbers_lem, rx_pair_at_lem}
 use Rattle.links.specs.Writing.{tx_bytes, rx_bytes, tx_made, rx_made}
-use Rattle.links.specs.Reports.{reported_of, report_if_few, report_of, some_value_gives_lem, merged}
+use Rattle.links.specs.Reports.{report_if_few, report_of, some_value_gives_lem, merged}
 
 -- Rule A4, for each public call by its name: any two answers that its contract allows are one.
 pub record Firmness : Type 0 where
-  pub report : (kind : LinkKind) (value : List ℕ) → Firm (λ r. reported_of r ≡ report_of kind value)
-  pub merge : (one other : LinkReport) → Firm (λ r. reported_of r ≡ merged one other)
-  pub tx_pair : (value : List ℕ) (number : ℕ) → Firm (λ r. tx_read r ≡ tx_pair_of value number)
-  pub rx_pair : (value : List ℕ) (number : ℕ) → Firm (λ r. rx_read r ≡ rx_pair_of value number)
+  pub report : (kind : LinkKind) (value : List ℕ) → Firm (λ r. answered r ≡ report_of kind value)
+  pub merge : (one other : LinkReport) → Firm (λ r. answered r ≡ merged one other)
+  pub tx_pair : (value : List ℕ) (number : ℕ) → Firm (λ r. answered r ≡ tx_pair_of value number)
+  pub rx_pair : (value : List ℕ) (number : ℕ) → Firm (λ r. answered r ≡ rx_pair_of value number)
   pub tx_pair_at : (s : List ℕ) (at : ℕ) → Firm (λ r. r ≡ tx_pair_at_lem s at)
   pub rx_pair_at : (s : List ℕ) (at : ℕ) → Firm (λ r. r ≡ rx_pair_at_lem s at)
   pub put_tx_pair : (pair : AshlarTxPair) (out : List ℕ)
-      → Firm {A = Written × List ℕ} (λ o.
-      (written_of o.0 ≡ put_size (tx_made pair) (length out))
+      → Firm {A = Result ℕ Refusal × List ℕ} (λ o.
+      (answered o.0 ≡ put_size (tx_made pair) (length out))
       × (o.1 ≡ leaves (put_size (tx_made pair) (length out)) (made_bytes (tx_made pair)) out))
   pub put_rx_pair : (pair : AshlarRxPair) (out : List ℕ)
-      → Firm {A = Written × List ℕ} (λ o.
-      (written_of o.0 ≡ put_size (rx_made pair) (length out))
+      → Firm {A = Result ℕ Refusal × List ℕ} (λ o.
+      (answered o.0 ≡ put_size (rx_made pair) (length out))
       × (o.1 ≡ leaves (put_size (rx_made pair) (length out)) (made_bytes (rx_made pair)) out))
 
 -- Rules Q3 and E11: at the start of the entry that a number leads to stands the pair with this number.

@@ -2,7 +2,7 @@
 -- A pair's numbers stand highest byte first (rule B1).
 use Rattle.std.specs.Prelude.{cond, List, [], ℕ, ◌-◌, ltb, get_or, ℤ, pos, negsuc}
 use Rattle.numbers.specs.Bytes.{number_at}
-use Rattle.numbers.specs.Numbers.{Answer, gives, told, and_then, mapped}
+use Rattle.numbers.specs.Numbers.{Answer, and_then, mapped}
 use Rattle.records.specs.Values.{address_at_lem}
 use Rattle.layouts.specs.Layouts.{place, tx_pair_fields, rx_pair_fields, layout_of}
 use Rattle.layouts.specs.Access.{of_value_lem, parts_in, nth_of}
@@ -14,10 +14,6 @@ use Rattle.links.specs.declared.TxPair.{TxPair}
 use Rattle.links.specs.declared.RxPair.{RxPair}
 use Rattle.links.specs.declared.AshlarTxPair.{AshlarTxPair}
 use Rattle.links.specs.declared.AshlarRxPair.{AshlarRxPair}
-use Rattle.links.specs.declared.TxPairRead.{TxPairRead}
-use Rattle.links.specs.declared.TxPairRead.TheVariants.{Pair as TxPart, Refused as NoTx}
-use Rattle.links.specs.declared.RxPairRead.{RxPairRead}
-use Rattle.links.specs.declared.RxPairRead.TheVariants.{Pair as RxPart, Refused as NoRx}
 
 -- the codes of rule K2
 abbrev pub link_code : LinkKind → ℕ
@@ -115,12 +111,3 @@ rx_numbers_lem n p = record {
 
 unfoldable pub rx_pair_at_lem : List ℕ → ℕ → AshlarRxPair
 rx_pair_at_lem s p = crossing rx_numbers_lem (rx_fields_lem []) (mapped rx_fields_lem (fields_at rx_pair_fields s p))
-
--- what each answer of the calls says
-abbrev pub tx_read : TxPairRead → Answer TxPair
-tx_read (TxPart p) = gives p
-tx_read (NoTx r) = told r
-
-abbrev pub rx_read : RxPairRead → Answer RxPair
-rx_read (RxPart p) = gives p
-rx_read (NoRx r) = told r

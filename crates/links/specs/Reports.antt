@@ -1,14 +1,10 @@
 -- A report over the pairs of a value: exact totals that can be added up (rules Q4, Q6 and Q7).
-use Rattle.std.specs.Prelude.{Bool, true, false, cond, ◌&&◌, List, [], ◌∷◌, ℕ, zero, suc, ◌+◌, ◌*◌, min, max, leb, eqb, length, ℤ, pos, negsuc, ◌+ℤ◌, ◌*ℤ◌}
+use Rattle.std.specs.Prelude.{Bool, true, false, cond, ◌&&◌, List, [], ◌∷◌, ℕ, zero, suc, ◌+◌, ◌*◌, min, max, leb, eqb, length, ℤ, pos, negsuc, ◌+ℤ◌, ◌*ℤ◌, Option, None, Some}
 use Rattle.std.specs.Int.Signed.{le_z}
-use Rattle.numbers.specs.Numbers.{Answer, gives, refuses, told, and_then}
+use Rattle.numbers.specs.Numbers.{Answer, gives, refuses, and_then}
 use Rattle.links.specs.declared.LinkKind.{LinkKind}
 use Rattle.links.specs.declared.LinkKind.TheVariants.{Tx, Rx}
-use Rattle.links.specs.declared.Lowest.{Lowest}
-use Rattle.links.specs.declared.Lowest.TheVariants.{Absent, Signal}
 use Rattle.links.specs.declared.LinkReport.{LinkReport}
-use Rattle.links.specs.declared.Reported.{Reported}
-use Rattle.links.specs.declared.Reported.TheVariants.{Over, Refused}
 use Rattle.links.specs.Pairs.{pairs_in, errors_of, packets_of, signal_of}
 
 -- the lower of two numbers
@@ -19,19 +15,19 @@ lower (negsuc a) (pos b) = negsuc a
 lower (negsuc a) (negsuc b) = negsuc (max a b)
 
 -- the lower of two, where there are two
-abbrev pub lower_of_lem : Lowest → Lowest → Lowest
-lower_of_lem Absent l = l
-lower_of_lem (Signal a) Absent = Signal a
-lower_of_lem (Signal a) (Signal b) = Signal (lower a b)
+abbrev pub lower_of_lem : Option ℤ → Option ℤ → Option ℤ
+lower_of_lem None l = l
+lower_of_lem (Some a) None = Some a
+lower_of_lem (Some a) (Some b) = Some (lower a b)
 
 -- Rule Q4: no pairs. Every sum is 0, and there is no lowest.
 abbrev pub no_pairs_lem : LinkKind → LinkReport
-no_pairs_lem k = record { kind = k; pairs = 0; errors = 0; packets = 0; low = Absent; sum = pos 0 }
+no_pairs_lem k = record { kind = k; pairs = 0; errors = 0; packets = 0; low = None; sum = pos 0 }
 
 -- Rule Q4: one pair. Kind 9 has no signal strengths.
-abbrev pub lowest_in_lem : LinkKind → List ℕ → Lowest
-lowest_in_lem Tx p = Absent
-lowest_in_lem Rx p = Signal (signal_of p)
+abbrev pub lowest_in_lem : LinkKind → List ℕ → Option ℤ
+lowest_in_lem Tx p = None
+lowest_in_lem Rx p = Some (signal_of p)
 
 abbrev pub sum_in : LinkKind → List ℕ → ℤ
 sum_in Tx p = pos 0
@@ -82,13 +78,13 @@ is_zero (negsuc n) = false
 abbrev pub a_signal : ℤ → Bool
 a_signal l = le_z (negsuc 127) l && le_z l (pos 127)
 
-abbrev pub signals_fit_lem : LinkKind → ℕ → Lowest → ℤ → Bool
-signals_fit_lem Tx n Absent s = is_zero s
-signals_fit_lem Tx n (Signal l) s = false
-signals_fit_lem Rx zero Absent s = is_zero s
-signals_fit_lem Rx zero (Signal l) s = false
-signals_fit_lem Rx (suc n) Absent s = false
-signals_fit_lem Rx (suc n) (Signal l) s = a_signal l && (le_z (pos (suc n) *ℤ l) s && le_z s (l +ℤ pos (n * 127)))
+abbrev pub signals_fit_lem : LinkKind → ℕ → Option ℤ → ℤ → Bool
+signals_fit_lem Tx n None s = is_zero s
+signals_fit_lem Tx n (Some l) s = false
+signals_fit_lem Rx zero None s = is_zero s
+signals_fit_lem Rx zero (Some l) s = false
+signals_fit_lem Rx (suc n) None s = false
+signals_fit_lem Rx (suc n) (Some l) s = a_signal l && (le_z (pos (suc n) *ℤ l) s && le_z s (l +ℤ pos (n * 127)))
 
 -- Rule Q6: whether this is the report of some value.
 unfoldable pub some_value_gives_lem : LinkReport → Bool
@@ -113,8 +109,3 @@ mergeable a b =
 
 unfoldable pub merged : LinkReport → LinkReport → Answer LinkReport
 merged a b = cond {A = Answer LinkReport} (mergeable a b) (gives (added a b)) (refuses 19 [])
-
--- what each answer of the calls says
-abbrev pub reported_of : Reported → Answer LinkReport
-reported_of (Over r) = gives r
-reported_of (Refused r) = told r

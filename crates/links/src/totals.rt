@@ -1,15 +1,14 @@
 // Reports added up: over the pairs of a value (rule Q4), and one made from two (rules Q6 and Q7).
-ghost use Rattle.std.specs.Prelude.{◌≡◌, ◌+◌, ◌≤◌, ◌<◌, length, ◌+ℤ◌};
+ghost use Rattle.std.specs.Prelude.{◌≡◌, ◌+◌, ◌≤◌, ◌<◌, length, ◌+ℤ◌, Some};
 ghost use Rattle.std.specs.Int.{w32};
 ghost use Rattle.std.proofs.Common.{SFits};
 ghost use Rattle.numbers.specs.Numbers.{gives, mapped};
 ghost use Rattle.links.specs.declared.LinkKind.TheVariants.{Rx};
-ghost use Rattle.links.specs.declared.Lowest.TheVariants.{Signal};
 ghost use Rattle.links.specs.Pairs.{pairs_in};
 ghost use Rattle.links.specs.Reports.{lower, lower_of_lem, no_pairs_lem, one_pair_lem, added, report_over, signals_fit_lem, some_value_gives_lem, same_kind_lem, mergeable};
 ghost use Rattle.links.specs.PrivatePairs.{pair_bytes};
 
-use crate::{LinkKind, LinkReport, Lowest, pairs};
+use crate::{LinkKind, LinkReport, pairs};
 
 // The report over the n pairs of a value that reads. They stand one after the other, after two addresses.
 pub(crate) fn over_pairs(kind: LinkKind, value: &[u8], n: usize) -> LinkReport
@@ -36,7 +35,7 @@ fn no_pairs(kind: LinkKind) -> LinkReport
         pairs: 0,
         errors: 0,
         packets: 0,
-        low: Lowest::Absent,
+        low: None,
         sum: 0,
     }
 }
@@ -54,7 +53,7 @@ fn one_pair(kind: LinkKind, pair: &[u8]) -> LinkReport
             pairs: 1,
             errors,
             packets,
-            low: Lowest::Absent,
+            low: None,
             sum: 0,
         },
         LinkKind::Rx => {
@@ -64,7 +63,7 @@ fn one_pair(kind: LinkKind, pair: &[u8]) -> LinkReport
                 pairs: 1,
                 errors,
                 packets,
-                low: Lowest::Signal(signal),
+                low: Some(signal),
                 sum: signal as i32,
             }
         }
@@ -92,109 +91,62 @@ pub(crate) fn add(one: LinkReport, other: LinkReport) -> LinkReport
 }
 
 // The lower of two, where there are two.
-fn lower_of(one: Lowest, other: Lowest) -> Lowest
+fn lower_of(one: Option<i8>, other: Option<i8>) -> Option<i8>
     ensures { result ≡ lower_of_lem one other }
 {
-    match one {
-        Lowest::Absent => other,
-        Lowest::Signal(a) => match other {
-            Lowest::Absent => Lowest::Signal(a),
-            Lowest::Signal(b) => Lowest::Signal(lower(a, b)),
-        },
+    match (one, other) {
+        (Some(a), Some(b)) => Some(lower(a, b)),
+        (Some(_), None) => one,
+        (None, _) => other,
     }
 }
 
 fn lower(a: i8, b: i8) -> i8
     ensures { result ≡ lower a b }
 {
-    if b < a { b } else { a }
+    a.min(b)
 }
 
 // Whether two reports can be made into one (rule Q7).
 pub(crate) fn can_merge(one: LinkReport, other: LinkReport) -> bool
     ensures { result ≡ mergeable one other }
 {
-    let first = one.kind;
-    let second = other.kind;
-    if same_kind(first, second) {
-        if (one.pairs as u32) + (other.pairs as u32) <= 1024 {
-            if some_value_gives(one) {
-                return some_value_gives(other);
-            }
-        }
-    }
-    false
-}
-
-fn same_kind(one: LinkKind, other: LinkKind) -> bool
-    ensures { result ≡ same_kind_lem one other }
-{
-    match one {
-        LinkKind::Tx => match other {
-            LinkKind::Tx => true,
-            LinkKind::Rx => false,
-        },
-        LinkKind::Rx => match other {
-            LinkKind::Tx => false,
-            LinkKind::Rx => true,
-        },
-    }
+    one.kind == other.kind
+        && (one.pairs as u32) + (other.pairs as u32) <= 1024
+        && some_value_gives(one)
+        && some_value_gives(other)
 }
 
 // Whether this is the report of some value (rule Q6).
+#[tactic(auto, unfolding(crate::specs::Reports::some_value_gives_lem))]
 fn some_value_gives(r: LinkReport) -> bool
     ensures { result ≡ some_value_gives_lem r }
 {
-    if 1024 < r.pairs {
-        return false;
-    }
     let most = (r.pairs as u64) * 4294967295;
-    if most < r.errors {
-        return false;
-    }
-    if most < r.packets {
-        return false;
-    }
-    let kind = r.kind;
-    let lowest = r.low;
-    signals_fit(kind, r.pairs, lowest, r.sum)
+    r.pairs <= 1024
+        && r.errors <= most
+        && r.packets <= most
+        && signals_fit(r.kind, r.pairs, r.low, r.sum)
 }
 
 // The part of the test that is about signal strengths.
-fn signals_fit(kind: LinkKind, n: u16, lowest: Lowest, sum: i32) -> bool
+fn signals_fit(kind: LinkKind, n: u16, lowest: Option<i8>, sum: i32) -> bool
     requires { n ≤ 1024 }
     ensures { result ≡ signals_fit_lem kind n lowest sum }
 {
-    match lowest {
-        Lowest::Absent => match kind {
-            LinkKind::Tx => sum == 0,
-            LinkKind::Rx => {
-                if n == 0 {
-                    return sum == 0;
-                }
-                false
-            }
-        },
-        Lowest::Signal(l) => match kind {
-            LinkKind::Tx => false,
-            LinkKind::Rx => {
-                if n == 0 {
-                    return false;
-                }
-                sum_between(n, l, sum)
-            }
-        },
+    match (kind, lowest) {
+        (LinkKind::Tx, None) => sum == 0,
+        (LinkKind::Tx, Some(_)) => false,
+        (LinkKind::Rx, None) => n == 0 && sum == 0,
+        (LinkKind::Rx, Some(l)) => n != 0 && sum_between(n, l, sum),
     }
 }
 
 // Whether n signal strengths of which l is the lowest can have this sum. All of them are at least l, and one is l.
 fn sum_between(n: u16, l: i8, sum: i32) -> bool
     requires { (0 < n) × (n ≤ 1024) }
-    ensures { result ≡ signals_fit_lem Rx n (Signal l) sum }
+    ensures { result ≡ signals_fit_lem Rx n (Some l) sum }
 {
     let lowest = l as i32;
-    if (n as i32) * lowest <= sum {
-        return sum <= lowest + ((n - 1) as i32) * 127;
-    }
-    false
+    (n as i32) * lowest <= sum && sum <= lowest + ((n - 1) as i32) * 127
 }

@@ -1,42 +1,10 @@
--- The pair is there, or it is refused.
-use mathlib.Core.Path.{sym, ap, ◌∙◌}
-use Prim.Native.Nat.{◌+◌, ◌-◌, ◌≤◌}
-use native.Mathlib.Omega.{arith}
-use borrow.Author.Rules.{rules}
-use borrow.Author.Tests.{leb-true}
-use lib.ListN.{length, drop, length-drop}
-use lib.Seq.{length-take-le}
-use Rattle.layouts.specs.Layouts.{tx_pair_fields}
+-- What is read is what the fields say there, as it crosses to C.
+use Rattle.std.proofs.Common.{ap, ◌∙◌, []}
+use Rattle.fields.specs.Fields.{fields_at}
+use Rattle.fields.specs.Answers.{crossing}
 use Rattle.links.specs.Pairs.{tx_fields_lem, tx_numbers_lem, tx_pair_at_lem}
-use Rattle.links.proofs.At.{at_there, at_cut}
 use Rattle.links.proofs.tx_pair_at.Goals as goal
 
-pub overflow_add-at : goal.overflow_add-at
-overflow_add-at c =
-    let inside : c.args.at + 29 ≤ length c.args.s.now =
-    leb-true (c.args.at + 29) (length c.args.s.now) (sym c.there.ensures ∙ c.if-there.true) in
-    let h = inside in search rules
-
-pub slice_bounds-tx_fields-end : goal.slice_bounds-tx_fields-end
-slice_bounds-tx_fields-end c =
-    let inside : c.args.at + 29 ≤ length c.args.s.now =
-    leb-true (c.args.at + 29) (length c.args.s.now) (sym c.there.ensures ∙ c.if-there.true) in
-    let h = inside in search rules
-
-pub tx_fields-requires : goal.tx_fields-requires
-tx_fields-requires c =
-    let inside : c.args.at + 29 ≤ length c.args.s.now =
-    leb-true (c.args.at + 29) (length c.args.s.now) (sym c.there.ensures ∙ c.if-there.true) in
-    let h = inside in
-    let long = length-take-le (c.args.at + 29 - c.args.at) (drop c.args.at c.args.s.now) (rw length-drop (omega (arith, h))) in
-    omega (arith, long)
-
-pub returns-then-there : goal.returns-then-there
-unfolding tx_pair_at_lem
-returns-then-there c =
-    at_there tx_fields_lem tx_numbers_lem tx_pair_fields c.args.s.now c.args.at _ (sym c.there.ensures ∙ c.if-there.true) (c.tx_numbers.ensures ∙ ap (tx_numbers_lem 0) c.tx_fields.ensures)
-
 pub returns : goal.returns
-unfolding tx_pair_at_lem
-returns c =
-    at_cut tx_fields_lem tx_numbers_lem tx_pair_fields c.args.s.now c.args.at _ (sym c.there.ensures ∙ c.if-there.false) (c.tx_numbers-2.ensures ∙ ap (tx_numbers_lem 3) c.no_tx_pair.ensures)
+unfolding tx_pair_at_lem fields_at
+returns c = c.into.ensures ∙ ap (crossing tx_numbers_lem (tx_fields_lem [])) c.at_offset.ensures

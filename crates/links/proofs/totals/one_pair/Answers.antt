@@ -6,7 +6,7 @@ use lib.ListN.{length}
 use mir.Syntax.{w8}
 use mir.Val.{SFits}
 use mathlib.Core.Path.{subst}
-use Rattle.links.specs.declared.Lowest.TheVariants.{Signal}
+use Rattle.std.specs.Prelude.{Some}
 use Rattle.links.specs.Reports.{lowest_in_lem, sum_in}
 use Rattle.links.specs.PrivatePairs.{pair_bytes}
 use Rattle.links.proofs.Machine.{kept, widens, widened, signal_fits}
@@ -44,6 +44,6 @@ returns-in-Rx c =
       pairs = 1;
       errors = c.errors-errors.ensures i;
       packets = c.packets-packets.ensures i;
-      low = (ap Signal (kept w8 is fits) ∙ sym (ap (λ k. lowest_in_lem k p) c.in-Rx.is)) i;
+      low = (ap Some (kept w8 is fits) ∙ sym (ap (λ k. lowest_in_lem k p) c.in-Rx.is)) i;
       sum = (widened c.signal-signal.result (subst (SFits w8) (sym is) fits) ∙ is ∙ sym (ap (λ k. sum_in k p) c.in-Rx.is)) i;
     }

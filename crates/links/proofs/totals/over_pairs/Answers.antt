@@ -4,7 +4,7 @@ use Prim.Native.Nat.{◌+◌}
 use native.Mathlib.Omega.{arith}
 use borrow.Author.Rules.{rules}
 use Rattle.numbers.specs.Numbers.{gives}
-use Rattle.layouts.specs.Access.{Span}
+use Rattle.layouts.specs.declared.Span.{Span}
 use Rattle.links.specs.Reports.{one_pair_lem, added, report_over}
 use Rattle.links.proofs.Merging.{Fit}
 use Rattle.links.proofs.Reading.{Whole, long_part}

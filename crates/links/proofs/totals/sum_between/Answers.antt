@@ -23,7 +23,8 @@ returns-then-n-lowest c =
     high_test x.n x.l c.requires.1 c.ranges.l x.sum c.ranges.sum ∙
     by_first x.n x.l c.requires.1 c.ranges.l x.sum c.ranges.sum true c.requires.0 c.if-n-lowest.true
 
-pub returns : goal.returns
-returns c =
+pub returns-else-n-lowest : goal.returns-else-n-lowest
+returns-else-n-lowest c =
     let x = c.args in
+    c.if-n-lowest.false ∙
     by_first x.n x.l c.requires.1 c.ranges.l x.sum c.ranges.sum false c.requires.0 c.if-n-lowest.false
