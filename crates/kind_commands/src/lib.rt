@@ -5,45 +5,46 @@ mod framed;
 mod typed;
 mod written;
 
-ghost use Rattle.std.specs.Prelude.{◌≤◌};
+ghost use Rattle.std.specs.Prelude.{◌≤◌, IfSome};
 
 use answer_lines::Answers;
+use command_lines::Fields;
+use numbers::Refusal;
 
-// Which field of a line has the bytes of these commands, 8 where none has. For any other letter it is 0.
-pub fn field_of_bytes(letter: u8) -> usize
-    ensures { result ≤ 8 }
+// Which field of a line has the command's bytes, for the letters of these commands; 8 for f, which has none.
+pub fn field_of_bytes(letter: u8) -> Option<usize>
+    ensures { IfSome result (λ n. n ≤ 8) }
 {
     match letter {
-        b't' | b'h' => 1,
-        b'r' | b'a' | b'U' => 2,
-        b'w' | b's' | b'e' | b'u' => 3,
-        b'f' => 8,
-        _ => 0,
+        b't' | b'h' => Some(1),
+        b'r' | b'a' | b'U' => Some(2),
+        b'w' | b's' | b'e' | b'u' => Some(3),
+        b'f' => Some(8),
+        _ => None,
     }
 }
 
-// The commands that read.
-fn answer_read(line: &[u8], bytes: &[u8], text: &mut Answers, used: usize) -> usize
-    ensures { result ≤ 65536 }
-{
-    let code = command_lines::byte_in(line, 1);
-    match command_lines::byte_at(line, 0) {
-        b't' => framed::read(bytes, text, used),
-        b'h' => framed::header(bytes, text, used),
-        b'r' => typed::read(code, bytes, text, used),
-        b'e' => typed::entry(code, command_lines::field(line, 2), bytes, text, used),
-        b'a' => typed::entries(code, bytes, text, used),
-        b'u' => typed::text_of(code, command_lines::size_in(line, 2), bytes, text, used),
-        _ => typed::radio_text(command_lines::size_in(line, 1), bytes, text, used),
+fn answered(
+    line: &Fields,
+    bytes: &[u8],
+    out: &mut [u8],
+    text: &mut Answers,
+) -> Result<(), Refusal> {
+    match line.letter() {
+        b'w' | b's' | b'f' => written::answer(line, bytes, out, text),
+        b't' => framed::read(bytes, text),
+        b'h' => framed::header(bytes, text),
+        b'r' => typed::read(line.byte(1), bytes, text),
+        b'e' => typed::entry(line.byte(1), &line.pieces(2, b'.'), bytes, text),
+        b'a' => typed::entries(line.byte(1), bytes, text),
+        b'u' => typed::text_of(line.byte(1), line.size(2), bytes, text),
+        _ => typed::radio_text(line.size(1), bytes, text),
     }
 }
 
-// Answers one line from the bytes that it has. Returns where the text then ends.
-pub fn answer(line: &[u8], bytes: &[u8], out: &mut [u8], text: &mut Answers, used: usize) -> usize
-    ensures { result ≤ 65536 }
-{
-    match command_lines::byte_at(line, 0) {
-        b'w' | b's' | b'f' => written::answer(line, bytes, out, text, used),
-        _ => answer_read(line, bytes, text, used),
+// Answers one line from the bytes that it has.
+pub fn answer(line: &Fields, bytes: &[u8], out: &mut [u8], text: &mut Answers) {
+    if let Err(refusal) = answered(line, bytes, out, text) {
+        text.put_refused(refusal);
     }
 }
