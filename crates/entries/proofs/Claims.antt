@@ -8,12 +8,14 @@ use lib.Dec.{eqb}
 use lib.ListN.{length}
 use borrow.Author.Tests.{eqb-true}
 use Rattle.numbers.specs.Numbers.{Answer, gives, refuses, and_then, mapped}
-use Rattle.numbers.proofs.Firm.{by_telling, firm, never}
+use Rattle.numbers.proofs.Firm.{by_answer, never}
 use Rattle.numbers.proofs.Answers.{given, gave, follows, stops, mapped_given, mapped_gave, mapped_refused}
 use Rattle.records.specs.declared.Record.{Record}
 use Rattle.records.specs.Reading.{read_record_lem}
 use Rattle.layouts.specs.Layouts.{Layout, layout_of, is_list_lem}
-use Rattle.layouts.specs.Reading.{ListAt, list_of, Consumed, read_as_lem, read_value_lem}
+use Rattle.layouts.specs.declared.ListAt.{ListAt}
+use Rattle.layouts.specs.declared.Consumed.{Consumed}
+use Rattle.layouts.specs.Reading.{list_of, read_as_lem, read_value_lem}
 use Rattle.layouts.specs.Access.{length_at, span_of, at_level, pass_entry, locate_entry, count_entries, of_value_lem}
 use Rattle.layouts.proofs.Values.{ended, answers}
 use Rattle.layouts.proofs.Passes.{level_here, pass_enter}
@@ -21,42 +23,19 @@ use Rattle.layouts.proofs.Claims as lists
 use Rattle.texts.specs.Texts.{TextKind, inventory_code, text_kind, is_text_lem}
 use Rattle.texts.specs.Reading.{whole_of, consumed_in, read_text}
 use Rattle.texts.specs.Access.{of_text, count_radios}
-use Rattle.kinds.specs.Kinds.{Typed, one_record, one_list, read_kind_lem, locate_kind, count_kind}
+use Rattle.kinds.specs.declared.Typed.{Typed}
+use Rattle.kinds.specs.Kinds.{one_record, one_list, read_kind_lem, locate_kind, count_kind}
 use Rattle.kinds.proofs.Apart.{apart}
 use Rattle.kinds.proofs.Laws.{as_list, as_text, as_record}
-use Rattle.entries.specs.declared.Begun.{Begun}
-use Rattle.entries.specs.declared.Went.{Went}
-use Rattle.entries.specs.Entries.{Start, first_cursor_lem, entries_in_lem, list_in, beginning, begun_of, Step, next_is, none_left_lem, went_of}
+use Rattle.entries.specs.declared.Start.{Start}
+use Rattle.entries.specs.Entries.{first_cursor_lem, entries_in_lem, list_in, beginning}
 use Rattle.entries.specs.Claims.{Firmness, GoesOver, by_numbers, AsAsked, AsCounted, Claims}
 use Rattle.entries.proofs.Laws.{begun_not, begun_on}
 use Rattle.entries.proofs.Lists as by-lists
 use Rattle.entries.proofs.Radios as by-radios
 
--- no two answers are said alike
-begun_told : (a b : Begun) → begun_of a ≡ begun_of b → a ≡ b
-begun_told (Begun.At c n k m) (Begun.At d o l p) e = ap (λ b. Begun.At b.cursor b.entries b.consumed b.rest) (given _ _ e)
-begun_told (Begun.At c n k m) (Begun.Refused x) e = never _ _ _ e
-begun_told (Begun.Refused x) (Begun.At c n k m) e = never _ _ _ (sym e)
-begun_told (Begun.Refused x) (Begun.Refused y) e = ap Begun.Refused (firm Start x y e)
-
--- what was given is the answer that is made of it
-abbrev went_as : Step → Went
-went_as (next_is e c) = Went.Next e c
-went_as none_left_lem = Went.NoMore
-
-pub went_told : (a b : Went) → went_of a ≡ went_of b → a ≡ b
-went_told (Went.Next e c) (Went.Next f d) x = ap went_as (given _ _ x)
-went_told (Went.Next e c) Went.NoMore x = ap went_as (given _ _ x)
-went_told (Went.Next e c) (Went.Refused r) x = never _ _ _ x
-went_told Went.NoMore (Went.Next e c) x = ap went_as (given _ _ x)
-went_told Went.NoMore Went.NoMore x = refl
-went_told Went.NoMore (Went.Refused r) x = never _ _ _ x
-went_told (Went.Refused r) (Went.Next e c) x = never _ _ _ (sym x)
-went_told (Went.Refused r) Went.NoMore x = never _ _ _ (sym x)
-went_told (Went.Refused r) (Went.Refused q) x = ap Went.Refused (firm Step r q x)
-
 firmness : Firmness
-firmness = record { begin = λ code depth s. by_telling begun_of begun_told _; go_on = λ cursor s. by_telling went_of went_told _ }
+firmness = record { begin = λ code depth s. by_answer _; go_on = λ cursor s. by_answer _ }
 
 -- no list kind has the code of DeviceInventory
 no_inventory : (code : ℕ) (l : Layout) → layout_of code ≡ gives l → eqb code inventory_code ≡ false

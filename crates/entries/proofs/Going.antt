@@ -8,7 +8,8 @@ use native.Mathlib.Omega.{arith}
 use lib.ListN.{length, length-append}
 use Rattle.numbers.specs.Numbers.{Answer, gives, and_then}
 use Rattle.numbers.proofs.Answers.{given, gave, follows}
-use Rattle.layouts.specs.Reading.{ListAt, entries_end}
+use Rattle.layouts.specs.declared.ListAt.{ListAt}
+use Rattle.layouts.specs.Reading.{entries_end}
 use Rattle.kinds.specs.Kinds.{count_kind}
 use Rattle.entries.specs.declared.Cursor.{Cursor}
 use Rattle.entries.specs.declared.EntryAt.{EntryAt}

@@ -1,7 +1,7 @@
 -- How the definitions of the cursor go on: the level of the next entry, the step, and the beginning.
 use mathlib.Core.Path.{◌≡◌, refl, ap, ◌∙◌}
 use mathlib.Core.Bool.{true}
-use mathlib.Core.List.{List}
+use mathlib.Core.List.{List, []}
 use Prim.Native.Nat.{ℕ, zero, suc, ◌-◌, ◌<◌, ◌≤◌}
 use native.Mathlib.Omega.{arith}
 use lib.Dec.{ltb}
@@ -9,10 +9,14 @@ use borrow.Author.Tests.{lt-ltb, le-ltb}
 use Rattle.numbers.specs.Numbers.{Answer, gives, refuses, mapped}
 use Rattle.numbers.proofs.Answers.{mapped_given, mapped_refused, follows, stops}
 use Rattle.records.specs.declared.Record.{Record}
-use Rattle.layouts.specs.Reading.{ListAt}
-use Rattle.kinds.specs.Kinds.{Typed, read_kind_lem}
+use Rattle.layouts.specs.declared.ListAt.{ListAt}
+use Rattle.std.specs.Prelude.{Option}
+use Rattle.entries.specs.declared.Gone.{Gone}
+use Rattle.kinds.specs.declared.Contents.{Contents}
+use Rattle.kinds.specs.declared.Typed.{Typed}
+use Rattle.kinds.specs.Kinds.{read_kind_lem}
 use Rattle.entries.specs.declared.Cursor.{Cursor}
-use Rattle.entries.specs.Entries.{first_left, first_cursor_lem, list_in, beginning, pass_in_lem, next_level_lem, entered, moved, Step, next_is, none_left_lem, stepped, gone_from, gone_on_lem}
+use Rattle.entries.specs.Entries.{first_left, first_cursor_lem, entries_in_lem, list_in, beginning, pass_in_lem, next_level_lem, entered, moved, next_is, none_left_lem, stepped, gone_from, gone_on_lem}
 
 -- the same of an answer is the same
 mapped_alike : {A B : Type 0} (f g : A → B) (x : Answer A) → ((a : A) → f a ≡ g a) → mapped f x ≡ mapped g x
@@ -62,6 +66,17 @@ module _ (code depth : ℕ) (s : List ℕ) where
     unfolding beginning
     begun_on = follows (read_kind_lem code s) t _ x
 
+    -- a record has no entries; a list has those that are found
+    pub begun_record : (r : Record) → t.held ≡ Contents.One r → beginning code depth s ≡ refuses 6 []
+    begun_record r h = begun_on ∙ rw h
+
+    module _ (n : ℕ) (h : t.held ≡ Contents.List n) where
+      pub begun_list : (m : ListAt) → entries_in_lem code s ≡ gives m → beginning code depth s ≡ gives (record { cursor = first_cursor_lem code depth m; entries = m.many; consumed = t.consumed; rest = t.rest })
+      begun_list m e = begun_on ∙ rw (h, e)
+
+      pub begun_cut : (k : ℕ) (vs : List ℕ) → entries_in_lem code s ≡ refuses k vs → beginning code depth s ≡ refuses k vs
+      begun_cut k vs e = begun_on ∙ rw (h, e)
+
 -- the cursors of each level, and the steps from them
 module _ (code depth : ℕ) (s : List ℕ) where
   abbrev pub cursor : ℕ → ℕ → ℕ → ℕ → Cursor
@@ -72,7 +87,7 @@ module _ (code depth : ℕ) (s : List ℕ) where
   no_more p = rw (none_left (cursor p 0 0 0) (omega arith) (omega arith) (omega arith))
 
   -- what a step of level k from p gives: the entry, and a cursor that depends on where it goes on and on what it enters
-  abbrev pub step_to : ℕ → ℕ → (ℕ → ℕ → Cursor) → Answer Step
+  abbrev pub step_to : ℕ → ℕ → (ℕ → ℕ → Cursor) → Answer (Option Gone)
   step_to k p next = mapped (λ m. next_is (record { start = p; entries = m.many; level = k }) (next m.first (entered (ltb k depth) m.many))) (pass_in_lem code k (ltb k depth) s p)
 
   from : (k p i j n : ℕ) (next : ℕ → ℕ → Cursor) → next_level_lem (cursor p i j n) ≡ k → (k ≡ 0 → ⊥) → ((m q : ℕ) → moved (cursor p i j n) m q ≡ next q m) →

@@ -10,7 +10,8 @@ use Rattle.numbers.specs.Numbers.{Answer, gives, and_then, mapped}
 use Rattle.numbers.proofs.Firm.{never}
 use Rattle.numbers.proofs.Answers.{given, follows, mapped_given, mapped_refused}
 use Rattle.layouts.specs.Layouts.{Counting, Layout, bytes, entry, layout_of}
-use Rattle.layouts.specs.Reading.{ListAt, list_of, entries_end, end_of}
+use Rattle.layouts.specs.declared.ListAt.{ListAt}
+use Rattle.layouts.specs.Reading.{list_of, entries_end, end_of}
 use Rattle.layouts.specs.Access.{below, Spot, find_entry_lem, start_in, span_of, length_at, at_level, gone_over, pass_entry}
 use Rattle.layouts.specs.Claims.{levels_of}
 use Rattle.layouts.proofs.Within.{list_leaf, leafless, ends_in}

@@ -1,17 +1,18 @@
 -- What is claimed of the cursor, besides what the calls promise; proofs/Claims.antt proves it.
 use Rattle.std.specs.Prelude.{◌≡◌, List, [], ◌∷◌, ◌++◌, ℕ, zero, suc, length}
-use Rattle.numbers.specs.Numbers.{Answer, gives, refuses, mapped}
+use Rattle.numbers.specs.Numbers.{Answer, gives, refuses, mapped, answered}
 use Rattle.numbers.specs.Firmness.{Firm}
 use Rattle.layouts.specs.Access.{start_in}
 use Rattle.kinds.specs.Kinds.{locate_kind, count_kind}
 use Rattle.entries.specs.declared.Cursor.{Cursor}
 use Rattle.entries.specs.declared.EntryAt.{EntryAt}
-use Rattle.entries.specs.Entries.{Start, beginning, begun_of, next_is, none_left_lem, gone_on_lem, went_of}
+use Rattle.entries.specs.declared.Start.{Start}
+use Rattle.entries.specs.Entries.{beginning, next_is, none_left_lem, gone_on_lem}
 
 -- Rule A4: for each public call, by its name, any two answers that its contract allows are one.
 pub record Firmness : Type 0 where
-  pub begin : (code depth : ℕ) (s : List ℕ) → Firm (λ r. begun_of r ≡ beginning code depth s)
-  pub go_on : (cursor : Cursor) (s : List ℕ) → Firm (λ r. went_of r ≡ gone_on_lem cursor s)
+  pub begin : (code depth : ℕ) (s : List ℕ) → Firm (λ r. answered r ≡ beginning code depth s)
+  pub go_on : (cursor : Cursor) (s : List ℕ) → Firm (λ r. answered r ≡ gone_on_lem cursor s)
 
 -- Going on from c over the bytes s gives these entries, one after the other, and then the end. Nothing is refused.
 pub data GoesOver (s : List ℕ) : Cursor → List EntryAt → Type 0 where

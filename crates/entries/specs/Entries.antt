@@ -1,23 +1,18 @@
 -- The entries of a value in order, one at a time (rule E9).
-use Rattle.std.specs.Prelude.{Bool, true, false, cond, List, [], ℕ, zero, suc, ◌-◌, eqb, ltb}
-use Rattle.numbers.specs.Numbers.{Answer, gives, refuses, told, and_then, mapped}
+use Rattle.std.specs.Prelude.{Option, Some, None, Bool, true, false, cond, List, [], ℕ, zero, suc, ◌-◌, eqb, ltb}
+use Rattle.numbers.specs.Numbers.{Answer, gives, refuses, and_then, mapped}
 use Rattle.records.specs.declared.Record.{Record}
-use Rattle.layouts.specs.Reading.{ListAt, end_of}
+use Rattle.layouts.specs.declared.ListAt.{ListAt}
+use Rattle.layouts.specs.Reading.{end_of}
 use Rattle.layouts.specs.Access.{pass_entry}
 use Rattle.texts.specs.Texts.{inventory_code, is_text_lem, radio}
 use Rattle.texts.specs.Access.{radios_of}
-use Rattle.kinds.specs.Kinds.{Contents, one, list, read_kind_lem}
+use Rattle.kinds.specs.declared.Contents.{Contents}
+use Rattle.kinds.specs.Kinds.{read_kind_lem}
 use Rattle.entries.specs.declared.Cursor.{Cursor}
 use Rattle.entries.specs.declared.EntryAt.{EntryAt}
-use Rattle.entries.specs.declared.Begun.{Begun}
-use Rattle.entries.specs.declared.Went.{Went}
-
--- what beginning gives: the cursor at the first entry, the entries of the outermost list, and the bytes (rule K1)
-pub record Start : Type 0 where
-  pub cursor : Cursor
-  pub entries : ℕ
-  pub consumed : ℕ
-  pub rest : ℕ
+use Rattle.entries.specs.declared.Start.{Start}
+use Rattle.entries.specs.declared.Gone.{Gone}
 
 -- Rule E9: the cursor at the first entry of a list. Without a level to go into, no entry is to come.
 abbrev pub first_left : ℕ → ℕ → ℕ
@@ -33,8 +28,8 @@ entries_in_lem code s = cond (is_text_lem code) (radios_of code s) (pass_entry c
 
 -- Rules E3 and E9: a record has no entries: 6.
 abbrev pub list_in : Contents Record → ℕ → List ℕ → Answer ListAt
-list_in (one r) code s = refuses 6 []
-list_in (list n) code s = entries_in_lem code s
+list_in (Contents.One r) code s = refuses 6 []
+list_in (Contents.List n) code s = entries_in_lem code s
 
 -- Rule E9: the value s has to read first.
 unfoldable pub beginning : ℕ → ℕ → List ℕ → Answer Start
@@ -59,39 +54,28 @@ abbrev pub entered : Bool → ℕ → ℕ
 entered true n = n
 entered false n = 0
 
-abbrev pub standing : Cursor → ℕ → ℕ → ℕ → ℕ → Cursor
-standing c p i j k = record { at = p; left1 = i; left2 = j; left3 = k; code = c.code; depth = c.depth }
-
 -- Rule E9: the cursor after the next entry: one less is left in its list, and n in the list below it.
 unfoldable pub moved : Cursor → ℕ → ℕ → Cursor
 moved c n p =
-    cond (ltb 0 c.left3) (standing c p c.left1 c.left2 (c.left3 - 1))
-    (cond (ltb 0 c.left2) (standing c p c.left1 (c.left2 - 1) n)
-    (standing c p (c.left1 - 1) n 0))
+    cond (ltb 0 c.left3) (record { at = p; left1 = c.left1; left2 = c.left2; left3 = c.left3 - 1; code = c.code; depth = c.depth })
+    (cond (ltb 0 c.left2) (record { at = p; left1 = c.left1; left2 = c.left2 - 1; left3 = n; code = c.code; depth = c.depth })
+    (record { at = p; left1 = c.left1 - 1; left2 = n; left3 = 0; code = c.code; depth = c.depth }))
 
 -- what going on gives: an entry and the cursor after it, or the end
-pub data Step : Type 0 where
-  next_is : EntryAt → Cursor → Step
-  none_left_lem : Step
+abbrev pub next_is : EntryAt → Cursor → Option Gone
+next_is e c = Some (record { entry = e; cursor = c })
+
+abbrev pub none_left_lem : Option Gone
+none_left_lem = None
 
 -- Rule E9: an entry's list is entered if its level is below the depth; otherwise it is passed.
-abbrev pub stepped : Cursor → ℕ → ListAt → Step
+abbrev pub stepped : Cursor → ℕ → ListAt → Option Gone
 stepped c k m = next_is (record { start = c.at; entries = m.many; level = k }) (moved c (entered (ltb k c.depth) m.many) m.first)
 
-abbrev pub gone_from : ℕ → Cursor → List ℕ → Answer Step
+abbrev pub gone_from : ℕ → Cursor → List ℕ → Answer (Option Gone)
 gone_from zero c s = gives none_left_lem
 gone_from (suc k) c s = mapped (stepped c (suc k)) (pass_in_lem c.code (suc k) (ltb (suc k) c.depth) s c.at)
 
 -- Rule E9: the next entry.
-unfoldable pub gone_on_lem : Cursor → List ℕ → Answer Step
+unfoldable pub gone_on_lem : Cursor → List ℕ → Answer (Option Gone)
 gone_on_lem c s = gone_from (next_level_lem c) c s
-
--- what each answer of the calls says
-abbrev pub begun_of : Begun → Answer Start
-begun_of (Begun.At c n k m) = gives (record { cursor = c; entries = n; consumed = k; rest = m })
-begun_of (Begun.Refused r) = told r
-
-abbrev pub went_of : Went → Answer Step
-went_of (Went.Next e c) = gives (next_is e c)
-went_of Went.NoMore = gives none_left_lem
-went_of (Went.Refused r) = told r

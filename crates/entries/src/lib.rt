@@ -4,11 +4,11 @@
 #![tactic(auto)]
 
 ghost use Rattle.std.specs.Prelude.{◌≡◌, ◌<◌};
-ghost use Rattle.layouts.specs.Reading.{listing_of};
-ghost use Rattle.entries.specs.Entries.{entries_in_lem, first_cursor_lem, begun_of, beginning, pass_radio_lem, pass_in_lem, entered, next_level_lem, standing, moved, went_of, gone_on_lem};
+ghost use Rattle.numbers.specs.Numbers.{answered};
+ghost use Rattle.entries.specs.Entries.{entries_in_lem, first_cursor_lem, beginning, pass_radio_lem, pass_in_lem, entered, next_level_lem, moved, gone_on_lem};
 
-use kinds::KindRead;
-use layouts::{Ending, Listing};
+use kinds::Contents;
+use layouts::ListAt;
 use numbers::Refusal;
 use texts::DEVICE_INVENTORY;
 
@@ -39,27 +39,24 @@ pub struct EntryAt {
 // The entries of a value begun: the cursor at the first one, how many entries the outermost list has, and how many bytes
 // were consumed and follow these (rule K1).
 #[derive(Clone, Copy)]
-pub enum Begun {
-    At {
-        cursor: Cursor,
-        entries: usize,
-        consumed: usize,
-        rest: usize,
-    },
-    Refused(Refusal),
+pub struct Start {
+    pub cursor: Cursor,
+    pub entries: usize,
+    pub consumed: usize,
+    pub rest: usize,
 }
 
-// What going on gives: the next entry with the cursor after it, or that there is none left.
+// The next entry, with the cursor after it.
 #[derive(Clone, Copy)]
-pub enum Went {
-    Next { entry: EntryAt, cursor: Cursor },
-    NoMore,
-    Refused(Refusal),
+pub struct Gone {
+    pub entry: EntryAt,
+    pub cursor: Cursor,
 }
 
 // The outermost list of a value that reads and is no record.
-fn entries_in(code: u8, s: &[u8]) -> Listing
-    ensures { listing_of result ≡ entries_in_lem code s.now }
+#[tactic(auto, unfolding(crate::specs::Entries::entries_in_lem))]
+fn entries_in(code: u8, s: &[u8]) -> Result<ListAt, Refusal>
+    ensures { answered result ≡ entries_in_lem code s.now }
 {
     if texts::is_text(code) {
         return texts::radios(code, s);
@@ -67,17 +64,14 @@ fn entries_in(code: u8, s: &[u8]) -> Listing
     layouts::pass(code, 0, true, s, 0)
 }
 
-// The cursor at the first of n entries. If no level is gone into, none is to come.
-fn first_cursor(code: u8, depth: u8, n: usize, first: usize) -> Cursor
-    ensures { result ≡ first_cursor_lem code depth (record { many = n; first = first }) }
+// The cursor at the first entry of this list. If no level is gone into, none is to come.
+#[tactic(auto, using(crate::proofs::Laws::first_all))]
+fn first_cursor(code: u8, depth: u8, list: ListAt) -> Cursor
+    ensures { result ≡ first_cursor_lem code depth list }
 {
-    let mut left1 = n;
-    if depth == 0 {
-        left1 = 0;
-    }
     Cursor {
-        at: first,
-        left1,
+        at: list.first,
+        left1: if depth == 0 { 0 } else { list.many },
         left2: 0,
         left3: 0,
         code,
@@ -87,48 +81,42 @@ fn first_cursor(code: u8, depth: u8, n: usize, first: usize) -> Cursor
 
 // Begins the entries of the value s, down to `depth` levels (rule E9). The value is read whole, with the refusals of
 // reading; then 6 for a record kind.
-pub fn begin(code: u8, depth: u8, s: &[u8]) -> Begun
-    ensures { begun_of result ≡ beginning code depth s.now }
+#[tactic(auto, using(crate::proofs::Laws::begun_not, crate::proofs::Laws::begun_record, crate::proofs::Laws::begun_list, crate::proofs::Laws::begun_cut))]
+pub fn begin(code: u8, depth: u8, s: &[u8]) -> Result<Start, Refusal>
+    ensures { answered result ≡ beginning code depth s.now }
 {
-    match kinds::read_kind(code, s) {
-        KindRead::List {
-            entries: _,
-            consumed,
-            rest,
-        } => match entries_in(code, s) {
-            Listing::Of { n, first } => Begun::At {
-                cursor: first_cursor(code, depth, n, first),
-                entries: n,
-                consumed,
-                rest,
-            },
-            Listing::Refused(r) => Begun::Refused(r),
-        },
-        KindRead::Record {
-            record: _,
-            consumed: _,
-            rest: _,
-        } => Begun::Refused(Refusal::NoEntry),
-        KindRead::Refused(r) => Begun::Refused(r),
-    }
+    let value = kinds::read_kind(code, s)?;
+    let Contents::List(_) = value.held else {
+        return Err(Refusal::NoEntry);
+    };
+    let list = entries_in(code, s)?;
+    Ok(Start {
+        cursor: first_cursor(code, depth, list),
+        entries: list.many,
+        consumed: value.consumed,
+        rest: value.rest,
+    })
 }
 
 // A radio is the one entry of a DeviceInventory that there is, and it has no list (rule E8).
-fn pass_radio(level: u8, s: &[u8], at: usize) -> Listing
-    ensures { listing_of result ≡ pass_radio_lem level s.now at }
+#[tactic(auto, unfolding(crate::specs::Entries::pass_radio_lem))]
+fn pass_radio(level: u8, s: &[u8], at: usize) -> Result<ListAt, Refusal>
+    ensures { answered result ≡ pass_radio_lem level s.now at }
 {
     if level != 1 {
-        return Listing::Refused(Refusal::NoEntry);
+        return Err(Refusal::NoEntry);
     }
-    match texts::radio_end(s, at) {
-        Ending::At(end) => Listing::Of { n: 0, first: end },
-        Ending::Refused(r) => Listing::Refused(r),
-    }
+    let end = texts::radio_end(s, at)?;
+    Ok(ListAt {
+        many: 0,
+        first: end,
+    })
 }
 
 // Goes over the entry of this level at `at`: how many entries its own list has, and where to go on.
-fn pass_in(code: u8, level: u8, enter: bool, s: &[u8], at: usize) -> Listing
-    ensures { listing_of result ≡ pass_in_lem code level enter s.now at }
+#[tactic(auto, unfolding(crate::specs::Entries::pass_in_lem))]
+fn pass_in(code: u8, level: u8, enter: bool, s: &[u8], at: usize) -> Result<ListAt, Refusal>
+    ensures { answered result ≡ pass_in_lem code level enter s.now at }
 {
     if code == DEVICE_INVENTORY {
         return pass_radio(level, s, at);
@@ -137,6 +125,7 @@ fn pass_in(code: u8, level: u8, enter: bool, s: &[u8], at: usize) -> Listing
 }
 
 // The level of the next entry: the deepest list with entries left goes first. 0 where none is left.
+#[tactic(auto, unfolding(crate::specs::Entries::next_level_lem))]
 fn next_level(cursor: Cursor) -> u8
     ensures { result ≡ next_level_lem cursor }
 {
@@ -162,54 +151,55 @@ fn entered(enter: bool, n: usize) -> usize
     0
 }
 
-// This cursor at another place, with other numbers of entries left.
-fn standing(cursor: Cursor, at: usize, left1: usize, left2: usize, left3: usize) -> Cursor
-    ensures { result ≡ standing cursor at left1 left2 left3 }
-{
-    Cursor {
-        at,
-        left1,
-        left2,
-        left3,
-        code: cursor.code,
-        depth: cursor.depth,
-    }
-}
-
 // The cursor after the next entry: one less is left in its list, and n in the list below it.
+#[tactic(auto, using(crate::proofs::Laws::outermost), unfolding(crate::specs::Entries::moved))]
 fn moved(cursor: Cursor, n: usize, at: usize) -> Cursor
     requires { 0 < next_level_lem cursor }
     ensures { result ≡ moved cursor n at }
 {
     if 0 < cursor.left3 {
-        return standing(cursor, at, cursor.left1, cursor.left2, cursor.left3 - 1);
+        return Cursor {
+            at,
+            left3: cursor.left3 - 1,
+            ..cursor
+        };
     }
     if 0 < cursor.left2 {
-        return standing(cursor, at, cursor.left1, cursor.left2 - 1, n);
+        return Cursor {
+            at,
+            left2: cursor.left2 - 1,
+            left3: n,
+            ..cursor
+        };
     }
-    standing(cursor, at, cursor.left1 - 1, n, 0)
+    Cursor {
+        at,
+        left1: cursor.left1 - 1,
+        left2: n,
+        left3: 0,
+        ..cursor
+    }
 }
 
-// The next entry of the value s (rule E9). Any cursor is taken, and any bytes: one that `begin` didn't make, or a value
-// that was altered in between, gets an answer or a refusal.
-pub fn go_on(cursor: Cursor, s: &[u8]) -> Went
-    ensures { went_of result ≡ gone_on_lem cursor s.now }
+// The next entry of the value s, or that none is left (rule E9). Any cursor is taken, and any bytes: one that `begin`
+// didn't make, or a value that was altered in between, gets an answer or a refusal.
+#[tactic(auto, using(crate::proofs::Laws::gone_to, crate::proofs::Laws::gone_cut), unfolding(crate::specs::Entries::gone_on_lem))]
+pub fn go_on(cursor: Cursor, s: &[u8]) -> Result<Option<Gone>, Refusal>
+    ensures { answered result ≡ gone_on_lem cursor s.now }
 {
     let level = next_level(cursor);
     if level == 0 {
-        return Went::NoMore;
+        return Ok(None);
     }
     let enter = level < cursor.depth;
-    let start = cursor.at;
-    match pass_in(cursor.code, level, enter, s, start) {
-        Listing::Of { n, first } => Went::Next {
-            entry: EntryAt {
-                start,
-                entries: n,
-                level,
-            },
-            cursor: moved(cursor, entered(enter, n), first),
-        },
-        Listing::Refused(r) => Went::Refused(r),
-    }
+    let list = pass_in(cursor.code, level, enter, s, cursor.at)?;
+    let entry = EntryAt {
+        start: cursor.at,
+        entries: list.many,
+        level,
+    };
+    Ok(Some(Gone {
+        entry,
+        cursor: moved(cursor, entered(enter, list.many), list.first),
+    }))
 }

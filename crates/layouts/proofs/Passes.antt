@@ -45,7 +45,7 @@ module _ (l : Layout) (s : List ℕ) (p : ℕ) (m : ListAt) (has : list_of l s p
     go (bytes n) x = leafless n s p m x
     go (entry n w e) x = x
 
-  pass_over : gone_over false l s p ≡ mapped (λ q. record { many = m.many; first = q }) (end_of l s p)
+  pub pass_over : gone_over false l s p ≡ mapped (λ q. record { many = m.many; first = q }) (end_of l s p)
   unfolding gone_over
   pass_over = go l has where
     go : (l : Layout) → list_of l s p ≡ gives m → gone_over false l s p ≡ mapped (λ q. record { many = m.many; first = q }) (end_of l s p)
