@@ -1,3 +1,4 @@
+pub mod Lookups
 pub mod Ways
 pub mod Associations
 pub mod Written

@@ -1,19 +1,15 @@
 -- Laws of the rows: what a look-up that is done says of the definitions, one law for each way through a call.
-use mathlib.Core.Path.{◌≡◌, refl, sym, ap, ◌∙◌}
-use mathlib.Core.Bool.{Bool, true, false, cond, not}
+use mathlib.Core.Path.{◌≡◌, sym}
+use mathlib.Core.Bool.{true, false}
 use mathlib.Core.List.{[]}
 use Prim.Native.Nat.{ℕ, ◌+◌, ◌≤◌, ◌<◌}
-use native.Mathlib.Numerals.{add-one}
 use lib.Dec.{eqb}
-use lib.ListN.{get_or, set}
+use lib.ListN.{set}
 use borrow.Author.Tests.{lt-ltb, le-ltb}
 use Rattle.numbers.specs.Numbers.{Answer, gives, refuses}
 use Rattle.stations.specs.declared.Heard.{Heard}
 use Rattle.stations.specs.Whereabouts.{nowhere, at, Event, heard_of_join}
-use Rattle.stations.specs.Rows.{Stations, row_with_lem, point_at, where_of, all_held, answer_to, after_join, after_leave, with_row, is_held}
-use Rattle.stations.specs.PrivateEvents.{one_if_lem}
-use Rattle.searching.specs.Count.{how_many}
-use Rattle.searching.proofs.Count.{one, count_next}
+use Rattle.stations.specs.Rows.{Stations, row_with_lem, point_at, where_of, all_held, answer_to, after_join, after_leave, with_row}
 
 module _ (t : Stations) (station : ℕ) where
   abbrev row : ℕ
@@ -72,11 +68,3 @@ module _ (t : Stations) (station point : ℕ) where
   pub not_held : (n : ℕ) → n ≡ row_with_lem t (station + 1) → 128 ≤ n → Left (gives Heard.Stale) t
   unfolding after_leave
   not_held n e h = (rw (unknown_place t station n e h), rw (unknown_place t station n e h))
-
--- one more row is counted
-pub one_counted : (t : Stations) (n : ℕ) → how_many (is_held t) (n + 1) ≡ how_many (is_held t) n + one_if_lem (get_or t n 0)
-one_counted t n = rw add-one (count_next (is_held t) n ∙ ap (λ (k : ℕ). how_many (is_held t) n + k) (by_test (eqb (get_or t n 0) 0)))
-  where
-    by_test : (b : Bool) → one (not b) ≡ cond b 0 1
-    by_test true = refl
-    by_test false = refl

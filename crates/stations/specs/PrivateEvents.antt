@@ -1,6 +1,7 @@
 -- What the private functions answer. No contract of a public call cites this file.
-use Rattle.std.specs.Prelude.{cond, ℕ, eqb}
+use Rattle.std.specs.Prelude.{cond, ℕ, ltb, Option, Some, None}
+use Rattle.stations.specs.Rows.{Stations, rows, row_with_lem}
 
--- 1 if a row's mark is that of a station
-abbrev pub one_if_lem : (mark : ℕ) → ℕ
-one_if_lem mark = cond (eqb mark 0) 0 1
+-- the lowest row that has a mark, if one has
+abbrev pub row_found : Stations → (mark : ℕ) → Option ℕ
+row_found t mark = cond (ltb (row_with_lem t mark) rows) (Some (row_with_lem t mark)) None

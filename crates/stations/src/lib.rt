@@ -15,7 +15,7 @@ ghost use Rattle.stations.specs.Events.{answer_from, table_from};
 use numbers::Refusal;
 use reading::association_in;
 use records::{AssociationState, ClientAssociation, MacAddr};
-use rows::{address_of, join, leave, number_of, one_if, row_with};
+use rows::{address_of, join, leave, number_of, row_with};
 
 // How many stations a table holds, at most (rule P1).
 pub const STATIONS: usize = 128;
@@ -23,7 +23,7 @@ pub const STATIONS: usize = 128;
 // The table: row n has a station in element n, as the number of its address plus 1, and its access point in element
 // STATIONS + n, as the number of its address. A free row has 0 in both.
 // Both lists are one array, which a caller lends and the calls change in place: 2,048 bytes are too many to copy on a
-// small stack.
+// small stack. It is an array of numbers, and no list of rows, because C lends it as one.
 pub type Stations = [u64; 2 * STATIONS];
 
 // What an accepted event did (rules P2 and P3). New is "placed" there, and There is "same".
@@ -93,10 +93,7 @@ pub fn event_from(t: &mut Stations, value: &[u8]) -> Result<Taken, Refusal>
 pub fn where_is(t: &Stations, station: MacAddr) -> Option<MacAddr>
     ensures { result ≡ where_shown (where_of t.now (address_number station)) }
 {
-    let row = row_with(t, number_of(station) + 1);
-    if row == STATIONS {
-        return None;
-    }
+    let row = row_with(t, number_of(station) + 1)?;
     Some(address_of(t[STATIONS + row]))
 }
 
@@ -104,13 +101,7 @@ pub fn where_is(t: &Stations, station: MacAddr) -> Option<MacAddr>
 pub fn count(t: &Stations) -> usize
     ensures { result ≡ count_of t.now }
 {
-    let mut many: usize = 0;
-    let mut row: usize = 0;
-    while row < STATIONS {
-        many += one_if(t[row]);
-        row += 1;
-    }
-    many
+    t[..STATIONS].iter().filter(|mark| **mark != 0).count()
 }
 
 // The station in row n and its access point (rule P7). With each n below STATIONS a caller lists them all.

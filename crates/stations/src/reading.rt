@@ -13,7 +13,7 @@ pub struct AssociationRead {
     pub consumed: usize,
 }
 
-#[tactic(auto, unfolding(records::specs::Reading::read_record_lem, records::specs::Reading::fixed))]
+#[tactic(auto, using(crate::proofs::Associations::by_reader, crate::proofs::Associations::reads_association))]
 pub(crate) fn association_in(value: &[u8]) -> Result<AssociationRead, Refusal>
     ensures { answered result ≡ association_read value.now }
 {

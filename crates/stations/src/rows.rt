@@ -1,50 +1,42 @@
 // The rows of the table: addresses as numbers, the look-up, and what a join and a leave do.
-ghost use Rattle.std.specs.Prelude.{◌≡◌, true, false, ◌<◌, ◌≤◌, ◌^◌};
+ghost use Rattle.std.specs.Prelude.{◌≡◌, true, false, ◌<◌, ◌^◌};
 ghost use Rattle.numbers.specs.Numbers.{gives, answered};
 ghost use Rattle.stations.specs.Addresses.{address_number, address_of};
 ghost use Rattle.stations.specs.Whereabouts.{heard_of_join, at};
-ghost use Rattle.stations.specs.Rows.{row_with_lem, answer_to, after_join, after_leave};
-ghost use Rattle.stations.specs.PrivateEvents.{one_if_lem};
+ghost use Rattle.stations.specs.Rows.{answer_to, after_join, after_leave};
+ghost use Rattle.stations.specs.PrivateEvents.{row_found};
 
 use crate::{Heard, STATIONS, Stations};
 use numbers::Refusal;
 use records::MacAddr;
 
-// The number of an address, and the address with a number.
+// The number of an address, and the address with a number. They are no `From`: neither type is this crate's.
 pub(crate) fn number_of(m: MacAddr) -> u64
     ensures { (result ≡ address_number m) × (result < 2 ^ 48) }
 {
-    let high = (m.b0 as u64 * 256 + m.b1 as u64) * 256 + m.b2 as u64;
-    let low = (m.b3 as u64 * 256 + m.b4 as u64) * 256 + m.b5 as u64;
-    high * 16777216 + low
+    u64::from_be_bytes([0, 0, m.b0, m.b1, m.b2, m.b3, m.b4, m.b5])
 }
 
 #[tactic(auto, unfolding(crate::specs::Addresses::address_of))]
 pub(crate) fn address_of(n: u64) -> MacAddr
     ensures { result ≡ address_of n }
 {
+    let [_, _, b0, b1, b2, b3, b4, b5] = n.to_be_bytes();
     MacAddr {
-        b0: (n / 1099511627776 % 256) as u8,
-        b1: (n / 4294967296 % 256) as u8,
-        b2: (n / 16777216 % 256) as u8,
-        b3: (n / 65536 % 256) as u8,
-        b4: (n / 256 % 256) as u8,
-        b5: (n % 256) as u8,
+        b0,
+        b1,
+        b2,
+        b3,
+        b4,
+        b5,
     }
 }
 
-// The lowest row with a mark, STATIONS where none has it.
-pub(crate) fn row_with(t: &Stations, mark: u64) -> usize
-    ensures { (result ≡ row_with_lem t.now mark) × (result ≤ 128) }
+// The lowest row with a mark.
+pub(crate) fn row_with(t: &Stations, mark: u64) -> Option<usize>
+    ensures { result ≡ row_found t.now mark }
 {
-    let mut row: usize = 0;
-    while row < STATIONS {
-        if t[row] == mark {
-            return row;
-        }
-        row += 1;
-    }
-    row
+    t[..STATIONS].iter().position(|held| *held == mark)
 }
 
 // What a join says about a station that was at an access point (rule P2).
@@ -66,19 +58,17 @@ pub(crate) fn join(t: &mut Stations, station: u64, point: u64) -> Result<Heard, 
     ensures { (answered result ≡ answer_to t.old (record { station = station; point = point; is_join = true }))
         × (t.new ≡ after_join t.old station point) }
 {
-    let known = row_with(t, station + 1);
-    if known < STATIONS {
+    if let Some(known) = row_with(t, station + 1) {
         let from = t[STATIONS + known];
         t[STATIONS + known] = point;
         return Ok(heard_of_held(from, point));
     }
-    let free = row_with(t, 0);
-    if free < STATIONS {
-        t[free] = station + 1;
-        t[STATIONS + free] = point;
-        return Ok(Heard::New);
-    }
-    Err(Refusal::NoStationRoom)
+    let Some(free) = row_with(t, 0) else {
+        return Err(Refusal::NoStationRoom);
+    };
+    t[free] = station + 1;
+    t[STATIONS + free] = point;
+    Ok(Heard::New)
 }
 
 // A leave frees the station's row, if it names the access point there (rule P3).
@@ -88,20 +78,12 @@ pub(crate) fn leave(t: &mut Stations, station: u64, point: u64) -> Heard
     ensures { (gives result ≡ answer_to t.old (record { station = station; point = point; is_join = false }))
         × (t.new ≡ after_leave t.old station point) }
 {
-    let row = row_with(t, station + 1);
-    if row < STATIONS {
-        if t[STATIONS + row] == point {
+    match row_with(t, station + 1) {
+        Some(row) if t[STATIONS + row] == point => {
             t[row] = 0;
             t[STATIONS + row] = 0;
-            return Heard::Removed;
+            Heard::Removed
         }
+        _ => Heard::Stale,
     }
-    Heard::Stale
-}
-
-// Whether a row holds a station, as a number to add.
-pub(crate) fn one_if(mark: u64) -> usize
-    ensures { (result ≡ one_if_lem mark) × (result ≤ 1) }
-{
-    if mark == 0 { 0 } else { 1 }
 }

@@ -1,21 +1,26 @@
--- The loop has counted the rows that it has passed.
-use mathlib.Core.Path.{◌≡◌, sym, ap, ◌∙◌}
+-- The marks that are left by the filter are those of the rows that hold a station.
+use mathlib.Core.Path.{◌∙◌}
+use mathlib.Core.Bool.{not}
+use Prim.Native.Nat.{ℕ}
+use mathlib.Core.Bool.{Bool}
 use native.Mathlib.Omega.{arith}
 use borrow.Author.Rules.{rules}
-use Rattle.searching.specs.Count.{how_many}
-use Rattle.searching.proofs.Count.{count_before_all}
-use Rattle.stations.specs.Rows.{is_held}
-use Rattle.stations.proofs.Ways.{one_counted}
+use borrow.Author.Tests.{tests}
+use lib.Dec.{eqb}
+use lib.ListN.{take}
+use Rattle.std.proofs.lemmas.Iterator.{YieldsList-from_slice}
+use Rattle.std.proofs.lemmas.Iterator.Consumers.{YieldsList-from_filter, count_from_yields_List}
+use Rattle.std.proofs.lemmas.List.Sums.{length-filter}
+use Rattle.stations.proofs.Lookups.{counted}
 use Rattle.stations.proofs.count.Goals as goal
 
-pub loop-row-init : goal.loop-row-init
-loop-row-init c = (omega arith, omega arith, count_before_all (is_held c.args.t.now))
-
-pub loop-row-preserved : goal.loop-row-preserved
-loop-row-preserved c =
-    (search rules, omega arith, sym (one_counted c.args.t.now c.loop-row.row ∙ rw (c.loop-row.invariant.2, c.one_if-many.ensures.0)))
+abbrev is_mark : ℕ → Bool
+is_mark mark = not (eqb mark 0)
 
 pub returns : goal.returns
 returns c =
-    let end : c.loop-row.row ≡ 128 = omega arith in
-    c.loop-row.invariant.2 ∙ ap (how_many (is_held c.args.t.now)) end
+    let t = c.args.t.now in
+    count_from_yields_List _ _ c.count.ensures.ran
+    (YieldsList-from_filter _ is_mark (YieldsList-from_slice (take 128 t) cc) c.filter.ensures.closure (λ x b q k. search (rules, tests)))
+    ∙ length-filter is_mark (take 128 t)
+    ∙ counted is_mark t 128 (omega arith)
