@@ -3,12 +3,12 @@
 #![tactic(auto)]
 
 ghost use Rattle.std.specs.Prelude.{◌≡◌};
-ghost use Rattle.layouts.specs.Access.{counted_of};
-ghost use Rattle.entries.specs.Entries.{begun_of, gone_on_lem, went_of};
+ghost use Rattle.numbers.specs.Numbers.{answered};
+ghost use Rattle.entries.specs.Entries.{gone_on_lem};
 ghost use Rattle.c_entries.specs.Numbers.{no_cursor_lem, begun_numbers_lem, without_entry_lem, entry_numbers_lem, cursor_after_lem, after_step, count_numbers_lem};
 
-use entries::{Begun, Cursor, Went};
-use layouts::Counted;
+use entries::{Cursor, Gone, Start};
+use numbers::Refusal;
 
 // The entries of a value begun (rule E9): the cursor at the first one, how many entries the outermost list has, and how
 // many bytes were consumed and follow these. Where it is refused, nothing is left to the cursor.
@@ -64,23 +64,18 @@ fn no_cursor() -> Cursor
 }
 
 // What beginning answers.
-pub fn begun_numbers(begun: Begun) -> AshlarBegun
-    ensures { result ≡ begun_numbers_lem (begun_of begun) }
+pub fn begun_numbers(begun: Result<Start, Refusal>) -> AshlarBegun
+    ensures { result ≡ begun_numbers_lem (answered begun) }
 {
     match begun {
-        Begun::At {
-            cursor,
-            entries,
-            consumed,
-            rest,
-        } => AshlarBegun {
-            cursor,
-            entries,
-            consumed,
-            rest,
+        Ok(start) => AshlarBegun {
+            cursor: start.cursor,
+            entries: start.entries,
+            consumed: start.consumed,
+            rest: start.rest,
             refusal: 0,
         },
-        Begun::Refused(refusal) => AshlarBegun {
+        Err(refusal) => AshlarBegun {
             cursor: no_cursor(),
             entries: 0,
             consumed: 0,
@@ -104,33 +99,30 @@ fn without_entry(answer: u8, refusal: u8) -> AshlarEntry
 }
 
 // What going on answers.
-fn entry_numbers(went: Went) -> AshlarEntry
-    ensures { result ≡ entry_numbers_lem (went_of went) }
+fn entry_numbers(went: Result<Option<Gone>, Refusal>) -> AshlarEntry
+    ensures { result ≡ entry_numbers_lem (answered went) }
 {
     match went {
-        Went::Next { entry, cursor: _ } => AshlarEntry {
-            start: entry.start,
-            entries: entry.entries,
-            level: entry.level,
+        Ok(Some(gone)) => AshlarEntry {
+            start: gone.entry.start,
+            entries: gone.entry.entries,
+            level: gone.entry.level,
             answer: 2,
             refusal: 0,
         },
-        Went::NoMore => without_entry(1, 0),
-        Went::Refused(refusal) => without_entry(0, numbers::number_of(refusal)),
+        Ok(None) => without_entry(1, 0),
+        Err(refusal) => without_entry(0, numbers::number_of(refusal)),
     }
 }
 
 // Where the cursor then stands. It is altered only where an entry is given.
-fn cursor_after(cursor: Cursor, went: Went) -> Cursor
-    ensures { result ≡ cursor_after_lem cursor (went_of went) }
+fn cursor_after(cursor: Cursor, went: Result<Option<Gone>, Refusal>) -> Cursor
+    ensures { result ≡ cursor_after_lem cursor (answered went) }
 {
     match went {
-        Went::Next {
-            entry: _,
-            cursor: next,
-        } => next,
-        Went::NoMore => cursor,
-        Went::Refused(_) => cursor,
+        Ok(Some(gone)) => gone.cursor,
+        Ok(None) => cursor,
+        Err(_) => cursor,
     }
 }
 
@@ -146,15 +138,15 @@ pub fn next(cursor: Cursor, value: &[u8]) -> AfterStep
 }
 
 // What counting answers.
-pub fn count_numbers(counted: Counted) -> AshlarCount
-    ensures { result ≡ count_numbers_lem (counted_of counted) }
+pub fn count_numbers(counted: Result<usize, Refusal>) -> AshlarCount
+    ensures { result ≡ count_numbers_lem (answered counted) }
 {
     match counted {
-        Counted::Entries(entries) => AshlarCount {
+        Ok(entries) => AshlarCount {
             entries,
             refusal: 0,
         },
-        Counted::Refused(refusal) => AshlarCount {
+        Err(refusal) => AshlarCount {
             entries: 0,
             refusal: numbers::number_of(refusal),
         },
