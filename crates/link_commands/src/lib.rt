@@ -1,115 +1,87 @@
 // The commands of link quality (part Q of docs/RULES.md): m and M.
 #![tactic(auto)]
 
-ghost use Rattle.std.specs.Prelude.{◌≤◌};
+ghost use Rattle.std.specs.Prelude.{◌≤◌, IfSome};
 
 use answer_lines::Answers;
-use links::{LinkKind, LinkReport, Lowest, Reported};
+use command_lines::Fields;
+use links::{LinkKind, LinkReport};
 use numbers::Refusal;
 
-// Which field of a line has the command's bytes: that of m; for M, which has none, one after its two reports. For any
-// other letter it is 0.
-pub fn field_of_bytes(letter: u8) -> usize
-    ensures { result ≤ 13 }
+// Which field of a line has the command's bytes, for the letters of these commands: that of m; for M, which has none, one
+// after its two reports.
+pub fn field_of_bytes(letter: u8) -> Option<usize>
+    ensures { IfSome result (λ n. n ≤ 13) }
 {
     match letter {
-        b'm' => 2,
-        b'M' => 13,
-        _ => 0,
+        b'm' => Some(2),
+        b'M' => Some(13),
+        _ => None,
     }
 }
 
 // The kind in field n, 9 or 10.
-fn kind_in(line: &[u8], n: usize) -> LinkKind {
-    if command_lines::byte_in(line, n) == 9 {
-        return LinkKind::Tx;
+fn kind_in(line: &Fields, n: usize) -> Option<LinkKind> {
+    match line.byte(n) {
+        9 => Some(LinkKind::Tx),
+        10 => Some(LinkKind::Rx),
+        _ => None,
     }
-    LinkKind::Rx
 }
 
 // The lowest signal strength in field n. A `-` with nothing after it stands for none.
-fn lowest_in(line: &[u8], n: usize) -> Lowest {
-    let s = command_lines::field(line, n);
-    if s.len() == 1 && command_lines::byte_at(s, 0) == b'-' {
-        return Lowest::Absent;
+fn lowest_in(line: &Fields, n: usize) -> Option<i8> {
+    match line.field(n) {
+        b"-" => None,
+        _ => Some(line.signed_byte(n)),
     }
-    Lowest::Signal(command_lines::i8_of(command_lines::i32_in(line, n)))
 }
 
-// The report in the six fields from field n on.
-fn report_in(line: &[u8], n: usize) -> LinkReport
+// The report in the six fields from field n on. Its kind is 10 where it isn't 9.
+fn report_in(line: &Fields, n: usize) -> LinkReport
     requires { n ≤ 7 }
 {
     LinkReport {
-        kind: kind_in(line, n),
-        pairs: command_lines::u16_of(command_lines::number_in(line, n + 1)),
-        errors: command_lines::number_in(line, n + 2),
-        packets: command_lines::number_in(line, n + 3),
+        kind: kind_in(line, n).unwrap_or(LinkKind::Rx),
+        pairs: line.two_bytes(n + 1),
+        errors: line.number(n + 2),
+        packets: line.number(n + 3),
         low: lowest_in(line, n + 4),
-        sum: command_lines::i32_in(line, n + 5),
+        sum: line.signed(n + 5),
     }
 }
 
-fn put_lowest(lowest: Lowest, text: &mut Answers, used: usize) -> usize
-    ensures { result ≤ 65536 }
-{
+fn put_lowest(lowest: Option<i8>, text: &mut Answers) {
     match lowest {
-        Lowest::Absent => answer_lines::put(text, used, b" -"),
-        Lowest::Signal(s) => answer_lines::put_next_signed(text, used, s as i32),
+        Some(strength) => text.put_next_signed(strength as i32),
+        None => text.put(b" -"),
     }
 }
 
 // A report of kind 9 has no signal strengths, so they are not shown.
-fn put_report(report: LinkReport, text: &mut Answers, used: usize) -> usize
-    ensures { result ≤ 65536 }
-{
-    let a = answer_lines::put_ok(text, used);
-    let b = answer_lines::put_next_three(
-        text,
-        a,
-        report.pairs as u64,
-        report.errors,
-        report.packets,
-    );
-    let kind = report.kind;
-    match kind {
-        LinkKind::Tx => b,
-        LinkKind::Rx => {
-            let lowest = report.low;
-            let c = put_lowest(lowest, text, b);
-            answer_lines::put_next_signed(text, c, report.sum)
-        }
-    }
-}
-
-fn put_reported(reported: Reported, text: &mut Answers, used: usize) -> usize
-    ensures { result ≤ 65536 }
-{
-    match reported {
-        Reported::Over(report) => put_report(report, text, used),
-        Reported::Refused(refusal) => answer_lines::put_refused(text, used, refusal),
+fn put_report(report: LinkReport, text: &mut Answers) {
+    text.put_ok();
+    text.put_next_three(report.pairs as u64, report.errors, report.packets);
+    if let LinkKind::Rx = report.kind {
+        put_lowest(report.low, text);
+        text.put_next_signed(report.sum);
     }
 }
 
 // m: the report over a value. A kind without pairs is refused by 16.
-fn report(line: &[u8], value: &[u8]) -> Reported {
-    let code = command_lines::byte_in(line, 1);
-    if code == 9 || code == 10 {
-        return links::report(kind_in(line, 1), value);
-    }
-    Reported::Refused(Refusal::UnknownKind)
+fn report(line: &Fields, value: &[u8]) -> Result<LinkReport, Refusal> {
+    let kind = kind_in(line, 1).ok_or(Refusal::UnknownKind)?;
+    links::report(kind, value)
 }
 
 // Answers one line about link quality.
-pub fn answer(line: &[u8], value: &[u8], text: &mut Answers, used: usize) -> usize
-    ensures { result ≤ 65536 }
-{
-    match command_lines::byte_at(line, 0) {
-        b'm' => put_reported(report(line, value), text, used),
-        _ => put_reported(
-            links::merge(report_in(line, 1), report_in(line, 7)),
-            text,
-            used,
-        ),
+pub fn answer(line: &Fields, value: &[u8], text: &mut Answers) {
+    let answer = match line.letter() {
+        b'm' => report(line, value),
+        _ => links::merge(report_in(line, 1), report_in(line, 7)),
+    };
+    match answer {
+        Ok(report) => put_report(report, text),
+        Err(refusal) => text.put_refused(refusal),
     }
 }
