@@ -1,11 +1,23 @@
 -- Laws of `lowest`: what it finds passes the test, no number before it does, and a number that passes after none did is found.
 use mathlib.Core.Path.{◌≡◌, refl, sym, ap, ◌∙◌}
+use mathlib.Core.List.{List}
 use mathlib.Core.Bool.{Bool, true, false, cond, false≢true}
 use Prim.Native.Nat.{ℕ, zero, suc, ◌+◌, ◌≤◌, ◌<◌}
 use native.Mathlib.Omega.{arith}
 use native.Mathlib.Numerals.{add-one}
 use lib.Dec.{eqb, ltb}
 use borrow.Author.Tests.{eqb-true, eqb-false, ltb-true, ltb-false, lt-ltb, le-ltb}
+use Rattle.std.specs.Prelude.{Option, Some, None, MatchOption}
+use Rattle.std.specs.Option.{unwrap_or}
+use Rattle.std.specs.declared.ops.Range.{Range}
+use Rattle.std.specs.Bool.{⊤}
+use Rattle.std.specs.Fn.{CalledAt}
+use Rattle.std.specs.Iterator.{YieldsThen}
+use Rattle.std.specs.List.{FoldsTo}
+use Rattle.std.proofs.iter.Yields.{nat_range_steps}
+use Rattle.std.proofs.lemmas.Iterator.{first_from_Range}
+use denote.Param.Members.{Mut}
+use denote.Ref.{Bor}
 use Rattle.searching.specs.Search.{lowest}
 
 module _ (test : ℕ → Bool) where
@@ -81,6 +93,28 @@ module _ (test : ℕ → Bool) where
 
   pub passed : (i : ℕ) → i ≡ lowest test i → test i ≡ false → i + 1 ≡ lowest test (i + 1)
   passed i p e = rw add-one (sym (more_past i (omega arith) e))
+
+  -- what `find` answers over a range of numbers, none before which passes
+  lowest_from : (start n : ℕ) (r : Option ℕ) → start ≤ n → ((k : ℕ) → k < start → test k ≡ false)
+      → MatchOption r ((k : ℕ) → start ≤ k → k < n → test k ≡ false) (λ i. (start ≤ i) × (i < n) × (test i ≡ true) × ((k : ℕ) → start ≤ k → k < i → test k ≡ false))
+      → unwrap_or r n ≡ lowest test n
+  lowest_from start n None h before none = lowest_none n (λ j l. by_start j l (ltb j start) refl)
+    where
+      by_start : (j : ℕ) → j < n → (b : Bool) → ltb j start ≡ b → test j ≡ false
+      by_start j l true e = before j (ltb-true _ _ e)
+      by_start j l false e = none j (ltb-false _ _ e) l
+  lowest_from start n (Some i) h before at = lowest_is n i at.1 at.2 (λ j l. by_start j l (ltb j start) refl)
+    where
+      by_start : (j : ℕ) → j < i → (b : Bool) → ltb j start ≡ b → test j ≡ false
+      by_start j l true e = before j (ltb-true _ _ e)
+      by_start j l false e = at.3 j (ltb-false _ _ e) l
+
+  pub lowest_by_find : {F : Type 0} {g : Mut F (Bor ℕ × Unit {0}) Bool} {s : Range ℕ} (u : Range ℕ) (f : F) (r : Option ℕ)
+      → (xs : List ℕ) × (j : F) × YieldsThen nat_range_steps s xs r u × FoldsTo (λ p x q. CalledAt g p x false q) f xs j × MatchOption r ⊤ (λ x. (h : F) × CalledAt g j x true h)
+      → ((x : ℕ) (q : F) → CalledAt g f x true q → test x ≡ true) → ((x : ℕ) (q : F) → CalledAt g f x false q → (q ≡ f) × (test x ≡ false))
+      → s.start ≤ s.end → ((k : ℕ) → k < s.start → test k ≡ false) → unwrap_or r s.end ≡ lowest test s.end
+  lowest_by_find {s = s} u f r ran passes fails h before =
+      lowest_from s.start s.end r h before (first_from_Range s u f r (λ i. test i ≡ true) (λ i. test i ≡ false) ran passes fails)
 
 -- tests that agree find the same
 pub lowest_same : (p q : ℕ → Bool) (n : ℕ) → ((i : ℕ) → i < n → p i ≡ q i) → lowest p n ≡ lowest q n

@@ -1,13 +1,11 @@
 -- Laws of the sweep: what one row adds, and that the rows which it has not reached are as they were.
-use mathlib.Core.Path.{◌≡◌, refl, ap, ◌∙◌}
+use mathlib.Core.Path.{◌≡◌, refl, ◌∙◌}
 use mathlib.Core.Bool.{Bool, true, false, cond, and-eq-true_iff}
-use Prim.Native.Nat.{ℕ, zero, suc, ◌+◌, ◌≤◌, ◌<◌}
+use Prim.Native.Nat.{ℕ, zero, suc, ◌+◌, ◌≤◌}
 use native.Mathlib.Omega.{arith}
 use native.Mathlib.Nat.{add-zero}
 use native.Mathlib.Numerals.{add-one}
-use lib.Dec.{leb}
 use lib.ListN.{get_or}
-use borrow.Author.Tests.{leb-true, leb-false}
 use Rattle.searching.specs.Count.{how_many}
 use Rattle.table.specs.declared.Table.{Table}
 use Rattle.sweeping.specs.declared.Swept.{Swept}
@@ -52,14 +50,5 @@ module _ (t : Table) (time : ℕ) where
   pub swept_here : (n : ℕ) → expired t time n ≡ true → swept_as (without (swept_to n).table n) ((swept_to n).dropped + 1) ≡ swept_to (n + 1)
   swept_here n e = rw (add-one n, rows_next, count_next, e)
 
-  swept_past : (n : ℕ) → expired t time n ≡ false → swept_to n ≡ swept_to (suc n)
-  swept_past n e = rw (rows_next, count_next, e, add-zero)
-
-  -- rows that stay are passed over
-  pub swept_skip : (m k : ℕ) → m ≤ k → ((j : ℕ) → m ≤ j → j < k → expired t time j ≡ false) → swept_to m ≡ swept_to k
-  swept_skip m zero h young = ap swept_to (let none : m ≡ 0 = omega arith in none)
-  swept_skip m (suc k) h young = by_order (leb m k) refl (λ l. swept_skip m k l (λ j a b. young j a (omega arith)))
-    where
-      by_order : (b : Bool) → leb m k ≡ b → (m ≤ k → swept_to m ≡ swept_to k) → swept_to m ≡ swept_to (suc k)
-      by_order true q below = let l = leb-true m k q in below l ∙ swept_past k (young k l (omega arith))
-      by_order false q below = ap swept_to (let last : m ≡ suc k = omega (arith, leb-false m k q) in last)
+  pub swept_past : (n : ℕ) → expired t time n ≡ false → swept_to n ≡ swept_to (n + 1)
+  swept_past n e = rw (add-one n, rows_next, count_next, e, add-zero)

@@ -1,3 +1,2 @@
 pub mod Sweep
-pub mod PrivateSteps
 pub mod Claims

@@ -1,13 +1,20 @@
 // The sweep of the fragment table (rules S1 and S2): keys that are too old are dropped and counted.
 #![tactic(auto)]
 
-mod ages;
+ghost use Rattle.std.specs.Prelude.{◌≡◌, ◌&&◌};
+ghost use Rattle.sweeping.specs.Sweep.{is_old, swept};
 
-ghost use Rattle.std.specs.Prelude.{◌≡◌};
-ghost use Rattle.sweeping.specs.Sweep.{swept};
-
-use ages::next_expired;
 use table::{KEYS, Table, drop_key};
+
+// Rule S1: after how many milliseconds a key is dropped.
+const LIFETIME: u64 = 3000;
+
+// Rule S1: whether a row has a key that is too old. It is not if the clock went back.
+fn is_expired(used: bool, first: u64, time: u64) -> bool
+    ensures { result ≡ (used && is_old time first) }
+{
+    used && LIFETIME <= time.saturating_sub(first)
+}
 
 // The table after a sweep, and how many keys it dropped (rule S2).
 #[derive(Clone, Copy)]
@@ -20,13 +27,13 @@ pub struct Swept {
 pub fn sweep_step(t: Table, time: u64) -> Swept
     ensures { result ≡ swept t time }
 {
-    let mut n = t;
-    let mut dropped: usize = 0;
-    let mut row = next_expired(&n.used, &n.firsts, 0, time);
-    while row < KEYS {
-        drop_key(&mut n, row);
-        dropped += 1;
-        row = next_expired(&n.used, &n.firsts, row + 1, time);
+    let mut table = t;
+    let mut dropped = 0;
+    for row in 0..KEYS {
+        if is_expired(table.used[row], table.firsts[row], time) {
+            drop_key(&mut table, row);
+            dropped += 1;
+        }
     }
-    Swept { table: n, dropped }
+    Swept { table, dropped }
 }

@@ -2,7 +2,7 @@
 // and sweeping say what a push and a sweep do to it.
 #![tactic(auto)]
 
-ghost use Rattle.std.specs.Prelude.{◌≡◌, ◌&&◌, ◌-◌, ◌≤◌, eqb};
+ghost use Rattle.std.specs.Prelude.{◌≡◌, ◌-◌, ◌≤◌};
 ghost use Rattle.keys.specs.Keys.{sender_of_lem};
 ghost use Rattle.table.specs.Rows.{keys, fresh_table, first_row_in, totals_in, lower_row_lem, dropped_key_lem};
 
@@ -24,7 +24,7 @@ pub const MOST_PLACES: u8 = 8;
 
 // Rule T1: a row is an element of five lists (`row_keys`, `firsts`, `used`, `sender_keys` and `sender_places`), a place
 // one of the five others. A place holds a fragment without its payload, which lies in the lent store, and without its
-// last mark, which no kept fragment has (rule T3). Each list is an array of its own, which can be lent to a look-up.
+// last mark, which no kept fragment has (rule T3). Each list is an array of its own: so the C header has them.
 #[repr(C)]
 #[derive(Clone, Copy)]
 pub struct Table {
@@ -69,28 +69,13 @@ pub fn fresh() -> Table
     }
 }
 
-fn is_senders(used: bool, own: u64, sender: u64) -> bool
-    ensures { result ≡ (used && eqb (sender_of_lem own) sender) }
-{
-    if used {
-        sender_of(own) == sender
-    } else {
-        false
-    }
-}
-
 // Rule T15: the lowest row with a key of this sender, `KEYS` where there is none.
 pub fn first_row<'a>(used: &'a [bool; KEYS], row_keys: &'a [u64; KEYS], sender: u64) -> usize
     ensures { (result ≡ first_row_in used.now row_keys.now sender) × (result ≤ keys) }
 {
-    let mut i: usize = 0;
-    while i < KEYS {
-        if is_senders(used[i], row_keys[i], sender) {
-            return i;
-        }
-        i += 1;
-    }
-    i
+    (0..KEYS)
+        .find(|row| used[*row] && sender_of(row_keys[*row]) == sender)
+        .unwrap_or(KEYS)
 }
 
 // Rule T15: the totals in a row, 0 and 0 for a row that the table does not have.
@@ -114,14 +99,7 @@ pub fn totals_at<'a>(
 pub fn lower_row(a: usize, b: usize) -> usize
     ensures { result ≡ lower_row_lem a b }
 {
-    if a < b { a } else { b }
-}
-
-// What is left of a after b is taken away, at least 0.
-fn less(a: u8, b: u8) -> u8
-    ensures { result ≡ a - b }
-{
-    if b <= a { a - b } else { 0 }
+    a.min(b)
 }
 
 // Rules T12 and T15: the table without a row's key. The row and its places are as fresh ones, and its sender's totals
@@ -140,36 +118,33 @@ pub fn without_key(t: Table, row: usize) -> Table
 pub fn drop_key(n: &mut Table, row: usize)
     ensures { n.new ≡ dropped_key_lem n.old row }
 {
-    if row < KEYS {
-        if n.used[row] {
-            let owner = row as u8 + 1;
-            let sender = sender_of(n.row_keys[row]);
-            n.row_keys[row] = 0;
-            n.firsts[row] = 0;
-            n.used[row] = false;
-            let next = first_row(&n.used, &n.row_keys, sender);
-            let first = lower_row(row, next);
-            let keys = n.sender_keys[first];
-            let places = n.sender_places[first];
-            n.sender_keys[row] = 0;
-            n.sender_places[row] = 0;
-            let mut freed: u8 = 0;
-            let mut i: usize = 0;
-            while i < PLACES {
-                if n.owners[i] == owner {
-                    n.message_types[i] = 0;
-                    n.sizes[i] = 0;
-                    n.owners[i] = 0;
-                    n.numbers[i] = 0;
-                    n.versions[i] = 0;
-                    freed += 1;
-                }
-                i += 1;
-            }
-            if next < KEYS {
-                n.sender_keys[next] = less(keys, 1);
-                n.sender_places[next] = less(places, freed);
-            }
+    if row >= KEYS || !n.used[row] {
+        return;
+    }
+    let sender = sender_of(n.row_keys[row]);
+    n.row_keys[row] = 0;
+    n.firsts[row] = 0;
+    n.used[row] = false;
+    let next = first_row(&n.used, &n.row_keys, sender);
+    let first = lower_row(row, next);
+    let keys = n.sender_keys[first];
+    let places = n.sender_places[first];
+    n.sender_keys[row] = 0;
+    n.sender_places[row] = 0;
+    let owner = row as u8 + 1;
+    let mut freed: u8 = 0;
+    for i in 0..PLACES {
+        if n.owners[i] == owner {
+            n.message_types[i] = 0;
+            n.sizes[i] = 0;
+            n.owners[i] = 0;
+            n.numbers[i] = 0;
+            n.versions[i] = 0;
+            freed += 1;
         }
+    }
+    if next < KEYS {
+        n.sender_keys[next] = keys.saturating_sub(1);
+        n.sender_places[next] = places.saturating_sub(freed);
     }
 }
