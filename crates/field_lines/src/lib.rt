@@ -9,147 +9,88 @@ mod quoted;
 mod texts_said;
 mod words;
 
-ghost use Rattle.std.specs.Prelude.{◌≡◌, ◌≤◌};
-ghost use Rattle.records.specs.Values.{address_at_lem};
-
 use answer_lines::Answers;
-use kinds::KindRead;
-use numbers::Refusal;
-use records::MacAddr;
+use kinds::Contents;
+use std::fmt::Write;
+pub use words::{Address, Counted, Missing, Time, first_address, second_address};
 
-// The time of day, HH:MM:SS.mmm (UTC).
-pub fn put_time(text: &mut Answers, used: usize, time: u64) -> usize
-    ensures { result ≤ 65536 }
-{
-    words::put_time(text, used, time)
-}
-
-// Six pairs joined by colons.
-pub fn put_address(text: &mut Answers, used: usize, m: MacAddr) -> usize
-    ensures { result ≤ 65536 }
-{
-    words::put_address(text, used, m)
-}
-
-// The address in the first six bytes; bytes that aren't there are zeros.
-pub fn first_address(s: &[u8]) -> MacAddr
-    ensures { result ≡ address_at_lem s.now 0 }
-{
-    words::first_address(s)
-}
-
-// The address in the six bytes after these.
-pub fn second_address(s: &[u8]) -> MacAddr
-    ensures { result ≡ address_at_lem s.now 6 }
-{
-    words::second_address(s)
-}
-
-// How many, after a blank.
-pub fn put_counted(text: &mut Answers, used: usize, n: u64, what: &[u8]) -> usize
-    ensures { result ≤ 65536 }
-{
-    words::put_counted(text, used, n, what)
-}
-
-// The same at the start of a line.
-pub fn put_first_counted(text: &mut Answers, used: usize, n: u64, what: &[u8]) -> usize
-    ensures { result ≤ 65536 }
-{
-    words::put_first_counted(text, used, n, what)
-}
-
-// How many bytes are missing, after a blank.
-pub fn put_missing(text: &mut Answers, used: usize, n: u64) -> usize
-    ensures { result ≤ 65536 }
-{
-    words::put_missing(text, used, n)
-}
-
-// A value of a kind that doesn't read (rule K1).
-fn put_unread(text: &mut Answers, used: usize, refusal: Refusal) -> usize {
-    let a = answer_lines::put(text, used, b" not readable (");
-    let b = words::put_plain(text, a, numbers::number_of(refusal) as u64);
-    answer_lines::put(text, b, b")")
+// The value of a TLV, and the kind that its type says.
+#[derive(Clone, Copy)]
+pub(crate) struct Value<'a> {
+    pub code: u8,
+    pub bytes: &'a [u8],
 }
 
 // An event (rule P6).
-fn put_event(text: &mut Answers, used: usize, value: &[u8]) -> usize {
-    let a = answer_lines::put(text, used, b" station ");
-    let b = words::put_address(text, a, words::first_address(value));
-    let c = if command_lines::byte_at(value, 12) == 0x80 {
-        answer_lines::put(text, b, b" joined ")
+fn put_event(text: &mut Answers, value: &[u8]) {
+    let station = Address(first_address(value));
+    let point = Address(second_address(value));
+    let did = if value.get(12) == Some(&0x80) {
+        "joined"
     } else {
-        answer_lines::put(text, b, b" left ")
+        "left"
     };
-    words::put_address(text, c, words::second_address(value))
+    let _ = write!(text, " station {station} {did} {point}");
+}
+
+fn put_byte_count(text: &mut Answers, value: &[u8]) {
+    let count = Counted {
+        count: value.len() as u64,
+        what: "byte",
+    };
+    let _ = write!(text, " {count}");
 }
 
 // A value that reads, if its type is a kind's; a list has so many entries.
-fn put_value(
-    rt: &impl Print,
-    text: &mut Answers,
-    used: usize,
-    tlv_type: u8,
-    value: &[u8],
-    entries: usize,
-) -> usize {
-    match tlv_type {
+fn put_value(rt: &impl Print, text: &mut Answers, value: Value<'_>, entries: usize) {
+    match value.code {
         1 | 2 => {
-            let a = answer_lines::put(text, used, b" ");
-            words::put_address(text, a, words::first_address(value))
+            let address = Address(first_address(value.bytes));
+            let _ = write!(text, " {address}");
         }
         6 | 7 => {
-            let a = neighbours::put_local(text, used, tlv_type, value);
-            listed::put_entries(rt, text, a, tlv_type, value)
+            neighbours::put_local(text, value);
+            listed::put_entries(rt, text, value);
         }
         9 | 10 => {
-            let a = neighbours::put_between(text, used, tlv_type, value);
-            listed::put_entries(rt, text, a, tlv_type, value)
+            neighbours::put_between(text, value);
+            listed::put_entries(rt, text, value);
         }
-        0x83 | 0xB7 => {
-            if entries == 0 {
-                return answer_lines::put(text, used, b" nothing");
-            }
-            listed::put_entries(rt, text, used, tlv_type, value)
-        }
-        21 | 22 | 0xD4 => texts_said::put_texts(rt, text, used, tlv_type, value),
-        0x92 => put_event(text, used, value),
-        _ => words::put_counted(text, used, value.len() as u64, b"byte"),
+        0x83 | 0xB7 if entries == 0 => text.put(b" nothing"),
+        0x83 | 0xB7 => listed::put_entries(rt, text, value),
+        21 | 22 | 0xD4 => texts_said::put_texts(rt, text, value),
+        0x92 => put_event(text, value.bytes),
+        _ => put_byte_count(text, value.bytes),
     }
 }
 
-// What a TLV says, if its value reads.
-fn put_read(rt: &impl Print, text: &mut Answers, used: usize, tlv_type: u8, value: &[u8]) -> usize {
-    match kinds::read_kind(tlv_type, value) {
-        KindRead::Record {
-            record: _,
-            consumed: _,
-            rest: _,
-        } => put_value(rt, text, used, tlv_type, value, 0),
-        KindRead::List {
-            entries,
-            consumed: _,
-            rest: _,
-        } => put_value(rt, text, used, tlv_type, value, entries),
-        KindRead::Refused(refusal) => put_unread(text, used, refusal),
+// What a TLV says, if its value reads (rule K1).
+fn put_read(rt: &impl Print, text: &mut Answers, value: Value<'_>) {
+    match kinds::read_kind(value.code, value.bytes) {
+        Ok(typed) => {
+            let entries = match typed.held {
+                Contents::One(_) => 0,
+                Contents::List(entries) => entries,
+            };
+            put_value(rt, text, value, entries);
+        }
+        Err(refusal) => {
+            let number = numbers::number_of(refusal);
+            let _ = write!(text, " not readable ({number})");
+        }
     }
 }
 
 // What a TLV says, after a blank, and the line's end.
-pub fn put_said(
-    rt: &impl Print,
-    text: &mut Answers,
-    used: usize,
-    tlv_type: u8,
-    value: &[u8],
-) -> usize
-    ensures { result ≤ 65536 }
-{
-    let end = if kinds::is_kind(tlv_type) {
-        put_read(rt, text, used, tlv_type, value)
+pub fn put_said(rt: &impl Print, text: &mut Answers, tlv_type: u8, value: &[u8]) {
+    if kinds::is_kind(tlv_type) {
+        let value = Value {
+            code: tlv_type,
+            bytes: value,
+        };
+        put_read(rt, text, value);
     } else {
-        words::put_counted(text, used, value.len() as u64, b"byte")
-    };
-    answer_lines::put(text, end, b"\n")
+        put_byte_count(text, value);
+    }
+    text.put(b"\n");
 }
