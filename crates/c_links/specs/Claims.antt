@@ -1,16 +1,16 @@
 -- What is claimed of this crate's calls; proofs/Claims.antt proves it.
-use Rattle.std.specs.Prelude.{◌≡◌, List, [], ℕ}
-use Rattle.numbers.specs.Numbers.{gives, refuses}
+use Rattle.std.specs.Prelude.{◌≡◌, List, [], ℕ, Result}
+use Rattle.numbers.specs.Numbers.{gives, refuses, answered}
 use Rattle.numbers.specs.Firmness.{Firm}
 use Rattle.links.specs.declared.LinkReport.{LinkReport}
-use Rattle.links.specs.declared.Reported.{Reported}
-use Rattle.links.specs.Reports.{reported_of, merged}
+use Rattle.numbers.specs.declared.Refusal.{Refusal}
+use Rattle.links.specs.Reports.{merged}
 use Rattle.c_links.specs.declared.AshlarReport.{AshlarReport}
 use Rattle.c_links.specs.Numbers.{report_numbers_lem, report_from_lem, merged_from}
 
 -- Rule A4: for each public call, by its name, any two answers that its contract allows are one.
 pub record Firmness : Type 0 where
-  pub report_numbers : (reported : Reported) → Firm (λ r. r ≡ report_numbers_lem (reported_of reported))
+  pub report_numbers : (reported : Result LinkReport Refusal) → Firm (λ r. r ≡ report_numbers_lem (answered reported))
   pub merge_numbers : (one other : AshlarReport) → Firm (λ r. r ≡ report_numbers_lem (merged_from one other))
 
 -- Rule C4: a report that crossed to C comes back as it was, and a refusal that crossed comes back as no report.

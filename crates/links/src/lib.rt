@@ -9,7 +9,7 @@ mod writing;
 
 ghost use Rattle.std.specs.Prelude.{◌≡◌};
 ghost use Rattle.numbers.specs.Numbers.{answered};
-ghost use Rattle.links.specs.Pairs.{tx_pair_of, rx_pair_of, tx_pair_at_lem, rx_pair_at_lem};
+ghost use Rattle.links.specs.Pairs.{link_code, tx_pair_of, rx_pair_of, tx_pair_at_lem, rx_pair_at_lem};
 ghost use Rattle.links.specs.Reports.{report_of, merged};
 
 use layouts::read_value;
@@ -22,6 +22,18 @@ pub use writing::{put_rx_pair, put_tx_pair};
 pub enum LinkKind {
     Tx,
     Rx,
+}
+
+// The code of this kind (rule K2).
+impl From<LinkKind> for u8 {
+    ghost from_gives = { λ kind code. code ≡ link_code kind };
+
+    fn from(kind: LinkKind) -> u8 {
+        match kind {
+            LinkKind::Tx => 9,
+            LinkKind::Rx => 10,
+        }
+    }
 }
 
 // What is said over the pairs of a value (rule Q4). There may be no lowest signal strength.
@@ -93,7 +105,7 @@ pub struct AshlarRxPair {
 pub fn report(kind: LinkKind, value: &[u8]) -> Result<LinkReport, Refusal>
     ensures { answered result ≡ report_of kind value.now }
 {
-    let entries = read_value(pairs::code_of(kind), value)?.entries;
+    let entries = read_value(u8::from(kind), value)?.entries;
     if 1024 < entries {
         return Err(Refusal::NoReport);
     }

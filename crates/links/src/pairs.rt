@@ -5,7 +5,7 @@ ghost use Rattle.numbers.specs.Numbers.{answered, mapped};
 ghost use Rattle.layouts.specs.Reading.{reaching};
 ghost use Rattle.links.specs.declared.LinkKind.{LinkKind};
 ghost use Rattle.links.specs.declared.LinkKind.TheVariants.{Tx, Rx};
-ghost use Rattle.links.specs.Pairs.{link_code, errors_of, packets_of, signed, signal_of, tx_fields_lem, rx_fields_lem, pair_at};
+ghost use Rattle.links.specs.Pairs.{errors_of, packets_of, signed, signal_of, tx_fields_lem, rx_fields_lem, pair_at};
 ghost use Rattle.links.specs.PrivatePairs.{pair_bytes};
 
 use crate::{LinkKind, RxPair, TxPair};
@@ -82,7 +82,7 @@ pub(crate) fn by_number<P: LinkPair>(value: &[u8], number: usize) -> Result<P, R
         i1: 0,
         i2: 0,
     };
-    let span = locate(code_of(P::kind()), path, value)?;
+    let span = locate(u8::from(P::kind()), path, value)?;
     Ok(P::read(&value[span.start..span.end]))
 }
 
@@ -95,16 +95,6 @@ pub(crate) fn at_offset<P: LinkPair>(s: &[u8], at: usize) -> Result<P, Refusal>
         return Err(Refusal::CutShort);
     }
     Ok(P::read(&s[at..at + size]))
-}
-
-// The code of this kind (rule K2).
-pub(crate) fn code_of(kind: LinkKind) -> u8
-    ensures { result ≡ link_code kind }
-{
-    match kind {
-        LinkKind::Tx => 9,
-        LinkKind::Rx => 10,
-    }
 }
 
 // How many bytes a pair has.
