@@ -1,16 +1,17 @@
 -- Laws of `is1905` and of `captured_at`: which frames are handed back, and as what.
-use mathlib.Core.Path.{◌≡◌, refl, sym, ap, ◌∙◌}
+use Rattle.std.specs.Prelude.{Result, Ok, Err, IsOk}
+use mathlib.Core.Path.{◌≡◌, refl, sym, ◌∙◌}
 use mathlib.Core.Bool.{Bool, true, false, cond}
-use mathlib.Core.List.{List, [], ◌∷◌}
+use mathlib.Core.List.{List, []}
 use Prim.Native.Nat.{ℕ, ◌+◌, ◌-◌, ◌<◌, ◌≤◌}
 use native.Mathlib.Omega.{arith}
 use lib.Dec.{eqb, ltb}
-use lib.ListN.{length, take, drop, get_or, length-drop}
-use borrow.Author.Tests.{lt-ltb, le-ltb, ltb-false, le-leb, lt-leb}
-use Rattle.numbers.specs.Numbers.{gives, refuses}
-use Rattle.numbers.specs.Bytes.{big_endian, number_at}
+use lib.ListN.{length, take, drop, length-drop}
+use borrow.Author.Tests.{ltb-false, le-leb, lt-leb}
+use Rattle.numbers.specs.Numbers.{gives, answered}
+use Rattle.numbers.specs.declared.Refusal.{Refusal}
+use Rattle.numbers.specs.Bytes.{number_at}
 use Rattle.numbers.proofs.Answers.{given}
-use Rattle.numbers.proofs.Bytes.{number_at_lem}
 use Rattle.numbers.proofs.Firm.{never}
 use Rattle.framing.specs.declared.CmduHeader.{CmduHeader}
 use Rattle.framing.specs.Cmdu.{header_in, read_header}
@@ -19,16 +20,9 @@ use Rattle.records.specs.Values.{address_at_lem}
 use Rattle.walking.proofs.Stepping.{whole_rest}
 use Rattle.captures.specs.Form.{Stored, ether_type, is1905}
 use Rattle.captures.specs.declared.Frame.{Frame}
-use Rattle.captures.specs.Reading.{ours, other, captured_at, frame_payload, payload_from}
+use Rattle.captures.specs.Reading.{ours, captured_at, frame_payload, payload_from}
 
 module _ (frame : List ℕ) where
-  pub short : length frame < 22 → false ≡ is1905 frame
-  short h = rw (lt-ltb (length frame) 22 h)
-
-  -- `n` is what the code takes the EtherType for
-  pub by_type : 22 ≤ length frame → (n : ℕ) → n ≡ big_endian (get_or frame 12 0 ∷ get_or frame 13 0 ∷ []) → eqb n ether_type ≡ is1905 frame
-  by_type h n e = rw (le-ltb (length frame) 22 h) (ap (λ (k : ℕ). eqb k ether_type) (e ∙ number_at_lem 2 12 frame (omega arith)))
-
   pub long : is1905 frame ≡ true → 22 ≤ length frame
   long e = ltb-false (length frame) 22 (by_test (ltb (length frame) 22) (eqb (number_at 2 12 frame) ether_type) e)
     where
@@ -41,8 +35,9 @@ module _ (frame : List ℕ) where
     reads : gives (header_in (drop 14 frame)) ≡ read_header (take (length frame - 14) (drop 14 frame))
     reads = rw (whole_rest frame 14) (cmdu.whole (drop 14 frame) _ _ (simp length-drop (omega (arith, long is))) refl refl)
 
-    pub unread : {B : Type 0} (n : ℕ) (vs : List ℕ) → refuses n vs ≡ read_header (take (length frame - 14) (drop 14 frame)) → B
-    unread n vs e = never _ _ _ (reads ∙ sym e)
+    pub is_read : (r : Result CmduHeader Refusal) → answered r ≡ read_header (take (length frame - 14) (drop 14 frame)) → IsOk r
+    is_read (Ok h) e = refl
+    is_read (Err r) e = never _ _ _ (reads ∙ sym e)
 
     pub header_is : (h : CmduHeader) → gives h ≡ read_header (take (length frame - 14) (drop 14 frame)) → h ≡ header_in (drop 14 frame)
     header_is h e = given _ _ (e ∙ sym reads)
@@ -51,9 +46,6 @@ module _ (at : ℕ) (r : Stored) where
   pub as_ours : is1905 r.frame ≡ true → (h : CmduHeader) → h ≡ header_in (drop 14 r.frame)
       → ours (record { seconds = r.seconds; microseconds = r.microseconds; sender = address_at_lem r.frame 6; cmdu = h; offset = at + 38; length = length r.frame - 22 }) ≡ captured_at at r
   as_ours is h e = rw (is, e)
-
-  pub as_other : is1905 r.frame ≡ false → other ≡ captured_at at r
-  as_other is = rw is
 
 -- the part that holds a payload, its bytes and where it starts
 module _ (s : List ℕ) (f : Frame) where

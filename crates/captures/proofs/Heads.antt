@@ -32,18 +32,6 @@ module _ (s : List ℕ) where
       unfolding file_order
       neither g = simp (le-ltb (length s) 24 h, ne_eqb (field_at true 4 0 s) magic (rw e at f), ne_eqb (field_at false 4 0 s) magic (rw e' at g))
 
--- `a`, `b` and `c` are what the code takes the version and the link type for
-module _ (highFirst : Bool) (s : List ℕ) (a : ℕ) (e : a ≡ field_at highFirst 2 4 s) where
-  pub other_major : (a ≡ major → ⊥) → false ≡ is_ours_lem highFirst s
-  other_major h = rw (ne_eqb (field_at highFirst 2 4 s) major (rw e at h))
-
-  module _ (h : a ≡ major) (b : ℕ) (f : b ≡ field_at highFirst 2 6 s) where
-    pub other_minor : (b ≡ minor → ⊥) → false ≡ is_ours_lem highFirst s
-    other_minor k = rw (eq-eqb (field_at highFirst 2 4 s) major (rw e at h), ne_eqb (field_at highFirst 2 6 s) minor (rw f at k))
-
-    pub by_link : b ≡ minor → (c : ℕ) → c ≡ field_at highFirst 4 20 s → eqb c link_type ≡ is_ours_lem highFirst s
-    by_link k c g = rw (eq-eqb (field_at highFirst 2 4 s) major (rw e at h), eq-eqb (field_at highFirst 2 6 s) minor (rw f at k), g)
-
 -- a test that is passed, and what it then gives
 passed_so : (y h o : Bool) → gives o ≡ cond y (gives h) (refuses 22 []) → (y ≡ true) × (o ≡ h)
 passed_so true h o e = (refl, cc)

@@ -1,36 +1,36 @@
 -- What is claimed of this crate's calls; proofs/Claims.antt proves it.
-use Rattle.std.specs.Prelude.{◌≡◌, Bool, true, false, not, List, [], ◌∷◌, map, ℕ, ◌<◌, ◌≤◌, length}
+use Rattle.std.specs.Prelude.{◌≡◌, Bool, true, false, not, List, [], ◌∷◌, map, ℕ, ◌<◌, ◌≤◌, length, Result}
 use Rattle.std.specs.Borrow.{Bor}
-use Rattle.numbers.specs.Numbers.{gives, refuses}
+use Rattle.numbers.specs.Numbers.{gives, refuses, answered}
+use Rattle.numbers.specs.declared.Refusal.{Refusal}
 use Rattle.numbers.specs.Bytes.{AllBytes}
 use Rattle.numbers.specs.Parts.{behind}
 use Rattle.numbers.specs.Firmness.{Firm}
-use Rattle.framing.specs.declared.Written.{Written}
-use Rattle.framing.specs.Tlv.{written_of, leaves}
+use Rattle.framing.specs.Tlv.{leaves}
 use Rattle.walking.specs.Steps.{passed}
 use Rattle.machines.specs.Machine.{those}
 use Rattle.table.specs.Rows.{place_size}
 use Rattle.pushing.specs.declared.Arrival.{Arrival}
 use Rattle.captures.specs.declared.Frame.{Frame}
-use Rattle.captures.specs.declared.FileChecked.{FileChecked}
+use Rattle.captures.specs.declared.FrameCount.{FrameCount}
 use Rattle.captures.specs.Form.{Unread, Stored, file_bytes, seconds_in, microseconds_in, milliseconds_of, is1905}
 use Rattle.captures.specs.Writing.{our_header, file_header_size, frame_record, frame_size}
-use Rattle.captures.specs.Reading.{no_frame_lem, Captured, file_step, reached_of, Capture, capture_in, file_checked_of, frames_counted, with_room_lem, frames_left, frame_payload, payload_from, arrival_of_lem}
+use Rattle.captures.specs.Reading.{no_frame_lem, Captured, file_step, reached_of, Capture, capture_in, frames_counted, with_room_lem, frames_left, frame_payload, payload_from, arrival_of_lem}
 use Rattle.captures.specs.HandedBack.{seen_of, seen_in, Arrived, file_of, arrived_in}
 
 -- Rule A4, for each public call by its name: any two outcomes that its contract allows are one.
 pub record Firmness : Type 0 where
   -- the answer, and what the room holds
   pub write_file_header : (out : List ℕ)
-      → Firm {A = Written × List ℕ} (λ o. (written_of o.0 ≡ file_header_size (length out)) × (o.1 ≡ leaves (file_header_size (length out)) our_header out))
+      → Firm {A = Result ℕ Refusal × List ℕ} (λ o. (answered o.0 ≡ file_header_size (length out)) × (o.1 ≡ leaves (file_header_size (length out)) our_header out))
   pub write_frame : (a : Arrival) (payload out : List ℕ)
-      → Firm {A = Written × List ℕ} (λ o. (written_of o.0 ≡ frame_size a.time (length payload) (length out)) × (o.1 ≡ leaves (frame_size a.time (length payload) (length out)) (frame_record a payload) out))
+      → Firm {A = Result ℕ Refusal × List ℕ} (λ o. (answered o.0 ≡ frame_size a.time (length payload) (length out)) × (o.1 ≡ leaves (frame_size a.time (length payload) (length out)) (frame_record a payload) out))
   pub no_frame : Firm (λ r. r ≡ no_frame_lem)
   pub step : (file : List ℕ) (at : ℕ) → Firm (λ r. reached_of r ≡ file_step file at)
-  pub check : (file : List ℕ) → Firm (λ r. file_checked_of r ≡ frames_counted (capture_in file))
+  pub check : (file : List ℕ) → Firm (λ r. answered r ≡ frames_counted (capture_in file))
   -- the answer, and what the list holds
   pub frames_into : (list : List Frame) (file : List ℕ)
-      → Firm {A = FileChecked × List Frame} (λ o. (file_checked_of o.0 ≡ frames_counted (with_room_lem (length list) (capture_in file))) × (o.1 ≡ frames_left (with_room_lem (length list) (capture_in file)) list))
+      → Firm {A = Result FrameCount Refusal × List Frame} (λ o. (answered o.0 ≡ frames_counted (with_room_lem (length list) (capture_in file))) × (o.1 ≡ frames_left (with_room_lem (length list) (capture_in file)) list))
   -- the part's bytes, and where it lies
   pub payload : (file : Bor (List ℕ)) (frame : Frame)
       → Firm {A = List ℕ × (ℕ × ℕ)} (λ o. (o.0 ≡ frame_payload file.now frame) × (o.1 ≡ behind (payload_from file.now frame) file))

@@ -1,6 +1,7 @@
 -- Reading a capture (rules G6 to G9): the check of the whole file, the step over one record, and the list of frames.
-use Rattle.std.specs.Prelude.{Bool, true, false, cond, List, [], ◌∷◌, ◌++◌, ℕ, ◌+◌, ◌-◌, eqb, leb, ltb, length, take, drop}
-use Rattle.numbers.specs.Numbers.{Answer, gives, refuses, told, and_then, mapped}
+use Rattle.std.specs.Prelude.{Bool, true, false, cond, List, [], ◌∷◌, ◌++◌, ℕ, ◌+◌, ◌-◌, eqb, leb, ltb, length, take, drop, Result}
+use Rattle.numbers.specs.Numbers.{Answer, gives, refuses, answered, and_then, mapped}
+use Rattle.numbers.specs.declared.Refusal.{Refusal}
 use Rattle.framing.specs.Cmdu.{header_in}
 use Rattle.walking.specs.Steps.{Ahead, ended, passed, Walk, walk_from}
 use Rattle.keys.specs.Keys.{key_of}
@@ -9,7 +10,7 @@ use Rattle.pushing.specs.declared.Arrival.{Arrival}
 use Rattle.captures.specs.Form.{field_at, magic, major, minor, link_type, Stored, is1905, milliseconds_of}
 use Rattle.captures.specs.declared.Frame.{Frame}
 use Rattle.captures.specs.declared.Reached.{Reached}
-use Rattle.captures.specs.declared.FileChecked.{FileChecked}
+use Rattle.captures.specs.declared.FrameCount.{FrameCount}
 
 -- Rules G1 and G6: the byte order of a file, by its magic; true is the highest byte first. Another magic: 22.
 abbrev pub order_by : List ℕ → Answer Bool
@@ -99,11 +100,13 @@ abbrev pub file_step : List ℕ → ℕ → Answer (Ahead Captured)
 file_step s at = and_then (file_order s) (λ highFirst. record_at_lem highFirst s at)
 
 -- what each answer of a step says
-abbrev pub reached_of : Reached → Answer (Ahead Captured)
-reached_of Reached.FileEnd = gives ended
-reached_of (Reached.Ours f next) = gives (passed (ours f) next)
-reached_of (Reached.Other next) = gives (passed other next)
-reached_of (Reached.Refused r) = told r
+abbrev pub found_of : Reached → Ahead Captured
+found_of Reached.FileEnd = ended
+found_of (Reached.Ours f next) = passed (ours f) next
+found_of (Reached.Other next) = passed other next
+
+abbrev pub reached_of : Result Reached Refusal → Answer (Ahead Captured)
+reached_of r = mapped found_of (answered r)
 
 -- Rule G6: the walk over a file's records, from the end of its file header on. A file has no more records than bytes.
 abbrev pub records_in : Bool → List ℕ → Walk Captured
@@ -130,14 +133,6 @@ capture_in s =
     and_then (file_order s) (λ highFirst. mapped (λ _. record { frames = frames_in (records_in highFirst s).items; others = others_in_lem (records_in highFirst s).items }) (records_in highFirst s).end)
 
 -- Rule G6: what the check answers, how many frames there are and how many others are passed over.
-pub record FrameCount : Type 0 where
-  pub handed : ℕ
-  pub passed_over : ℕ
-
-abbrev pub file_checked_of : FileChecked → Answer FrameCount
-file_checked_of (FileChecked.Capture n k) = gives (record { handed = n; passed_over = k })
-file_checked_of (FileChecked.Refused r) = told r
-
 abbrev pub frames_counted : Answer Capture → Answer FrameCount
 frames_counted = mapped (λ c. record { handed = length c.frames; passed_over = c.others })
 

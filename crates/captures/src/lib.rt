@@ -7,15 +7,15 @@ mod writing;
 
 ghost use Rattle.std.specs.Prelude.{◌≡◌, length};
 ghost use Rattle.numbers.specs.Parts.{behind};
-ghost use Rattle.framing.specs.Tlv.{written_of, leaves};
+ghost use Rattle.numbers.specs.Numbers.{answered};
+ghost use Rattle.framing.specs.Tlv.{leaves};
 ghost use Rattle.captures.specs.Writing.{our_header, file_header_size, frame_record, frame_size};
-ghost use Rattle.captures.specs.Reading.{no_frame_lem, reached_of, file_step, file_checked_of, frames_counted, capture_in, with_room_lem, frames_left, frame_payload, payload_from, arrival_of_lem};
-ghost use Rattle.captures.specs.PrivateReading.{Hands, FramePlan};
+ghost use Rattle.captures.specs.Reading.{no_frame_lem, reached_of, file_step, frames_counted, capture_in, with_room_lem, frames_left, frame_payload, payload_from, arrival_of_lem};
+ghost use Rattle.captures.specs.PrivateReading.{Hands};
 
-use framing::{CmduHeader, Written};
+use framing::CmduHeader;
 use numbers::Refusal;
 use pushing::{Arrival, Fragment};
-use reading::Ordered;
 use records::MacAddr;
 use table::PLACE_SIZE;
 
@@ -42,73 +42,74 @@ pub enum Reached {
     FileEnd,
     Ours { frame: Frame, next: usize },
     Other { next: usize },
-    Refused(Refusal),
 }
 
 // What a capture holds (rule G6): how many 1905 frames, and how many others, which are passed over.
 #[derive(Clone, Copy)]
-pub enum FileChecked {
-    Capture { frames: usize, others: usize },
-    Refused(Refusal),
+pub struct FrameCount {
+    pub handed: usize,
+    pub passed_over: usize,
 }
 
 // Writes a file header at the start of `out` (rule G5).
-pub fn write_file_header(out: &mut [u8]) -> Written
-    ensures answer { written_of result ≡ file_header_size (length out.old) }
+pub fn write_file_header(out: &mut [u8]) -> Result<usize, Refusal>
+    ensures answer { answered result ≡ file_header_size (length out.old) }
     ensures bytes { out.new ≡ leaves (file_header_size (length out.old)) our_header out.old }
 {
     if out.len() < 24 {
-        return Written::Refused(Refusal::NoRoom);
+        return Err(Refusal::NoRoom);
     }
     // the magic, the version, zone and accuracy, snap length and link type
     let header = b"\xD4\xC3\xB2\xA1\x02\0\x04\0\0\0\0\0\0\0\0\0\xFF\xFF\0\0\x01\0\0\0";
     out[..24].copy_from_slice(header);
-    Written::Bytes(24)
+    Ok(24)
 }
 
 // Writes a fragment as a frame of a capture at the start of `out` (rule G5): its arrival and its payload are what push
 // takes.
-pub fn write_frame(a: Arrival, payload: &[u8], out: &mut [u8]) -> Written
-    ensures answer { written_of result ≡ frame_size a.time (length payload.now) (length out.old) }
+pub fn write_frame(a: Arrival, payload: &[u8], out: &mut [u8]) -> Result<usize, Refusal>
+    ensures answer { answered result ≡ frame_size a.time (length payload.now) (length out.old) }
     ensures bytes { out.new ≡ leaves (frame_size a.time (length payload.now) (length out.old)) (frame_record a payload.now) out.old }
 {
     if PLACE_SIZE < payload.len() {
-        return Written::Refused(Refusal::PayloadTooLong);
+        return Err(Refusal::PayloadTooLong);
     }
     if SECONDS_END <= a.time / 1000 {
-        return Written::Refused(Refusal::BadFrame);
+        return Err(Refusal::BadFrame);
     }
     let size = 38 + payload.len();
     if out.len() < size {
-        return Written::Refused(Refusal::NoRoom);
+        return Err(Refusal::NoRoom);
     }
     writing::put_frame(a, payload, out);
-    Written::Bytes(size)
+    Ok(size)
 }
 
 // Goes over the record at the offset `at` of a capture, if the file header is in order (rule G7). The first record
 // stands at 24. Whoever goes over the records of a capture goes by this step. It doesn't look at the records after this
 // one: `check` does.
-pub fn step(file: &[u8], at: usize) -> Reached
+pub fn step(file: &[u8], at: usize) -> Result<Reached, Refusal>
     ensures { reached_of result ≡ file_step file.now at }
 {
-    match reading::order_of(file) {
-        Ordered::Is(high_first) => reading::record_at(file, high_first, at),
-        Ordered::Refused(refusal) => Reached::Refused(refusal),
-    }
+    let high_first = reading::order_of(file)?;
+    reading::record_at(file, high_first, at)
 }
 
 // Checks a whole capture, and counts its frames (rule G6). Where this refuses nothing, no step from 24 on does.
-pub fn check(file: &[u8]) -> FileChecked
-    ensures { file_checked_of result ≡ frames_counted (capture_in file.now) }
+pub fn check(file: &[u8]) -> Result<FrameCount, Refusal>
+    ensures { answered result ≡ frames_counted (capture_in file.now) }
 {
     let mut at = 24;
     let mut frames = 0;
     let mut others = 0;
     loop {
-        match step(file, at) {
+        let found = step(file, at)?;
+        match found {
             Reached::FileEnd => {
-                return FileChecked::Capture { frames, others };
+                return Ok(FrameCount {
+                    handed: frames,
+                    passed_over: others,
+                });
             }
             Reached::Ours { frame: _, next } => {
                 at = next;
@@ -118,18 +119,8 @@ pub fn check(file: &[u8]) -> FileChecked
                 at = next;
                 others += 1;
             }
-            Reached::Refused(refusal) => {
-                return FileChecked::Refused(refusal);
-            }
         }
     }
-}
-
-// A frame that is handed back, and where the next step starts.
-#[derive(Clone, Copy)]
-struct Handed {
-    frame: Frame,
-    next: usize,
 }
 
 // What stands where there is no frame to give.
@@ -161,79 +152,61 @@ pub fn no_frame() -> Frame
     }
 }
 
-// The first 1905 frame of the records from the offset `from` on. Where there is none, the answer is not to be used.
-fn next_frame(file: &[u8], from: usize) -> Handed
-    ensures { Hands file.now from result.frame result.next }
+// A frame that is handed back, and where the next step starts.
+#[derive(Clone, Copy)]
+struct Handed {
+    frame: Frame,
+    next: usize,
+}
+
+// The first 1905 frame of the records from the offset `from` on, if there is one before a fault.
+fn next_frame(file: &[u8], from: usize) -> Option<Handed>
+    ensures { Hands file.now from result }
 {
     let mut at = from;
     loop {
         match step(file, at) {
-            Reached::FileEnd => {
-                return Handed {
-                    frame: no_frame(),
-                    next: at,
-                };
+            Ok(Reached::Ours { frame, next }) => {
+                return Some(Handed { frame, next });
             }
-            Reached::Ours { frame, next } => {
-                return Handed { frame, next };
-            }
-            Reached::Other { next } => {
+            Ok(Reached::Other { next }) => {
                 at = next;
             }
-            Reached::Refused(_) => {
-                return Handed {
-                    frame: no_frame(),
-                    next: at,
-                };
+            Ok(Reached::FileEnd) => {
+                return None;
+            }
+            Err(_) => {
+                return None;
             }
         }
     }
 }
 
-// What is answered with a list of `room` elements, and how many elements are filled (rule G8).
-#[derive(Clone, Copy)]
-struct Planned {
-    count: usize,
-    answer: FileChecked,
-}
-
-fn plan(file: &[u8], room: usize) -> Planned
-    ensures { FramePlan file.now room result.count (file_checked_of result.answer) }
+// What is counted with a list of `room` elements (rule G8).
+fn plan(file: &[u8], room: usize) -> Result<FrameCount, Refusal>
+    ensures { answered result ≡ frames_counted (with_room_lem room (capture_in file.now)) }
 {
-    match check(file) {
-        FileChecked::Capture { frames, others } => {
-            if room < frames {
-                let answer = FileChecked::Refused(Refusal::ListTooShort);
-                return Planned { count: 0, answer };
-            }
-            let count = frames;
-            let answer = FileChecked::Capture { frames, others };
-            Planned { count, answer }
-        }
-        FileChecked::Refused(refusal) => {
-            let answer = FileChecked::Refused(refusal);
-            Planned { count: 0, answer }
-        }
+    let counted = check(file)?;
+    if room < counted.handed {
+        return Err(Refusal::ListTooShort);
     }
+    Ok(counted)
 }
 
 // Checks a whole capture, and lists its 1905 frames (rule G8). Nothing is listed before the whole file has been
 // checked, so that a fault in its last record leaves the list as it was (rule A3).
-pub fn frames_into(list: &mut [Frame], file: &[u8]) -> FileChecked
-    ensures { (file_checked_of result ≡ frames_counted (with_room_lem (length list.old) (capture_in file.now)))
+pub fn frames_into(list: &mut [Frame], file: &[u8]) -> Result<FrameCount, Refusal>
+    ensures { (answered result ≡ frames_counted (with_room_lem (length list.old) (capture_in file.now)))
         × (list.new ≡ frames_left (with_room_lem (length list.old) (capture_in file.now)) list.old) }
 {
-    let planned = plan(file, list.len());
-    let count = planned.count;
+    let planned = plan(file, list.len())?;
     let mut at = 24;
-    let mut i = 0;
-    while i < count {
-        let handed = next_frame(file, at);
-        list[i] = handed.frame;
+    for element in &mut list[..planned.handed] {
+        let handed = next_frame(file, at).unwrap();
+        *element = handed.frame;
         at = handed.next;
-        i += 1;
     }
-    planned.answer
+    Ok(planned)
 }
 
 // The payload of a frame, as a part of the file that the frame was read from (rule G9).

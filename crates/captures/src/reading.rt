@@ -1,13 +1,11 @@
 // The file header and one record of a capture, as they are read (rules G1, G2, G4 and G6).
 ghost use Rattle.std.specs.Prelude.{◌≡◌, ◌+◌, ◌<◌, ◌≤◌, length};
-ghost use Rattle.numbers.specs.Numbers.{gives};
+ghost use Rattle.numbers.specs.Numbers.{answered};
 ghost use Rattle.walking.specs.Steps.{passed};
 ghost use Rattle.captures.specs.Form.{field_at, is1905};
-ghost use Rattle.captures.specs.Reading.{is_ours_lem, file_order, captured_at, record_at_lem, reached_of};
-ghost use Rattle.captures.specs.PrivateReading.{ordered_of};
+ghost use Rattle.captures.specs.Reading.{is_ours_lem, file_order, captured_at, record_at_lem, found_of, reached_of};
 
 use crate::{Frame, Reached};
-use framing::HeaderRead;
 use numbers::{Refusal, be16};
 use records::MacAddr;
 
@@ -16,13 +14,6 @@ const MAGIC: usize = 0xA1B2C3D4;
 
 // The EtherType of IEEE 1905.1 (rule G4).
 const ETHER_TYPE: usize = 0x893A;
-
-// The byte order of a capture: highest byte first, or lowest.
-#[derive(Clone, Copy)]
-pub(crate) enum Ordered {
-    Is(bool),
-    Refused(Refusal),
-}
 
 // A number of the file's own in the two bytes from `at` on (rule G1).
 fn two_at(file: &[u8], at: usize, high_first: bool) -> usize
@@ -53,98 +44,91 @@ fn is_ours(file: &[u8], high_first: bool) -> bool
     requires { 24 ≤ length file.now }
     ensures { result ≡ is_ours_lem high_first file.now }
 {
-    if two_at(file, 4, high_first) == 2 {
-        if two_at(file, 6, high_first) == 4 {
-            return four_at(file, 20, high_first) == 1;
-        }
-    }
-    false
+    two_at(file, 4, high_first) == 2
+        && two_at(file, 6, high_first) == 4
+        && four_at(file, 20, high_first) == 1
 }
 
-// The file header (rule G6).
-pub(crate) fn order_of(file: &[u8]) -> Ordered
-    ensures { ordered_of result ≡ file_order file.now }
+// The file header (rule G6): whether numbers stand with the highest byte first.
+pub(crate) fn order_of(file: &[u8]) -> Result<bool, Refusal>
+    ensures { answered result ≡ file_order file.now }
 {
     if file.len() < 24 {
-        return Ordered::Refused(Refusal::RunsPastEnd(24 - file.len()));
+        return Err(Refusal::RunsPastEnd(24 - file.len()));
     }
     if four_at(file, 0, true) == MAGIC {
         if is_ours(file, true) {
-            return Ordered::Is(true);
+            return Ok(true);
         }
-        return Ordered::Refused(Refusal::NotACapture);
+        return Err(Refusal::NotACapture);
     }
     if four_at(file, 0, false) == MAGIC {
         if is_ours(file, false) {
-            return Ordered::Is(false);
+            return Ok(false);
         }
     }
-    Ordered::Refused(Refusal::NotACapture)
+    Err(Refusal::NotACapture)
 }
 
 // Is it a 1905 frame (rule G4)?
 fn is_1905(frame: &[u8]) -> bool
     ensures { result ≡ is1905 frame.now }
 {
-    if frame.len() < 22 {
-        return false;
-    }
-    be16(frame[12], frame[13]) == ETHER_TYPE
+    22 <= frame.len() && be16(frame[12], frame[13]) == ETHER_TYPE
 }
 
 // What a step goes over that finds this frame at this time, with the record header at `at` (rule G7).
 fn captured(frame: &[u8], seconds: u32, microseconds: u32, at: usize) -> Reached
     requires { at + 16 + length frame.now < 18446744073709551616 }
-    ensures { reached_of result ≡ gives (passed (captured_at at (record { seconds = seconds; microseconds = microseconds; frame = frame.now })) (at + 16 + length frame.now)) }
+    ensures { found_of result ≡ passed (captured_at at (record { seconds = seconds; microseconds = microseconds; frame = frame.now })) (at + 16 + length frame.now) }
 {
     let next = at + 16 + frame.len();
-    if is_1905(frame) {
-        // A frame of 22 bytes has a whole CMDU header.
-        if let HeaderRead::Header(cmdu) = framing::read_cmdu_header(&frame[14..]) {
-            let sender = MacAddr {
-                b0: frame[6],
-                b1: frame[7],
-                b2: frame[8],
-                b3: frame[9],
-                b4: frame[10],
-                b5: frame[11],
-            };
-            let ours = Frame {
-                seconds,
-                microseconds,
-                sender,
-                cmdu,
-                offset: at + 38,
-                length: frame.len() - 22,
-            };
-            return Reached::Ours { frame: ours, next };
-        }
+    if !is_1905(frame) {
+        return Reached::Other { next };
     }
-    Reached::Other { next }
+    // A frame of 22 bytes has a whole CMDU header.
+    let cmdu = framing::read_cmdu_header(&frame[14..]).unwrap();
+    let sender = MacAddr {
+        b0: frame[6],
+        b1: frame[7],
+        b2: frame[8],
+        b3: frame[9],
+        b4: frame[10],
+        b5: frame[11],
+    };
+    let ours = Frame {
+        seconds,
+        microseconds,
+        sender,
+        cmdu,
+        offset: at + 38,
+        length: frame.len() - 22,
+    };
+    Reached::Ours { frame: ours, next }
 }
 
 // The step over the record at `at` (rules G6 and G7).
-pub(crate) fn record_at(file: &[u8], high_first: bool, at: usize) -> Reached
+pub(crate) fn record_at(file: &[u8], high_first: bool, at: usize) -> Result<Reached, Refusal>
     ensures { reached_of result ≡ record_at_lem high_first file.now at }
 {
     if file.len() <= at {
-        return Reached::FileEnd;
+        return Ok(Reached::FileEnd);
     }
     let have = file.len() - at;
     if have < 16 {
-        return Reached::Refused(Refusal::RunsPastEnd(16 - have));
+        return Err(Refusal::RunsPastEnd(16 - have));
     }
     let stored = four_at(file, at + 8, high_first);
     if stored != four_at(file, at + 12, high_first) {
-        return Reached::Refused(Refusal::BadFrame);
+        return Err(Refusal::BadFrame);
     }
     let left = have - 16;
     if left < stored {
-        return Reached::Refused(Refusal::RunsPastEnd(stored - left));
+        return Err(Refusal::RunsPastEnd(stored - left));
     }
     let seconds = four_at(file, at, high_first) as u32;
     let microseconds = four_at(file, at + 4, high_first) as u32;
     let start = at + 16;
     let end = start + stored;
-    captured(&file[start..end], seconds, microseconds, at)
+    Ok(captured(&file[start..end], seconds, microseconds, at))
 }

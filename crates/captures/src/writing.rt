@@ -86,6 +86,6 @@ pub(crate) fn put_frame(a: Arrival, payload: &[u8], out: &mut [u8])
     out[..16].copy_from_slice(&stamp);
     let ethernet = ethernet_header(a.key);
     out[16..30].copy_from_slice(&ethernet);
-    framing::write_cmdu_header(fields_of(a), &mut out[30..]);
+    let _ = framing::write_cmdu_header(fields_of(a), &mut out[30..]);
     out[38..38 + payload.len()].copy_from_slice(payload);
 }

@@ -1,41 +1,46 @@
 -- `check` meets its contract: what the loop keeps is `Counting`, and what is left of the file falls.
+use Rattle.std.proofs.lemmas.Result.{err_from_is_err_and}
 use mathlib.Core.Path.{sym, ap, ◌∙◌}
 use native.Mathlib.Omega.{arith}
-use Rattle.captures.specs.Reading.{reached_of}
+use Rattle.numbers.specs.Numbers.{gives}
+use Rattle.captures.specs.Reading.{found_of}
+use Rattle.captures.specs.declared.Reached.{Reached}
 use Rattle.captures.proofs.Checking.{begins, forward, ours_next, other_next, ends, refused}
 use Rattle.captures.proofs.check.Goals as goal
 
-pub loop-next-init : goal.loop-next-init
-loop-next-init c = begins _
+pub loop-found-init : goal.loop-found-init
+loop-found-init c = begins _
+
+pub returns-in_err-found : goal.returns-in_err-found
+returns-in_err-found c =
+    let p = err_from_is_err_and c.from_residual.result c.from_residual.ensures.1 in
+    rw (p.1, p.2) (refused _ _ _ _ c.loop-found.invariant _ _ c.in_err-found.ensures)
 
 pub returns-in-FileEnd : goal.returns-in-FileEnd
-returns-in-FileEnd c = ends _ _ _ _ c.loop-next.invariant (ap reached_of (sym c.in-FileEnd.is) ∙ c.step.ensures)
+returns-in-FileEnd c = ends _ _ _ _ c.loop-found.invariant (ap (λ (r : Reached). gives (found_of r)) (sym c.in-FileEnd.is) ∙ c.in_ok-found.ensures)
 
 pub overflow_add-frames : goal.overflow_add-frames
 overflow_add-frames c =
-    let o = forward _ _ _ _ (ap reached_of (sym c.in-Ours.is) ∙ c.step.ensures) in
-    omega (arith, o.0, o.1, c.loop-next.invariant.slow)
+    let o = forward _ _ _ _ (ap (λ (r : Reached). gives (found_of r)) (sym c.in-Ours.is) ∙ c.in_ok-found.ensures) in
+    omega (arith, o.0, o.1, c.loop-found.invariant.slow)
 
-pub loop-next-smaller-in-Ours : goal.loop-next-smaller-in-Ours
-loop-next-smaller-in-Ours c =
-    let o = forward _ _ _ _ (ap reached_of (sym c.in-Ours.is) ∙ c.step.ensures) in
+pub loop-found-smaller-in-Ours : goal.loop-found-smaller-in-Ours
+loop-found-smaller-in-Ours c =
+    let o = forward _ _ _ _ (ap (λ (r : Reached). gives (found_of r)) (sym c.in-Ours.is) ∙ c.in_ok-found.ensures) in
     omega (arith, o.0, o.1)
 
-pub loop-next-preserved-in-Ours : goal.loop-next-preserved-in-Ours
-loop-next-preserved-in-Ours c = ours_next _ _ _ _ c.loop-next.invariant _ _ (ap reached_of (sym c.in-Ours.is) ∙ c.step.ensures)
+pub loop-found-preserved-in-Ours : goal.loop-found-preserved-in-Ours
+loop-found-preserved-in-Ours c = ours_next _ _ _ _ c.loop-found.invariant _ _ (ap (λ (r : Reached). gives (found_of r)) (sym c.in-Ours.is) ∙ c.in_ok-found.ensures)
 
 pub overflow_add-others : goal.overflow_add-others
 overflow_add-others c =
-    let o = forward _ _ _ _ (ap reached_of (sym c.in-Other.is) ∙ c.step.ensures) in
-    omega (arith, o.0, o.1, c.loop-next.invariant.slow)
+    let o = forward _ _ _ _ (ap (λ (r : Reached). gives (found_of r)) (sym c.in-Other.is) ∙ c.in_ok-found.ensures) in
+    omega (arith, o.0, o.1, c.loop-found.invariant.slow)
 
-pub loop-next-smaller : goal.loop-next-smaller
-loop-next-smaller c =
-    let o = forward _ _ _ _ (ap reached_of (sym c.in-Other.is) ∙ c.step.ensures) in
+pub loop-found-smaller : goal.loop-found-smaller
+loop-found-smaller c =
+    let o = forward _ _ _ _ (ap (λ (r : Reached). gives (found_of r)) (sym c.in-Other.is) ∙ c.in_ok-found.ensures) in
     omega (arith, o.0, o.1)
 
-pub loop-next-preserved : goal.loop-next-preserved
-loop-next-preserved c = other_next _ _ _ _ c.loop-next.invariant _ (ap reached_of (sym c.in-Other.is) ∙ c.step.ensures)
-
-pub returns-in-Refused : goal.returns-in-Refused
-returns-in-Refused c = refused _ _ _ _ c.loop-next.invariant _ _ (ap reached_of (sym c.in-Refused.is) ∙ c.step.ensures)
+pub loop-found-preserved : goal.loop-found-preserved
+loop-found-preserved c = other_next _ _ _ _ c.loop-found.invariant _ (ap (λ (r : Reached). gives (found_of r)) (sym c.in-Other.is) ∙ c.in_ok-found.ensures)

@@ -4,8 +4,8 @@ use lib.ListN.{length}
 use Rattle.captures.proofs.Checking.{Counting}
 use Rattle.captures.proofs.check.Given as goal
 
-abbrev pub invariant-loop-next : goal.invariant-loop-next
-invariant-loop-next l = Counting l.file l.at l.frames l.others
+abbrev pub invariant-loop-found : goal.invariant-loop-found
+invariant-loop-found l = Counting l.file l.at l.frames l.others
 
-abbrev pub decreases-loop-next : goal.decreases-loop-next
-decreases-loop-next l = length l.file - l.at
+abbrev pub decreases-loop-found : goal.decreases-loop-found
+decreases-loop-found l = length l.file - l.at

@@ -1,29 +1,32 @@
 -- `frames_into` meets its contract: the plan says how many frames fit, and each turn lists one more of them.
-use Rattle.std.proofs.Common.{length, ◌∙◌}
-use Rattle.captures.specs.Reading.{file_checked_of}
-use Rattle.captures.proofs.Handing.{begins, goes_over, ends}
-use Rattle.captures.proofs.Planning.{fits, few, holds}
+use Rattle.std.proofs.Common.{List, length, drop, ◌++◌, ap, sym, ◌∙◌, arith}
+use lib.Seq.{length-take-le}
+use Rattle.captures.specs.declared.Frame.{Frame}
+use Rattle.captures.proofs.Handing.{more, goes_over, ends}
+use Rattle.captures.proofs.Planning.{listed}
 use Rattle.captures.proofs.frames_into.Goals as goal
 
-pub loop-i-init : goal.loop-i-init
-loop-i-init c = begins _ _ _
-
-pub loop-i-preserved : goal.loop-i-preserved
-loop-i-preserved c =
-    let plan = c.plan-planned in
+pub unwrap-handed-requires : goal.unwrap-handed-requires
+unwrap-handed-requires c =
     let s = c.args.file.now in
-    let n = plan.result.count in
-    let ys = c.args.list.now in
-    let room = fits s (length ys) n (file_checked_of plan.result.answer) plan.ensures in
-    let there = few s (length ys) n (file_checked_of plan.result.answer) plan.ensures in
-    let more = goes_over s n ys c.loop-i.i c.loop-i.at c.loop-i.list c.loop-i.invariant there room in
-    more c.loop-i-test.true _ _ c.next_frame-handed.ensures
+    let list = c.args.list.now in
+    let l = listed s (length list) _ c.in_ok-planned.ensures in
+    let n = length-take-le c.in_ok-planned.planned.handed list l.room_for_lem in
+    more s _ _ _ c.loop-element.invariant (omega arith) _ c.next_frame.ensures
+
+pub loop-element-preserved : goal.loop-element-preserved
+loop-element-preserved c =
+    let s = c.args.file.now in
+    let list = c.args.list.now in
+    let l = listed s (length list) _ c.in_ok-planned.ensures in
+    let n = length-take-le c.in_ok-planned.planned.handed list l.room_for_lem in
+    goes_over s _ _ _ c.loop-element.invariant (omega arith) (omega arith) _ _ c.unwrap-handed.ensures c.next_frame.ensures
 
 pub returns : goal.returns
 returns c =
-    let plan = c.plan-planned in
     let s = c.args.file.now in
-    let n = plan.result.count in
-    let ys = c.args.list.now in
-    let all = ends s n ys c.loop-i.i c.loop-i.at c.loop-i.list c.loop-i.invariant c.loop-i-test.false in
-    (plan.ensures.answered, all ∙ holds s (length ys) n (file_checked_of plan.result.answer) plan.ensures ys)
+    let list = c.args.list.now in
+    let planned = c.in_ok-planned.planned in
+    let l = listed s (length list) planned c.in_ok-planned.ensures in
+    let n = length-take-le planned.handed list l.room_for_lem in
+    (c.in_ok-planned.ensures, ap (λ (fs : List Frame). fs ++ drop planned.handed list) (ends s _ _ _ c.loop-element.invariant (omega arith) (omega arith)) ∙ sym (l.left list))

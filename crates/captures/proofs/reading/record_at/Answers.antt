@@ -1,5 +1,6 @@
 -- `record_at` meets its contract: an exit for each case of `record_at_lem`.
-use mathlib.Core.Path.{refl, ◌∙◌}
+use mathlib.Core.Path.{refl, ap, ◌∙◌}
+use Rattle.numbers.specs.Numbers.{gives}
 use Rattle.captures.proofs.Records.{at_end_lem, headless, unlike, cut, seen}
 use borrow.Author.Rules.{rules}
 use Rattle.captures.proofs.reading.record_at.Goals as goal
@@ -18,4 +19,4 @@ returns-then-left-stored c = cut _ _ _ (search rules) (search rules) _ _ c.four_
 
 pub returns : goal.returns
 returns c =
-    c.captured.ensures ∙ seen _ _ _ (search rules) (search rules) _ _ c.four_at-stored.ensures.0 c.four_at.ensures.0 c.if-stored-four_at.false c.if-left-stored.false _ _ c.four_at-seconds.ensures.0 c.four_at-microseconds.ensures.0 _ refl
+    ap gives c.captured.ensures ∙ seen _ _ _ (search rules) (search rules) _ _ c.four_at-stored.ensures.0 c.four_at.ensures.0 c.if-stored-four_at.false c.if-left-stored.false _ _ c.four_at-seconds.ensures.0 c.four_at-microseconds.ensures.0 _ refl
