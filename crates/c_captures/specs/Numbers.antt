@@ -3,7 +3,8 @@
 use Rattle.std.specs.Prelude.{ℕ, get_or}
 use Rattle.numbers.specs.Numbers.{Answer, gives, refuses}
 use Rattle.walking.specs.Steps.{Ahead, ended, passed, last}
-use Rattle.captures.specs.Reading.{no_frame_lem, Captured, ours, other, FrameCount}
+use Rattle.captures.specs.declared.FrameCount.{FrameCount}
+use Rattle.captures.specs.Reading.{no_frame_lem, Captured, ours, other}
 use Rattle.c_captures.specs.declared.AshlarWritten.{AshlarWritten}
 use Rattle.c_captures.specs.declared.AshlarReached.{AshlarReached}
 use Rattle.c_captures.specs.declared.AshlarCapture.{AshlarCapture}

@@ -3,12 +3,12 @@
 #![tactic(auto)]
 
 ghost use Rattle.std.specs.Prelude.{◌≡◌};
-ghost use Rattle.framing.specs.Tlv.{written_of};
-ghost use Rattle.captures.specs.Reading.{reached_of, file_checked_of};
+ghost use Rattle.numbers.specs.Numbers.{answered};
+ghost use Rattle.captures.specs.Reading.{reached_of};
 ghost use Rattle.c_captures.specs.Numbers.{written_numbers_lem, without_frame_lem, reached_numbers_lem, checked_numbers_lem};
 
-use captures::{FileChecked, Frame, Reached};
-use framing::Written;
+use captures::{Frame, FrameCount, Reached};
+use numbers::Refusal;
 
 // How many bytes were written (rules B7 and G5).
 #[repr(C)]
@@ -41,12 +41,12 @@ pub struct AshlarCapture {
 }
 
 // What a writer answers.
-pub fn written_numbers(written: Written) -> AshlarWritten
-    ensures { result ≡ written_numbers_lem (written_of written) }
+pub fn written_numbers(written: Result<usize, Refusal>) -> AshlarWritten
+    ensures { result ≡ written_numbers_lem (answered written) }
 {
     match written {
-        Written::Bytes(length) => AshlarWritten { length, refusal: 0 },
-        Written::Refused(refusal) => AshlarWritten {
+        Ok(length) => AshlarWritten { length, refusal: 0 },
+        Err(refusal) => AshlarWritten {
             length: 0,
             refusal: numbers::number_of(refusal),
         },
@@ -67,20 +67,20 @@ fn without_frame(answer: u8, next: usize) -> AshlarReached
 }
 
 // What a step goes over.
-pub fn reached_numbers(reached: Reached) -> AshlarReached
+pub fn reached_numbers(reached: Result<Reached, Refusal>) -> AshlarReached
     ensures { result ≡ reached_numbers_lem (reached_of reached) }
 {
     match reached {
-        Reached::FileEnd => without_frame(1, 0),
-        Reached::Ours { frame, next } => AshlarReached {
+        Ok(Reached::FileEnd) => without_frame(1, 0),
+        Ok(Reached::Ours { frame, next }) => AshlarReached {
             frame,
             next,
             shortfall: 0,
             answer: 2,
             refusal: 0,
         },
-        Reached::Other { next } => without_frame(3, next),
-        Reached::Refused(refusal) => AshlarReached {
+        Ok(Reached::Other { next }) => without_frame(3, next),
+        Err(refusal) => AshlarReached {
             frame: captures::no_frame(),
             next: 0,
             shortfall: numbers::carried_by(refusal),
@@ -91,17 +91,17 @@ pub fn reached_numbers(reached: Reached) -> AshlarReached
 }
 
 // What the check of a capture answers, and the list of its frames.
-pub fn checked_numbers(checked: FileChecked) -> AshlarCapture
-    ensures { result ≡ checked_numbers_lem (file_checked_of checked) }
+pub fn checked_numbers(checked: Result<FrameCount, Refusal>) -> AshlarCapture
+    ensures { result ≡ checked_numbers_lem (answered checked) }
 {
     match checked {
-        FileChecked::Capture { frames, others } => AshlarCapture {
-            frames,
-            others,
+        Ok(counted) => AshlarCapture {
+            frames: counted.handed,
+            others: counted.passed_over,
             shortfall: 0,
             refusal: 0,
         },
-        FileChecked::Refused(refusal) => AshlarCapture {
+        Err(refusal) => AshlarCapture {
             frames: 0,
             others: 0,
             shortfall: numbers::carried_by(refusal),
