@@ -1,9 +1,0 @@
--- `put_stations` is safe and ends.
-use Rattle.std.proofs.Common.{◌-◌}
-use Rattle.story_lines.proofs.events.put_stations.Given as goal
-
-abbrev pub invariant-loop-n : goal.invariant-loop-n
-invariant-loop-n g l = Unit {0}
-
-abbrev pub decreases-loop-n : goal.decreases-loop-n
-decreases-loop-n g l = 128 - l.n
