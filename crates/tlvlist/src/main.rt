@@ -4,115 +4,104 @@
 // missing.
 #![tactic(auto)]
 
-ghost use Rattle.std.specs.Prelude.{◌≤◌, length};
+ghost use Rattle.std.specs.Prelude.{◌≤◌, ℕ, length};
 
-use walking::{Stepped, Tlv};
+use walking::{Stepped, Tlv, Unwalked};
+
+// The text goes out in pieces of at most this size.
+const SIZE: usize = 4096;
 
 // A line is at most 70 bytes long: "bad ", three numbers of at most 20 digits, " at ", a space and the line's end.
 const LINE: usize = 80;
 
-// The bytes go into the text at `used`; returns where the text then ends. Bytes that have no room are left out:
-// `with_room` sees to it that a line has room.
-fn put(text: &mut [u8], used: usize, bytes: &[u8]) -> usize
-    requires { used ≤ length text.old }
-    ensures { result ≤ length text.old }
-{
-    if text.len() - used < bytes.len() {
-        return used;
+// Lines that are written and not yet out, in fixed memory.
+#[derive(Drop)]
+struct Lines {
+    text: [u8; SIZE],
+    used: usize,
+    ghost within: { used ≤ 4096 },
+}
+
+impl Lines {
+    // Nothing is written yet.
+    fn new() -> Self {
+        Lines {
+            text: [0; SIZE],
+            used: 0,
+        }
     }
-    let mut i = 0;
-    while i < bytes.len() {
-        text[used + i] = bytes[i];
-        i += 1;
+
+    // Bytes that have no room are left out: `with_room` sees to it that a line has room.
+    fn put(&mut self, bytes: &[u8]) {
+        if bytes.len() <= SIZE - self.used {
+            let end = self.used + bytes.len();
+            self.text[self.used..end].copy_from_slice(bytes);
+            self.used = end;
+        }
     }
-    used + i
-}
 
-fn put_number(text: &mut [u8], used: usize, n: usize) -> usize
-    requires { used ≤ length text.old }
-    ensures { result ≤ length text.old }
-{
-    let mut digits = [0u8; 20];
-    let k = io::decimal(n as u64, &mut digits);
-    put(text, used, &digits[..k])
-}
+    // A format would do it too, in more than twice the time.
+    fn put_number(&mut self, n: usize) {
+        let mut digits = [0u8; 20];
+        let k = io::decimal(n as u64, &mut digits);
+        self.put(&digits[..k]);
+    }
 
-fn put_tlv(text: &mut [u8], used: usize, tlv: Tlv) -> usize
-    requires { used ≤ length text.old }
-    ensures { result ≤ length text.old }
-{
-    let a = put_number(text, used, tlv.tlv_type as usize);
-    let b = put(text, a, b" ");
-    let c = put_number(text, b, tlv.length as usize);
-    put(text, c, b"\n")
-}
+    fn put_tlv(&mut self, tlv: Tlv) {
+        self.put_number(tlv.tlv_type as usize);
+        self.put(b" ");
+        self.put_number(tlv.length as usize);
+        self.put(b"\n");
+    }
 
-fn put_end(text: &mut [u8], used: usize, at: usize) -> usize
-    requires { used ≤ length text.old }
-    ensures { result ≤ length text.old }
-{
-    let a = put(text, used, b"end ");
-    let b = put_number(text, a, at);
-    put(text, b, b"\n")
-}
+    fn put_end(&mut self, at: usize) {
+        self.put(b"end ");
+        self.put_number(at);
+        self.put(b"\n");
+    }
 
-fn put_bad(text: &mut [u8], used: usize, number: u8, at: usize, missing: usize) -> usize
-    requires { used ≤ length text.old }
-    ensures { result ≤ length text.old }
-{
-    let a = put(text, used, b"bad ");
-    let b = put_number(text, a, number as usize);
-    let c = put(text, b, b" at ");
-    let d = put_number(text, c, at);
-    let e = put(text, d, b" ");
-    let f = put_number(text, e, missing);
-    put(text, f, b"\n")
-}
+    fn put_bad(&mut self, number: u8, at: usize, missing: usize) {
+        self.put(b"bad ");
+        self.put_number(number as usize);
+        self.put(b" at ");
+        self.put_number(at);
+        self.put(b" ");
+        self.put_number(missing);
+        self.put(b"\n");
+    }
 
-// Writes the first bytes of the text out. What cannot be written is lost.
-fn flush(rt: &impl Print, text: &[u8], used: usize) {
-    if used <= text.len() {
-        let _ = rt.write_all(&text[..used]);
+    // Writes the text out, and begins a new one. What cannot be written is lost.
+    fn flush(&mut self, rt: &impl Print) {
+        let _ = rt.write_all(&self.text[..self.used]);
+        self.used = 0;
+    }
+
+    // Room for one more line: a text that is nearly full is written out first, so that there is a call for each large
+    // piece and not for each number.
+    fn with_room(&mut self, rt: &impl Print) {
+        if SIZE - self.used < LINE {
+            self.flush(rt);
+        }
     }
 }
 
-// Room for one more line: a text that is nearly full is written out first, so that there is a call for each large piece
-// and not for each number.
-fn with_room(rt: &impl Print, text: &[u8], used: usize) -> usize
-    requires { used ≤ length text.now }
-    ensures { result ≤ length text.now }
-{
-    if LINE <= text.len() - used {
-        return used;
-    }
-    flush(rt, text, used);
-    0
-}
-
-// The lines of a payload (rules L1 and L2). Returns how many bytes of the text are still to be written out.
-fn list(rt: &impl Print, payload: &[u8], text: &mut [u8]) -> usize
-    ensures { result ≤ length text.old }
-{
+// The lines of the TLVs of a payload (rules L1 and L2). Returns where the message ends.
+fn list(rt: &impl Print, payload: &[u8], lines: &mut Lines) -> Result<usize, Unwalked> {
     let mut at = 0;
-    let mut used = 0;
     loop {
-        used = with_room(rt, text, used);
-        match walking::step(payload, at) {
+        lines.with_room(rt);
+        match walking::step(payload, at)? {
             Stepped::End => {
-                return put_end(text, used, at);
+                return Ok(at);
             }
             Stepped::Tlv { tlv, next } => {
-                used = put_tlv(text, used, tlv);
+                lines.put_tlv(tlv);
                 at = next;
             }
             Stepped::Last { tlv, end } => {
-                used = put_tlv(text, used, tlv);
-                used = with_room(rt, text, used);
-                return put_end(text, used, end);
-            }
-            Stepped::Refused { refusal, at } => {
-                let missing = numbers::carried_by(refusal);
-                return put_bad(text, used, numbers::number_of(refusal), at, missing);
+                lines.put_tlv(tlv);
+                lines.with_room(rt);
+                return Ok(end);
             }
         }
     }
@@ -122,14 +111,22 @@ fn list(rt: &impl Print, payload: &[u8], text: &mut [u8]) -> usize
 const MOST_INPUT: usize = 47744;
 
 fn main(rt: HostRuntime) {
-    let mut payload = [0u8; 47745];
-    let mut text = [0u8; 4096];
+    let mut payload = [0u8; MOST_INPUT + 1];
+    let mut lines = Lines::new();
     let n = incoming::read_full(&mut rt.stdin(), &mut payload);
     if MOST_INPUT < n {
-        let used = put_bad(&mut text, 0, 12, 0, 0);
-        flush(&rt, &text, used);
-        return;
+        lines.put_bad(12, 0, 0);
+    } else {
+        match list(&rt, &payload[..n], &mut lines) {
+            Ok(end) => lines.put_end(end),
+            Err(Unwalked { refusal, at }) => {
+                lines.put_bad(
+                    numbers::number_of(refusal),
+                    at,
+                    numbers::carried_by(refusal),
+                );
+            }
+        }
     }
-    let used = list(&rt, &payload[..n], &mut text);
-    flush(&rt, &text, used);
+    lines.flush(&rt);
 }
