@@ -4,6 +4,7 @@ use mathlib.Core.List.{List, []}
 use Prim.Native.Nat.{ℕ, zero, suc, ◌+◌, ◌-◌, ◌<◌, ◌≤◌}
 use native.Mathlib.Numerals.{sub-one}
 use native.Mathlib.Omega.{arith}
+use lib.ListN.{length}
 use Rattle.numbers.specs.Numbers.{Answer, gives, refuses, and_then}
 use Rattle.numbers.proofs.Firm.{never}
 use Rattle.numbers.proofs.Answers.{follows, stops}
@@ -12,7 +13,7 @@ use Rattle.layouts.specs.Layouts.{Layout, bytes, entry}
 use Rattle.layouts.specs.declared.ListAt.{ListAt}
 use Rattle.layouts.specs.Reading.{reaching, head_of, counting_of_lem, count_at_lem, list_of, entries_end, end_of, consumed_to_lem, read_as_lem}
 use Rattle.layouts.specs.Rows.{counting, row_below_lem, layout_in, row_layout}
-use Rattle.layouts.proofs.Within.{list_leaf}
+use Rattle.layouts.proofs.Within.{list_leaf, end_within}
 
 -- a row's entry: its head, and its list where it has one
 pub layout_zero : (row : LayoutRow) → row.levels ≡ 0 → row_layout row ≡ bytes row.h0
@@ -68,6 +69,10 @@ module _ (row : LayoutRow) (s : List ℕ) (p : ℕ) where
 
   pub end_there : (m : ListAt) → list_of (row_layout row) s p ≡ gives m → entries_end (end_of (row_layout (row_below_lem row)) s) m.many m.first ≡ end_of (row_layout row) s p
   end_there m e = let l = list_level m e in sym (end_list (omega arith) ∙ follows _ m _ e)
+
+  -- and so within the bytes
+  pub end_inside : (under : LayoutRow) (m : ListAt) (q : ℕ) → under ≡ row_below_lem row → list_of (row_layout row) s p ≡ gives m → entries_end (end_of (row_layout under) s) m.many m.first ≡ gives q → q ≤ length s
+  end_inside under m q u e x = let y = rw u at x in (end_within (row_layout row) s p q (sym (end_there m e) ∙ y)).1
 
   pub end_cut : (n : ℕ) (vs : List ℕ) → (row.levels ≡ 0 → ⊥) → list_of (row_layout row) s p ≡ refuses n vs → refuses n vs ≡ end_of (row_layout row) s p
   end_cut n vs f e = sym (end_list f ∙ stops _ n vs _ e)

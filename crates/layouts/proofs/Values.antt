@@ -92,3 +92,9 @@ located_within code is s r x =
     let w = end_within a.layout s 0 a.value.consumed e.ends in
     let b = span_inside a.layout is s a.value.consumed r e.ends a.says in
     (b.0, omega arith)
+
+pub located_ordered : (code : ℕ) (is s : List ℕ) (r : Span) → locate_entry code is s ≡ gives r → r.start ≤ r.end
+located_ordered code is s r x = (located_within code is s r x).0
+
+pub located_inside : (code : ℕ) (is s : List ℕ) (r : Span) → locate_entry code is s ≡ gives r → r.end ≤ length s
+located_inside code is s r x = (located_within code is s r x).1

@@ -9,11 +9,11 @@ mod passing;
 mod rows;
 
 ghost use Rattle.std.specs.Prelude.{◌≡◌};
-ghost use Rattle.numbers.specs.Numbers.{answered};
+ghost use Rattle.numbers.specs.Numbers.{answered, mapped, and_then};
 ghost use Rattle.numbers.specs.Parts.{behind};
-ghost use Rattle.layouts.specs.Layouts.{is_list_lem};
+ghost use Rattle.layouts.specs.Layouts.{layout_of, is_list_lem};
 ghost use Rattle.layouts.specs.Rows.{row_layout};
-ghost use Rattle.layouts.specs.Reading.{list_of, entries_end, end_of, read_value_lem};
+ghost use Rattle.layouts.specs.Reading.{list_of, entries_end, end_of, read_as_lem, read_value_lem};
 ghost use Rattle.layouts.specs.Access.{numbers_of, locate_entry, part_of, start_in, count_entries, pass_entry};
 
 use numbers::{Refusal, wide};
@@ -125,17 +125,27 @@ pub fn read_value(code: u8, s: &[u8]) -> Result<Consumed, Refusal>
     lists::read_row(row, s)
 }
 
+// The row of the list kind with this code, of which the value s has to read (rule E2).
+fn row_read(code: u8, s: &[u8]) -> Result<LayoutRow, Refusal>
+    ensures { mapped row_layout (answered result) ≡ and_then (layout_of code) (λ l. mapped (λ r. l) (read_as_lem l s.now)) }
+{
+    let row = rows::row_of(code)?;
+    lists::read_row(row, s)?;
+    Ok(row)
+}
+
 // Where the entry with these numbers lies in the value s (rule E1). The whole value has to read first (rule E2).
-#[tactic(auto, unfolding(crate::specs::Access::locate_entry))]
+#[tactic(auto, unfolding(crate::specs::Access::of_value_lem, crate::specs::Access::locate_entry))]
 pub fn locate(code: u8, path: Path, s: &[u8]) -> Result<Span, Refusal>
     ensures { answered result ≡ locate_entry code (numbers_of path) s.now }
 {
-    let row = rows::row_of(code)?;
-    access::locate_in(row, path, s)
+    let row = row_read(code, s)?;
+    access::span_of(row, path, s)
 }
 
 // The entry with these numbers as its own part of s, to the end of the lists that it holds (rule E1). Where `locate`
 // refuses, it is the empty part at the start of s (rule A5).
+#[tactic(auto, using(crate::proofs::Values::located_ordered, crate::proofs::Values::located_inside))]
 pub fn entry(code: u8, path: Path, s: &[u8]) -> &[u8]
     ensures result_value { result.now ≡ part_of (locate_entry code (numbers_of path) s.now) s.now }
     ensures place { result.ref_ptr ≡ behind (start_in (locate_entry code (numbers_of path) s.now)) s.entry }
@@ -148,12 +158,12 @@ pub fn entry(code: u8, path: Path, s: &[u8]) -> &[u8]
 
 // How many entries the list of the entry with these numbers has; without numbers, the outermost list (rule E3). An
 // entry of the lowest level has no list.
-#[tactic(auto, unfolding(crate::specs::Access::count_entries))]
+#[tactic(auto, unfolding(crate::specs::Access::of_value_lem, crate::specs::Access::count_entries))]
 pub fn count(code: u8, path: Path, s: &[u8]) -> Result<usize, Refusal>
     ensures { answered result ≡ count_entries code (numbers_of path) s.now }
 {
-    let row = rows::row_of(code)?;
-    access::count_in(row, path, s)
+    let row = row_read(code, s)?;
+    access::length_at(row, path, s)
 }
 
 // Goes over the entry of this level that starts at `at` (rule E9). The answer is how many entries its own list has and

@@ -20,25 +20,24 @@ pub(crate) fn reach(n: usize, s: &[u8], at: usize) -> Result<usize, Refusal>
     Ok(at + n)
 }
 
-// Where n entries of h bytes each end, the first of which starts at `at` (rule K3). More than fit into all of s are
-// refused first, so that the product is no more than its length.
+// Where n entries of h bytes each end, the first of which starts at `at` (rule K3). A product that no number holds is
+// more bytes than there are.
+#[tactic(auto, using(crate::proofs::Runs::run_bytes, crate::proofs::Within::cut), unfolding(crate::specs::Reading::entries_end))]
 pub(crate) fn run_end(n: usize, h: usize, s: &[u8], at: usize) -> Result<usize, Refusal>
     ensures { answered result ≡ entries_end (end_of (bytes h) s.now) n at }
 {
     if n == 0 {
         return Ok(at);
     }
-    if h == 0 {
-        return reach(0, s, at);
-    }
-    if s.len() / h < n {
+    let Some(size) = n.checked_mul(h) else {
         return Err(Refusal::CutShort);
-    }
-    reach(n * h, s, at)
+    };
+    reach(size, s, at)
 }
 
 // The list at `at` (rule K3), by its count or to the end. Its entries begin with h bytes. A list to the end has no entry
 // if h is 0.
+#[tactic(auto, unfolding(crate::specs::Reading::count_at_lem))]
 pub(crate) fn count_at(has_count: bool, h: usize, s: &[u8], at: usize) -> Result<ListAt, Refusal>
     requires { at ≤ length s.now }
     ensures { answered result ≡ count_at_lem (counting has_count) h s.now at }
@@ -62,7 +61,7 @@ pub(crate) fn count_at(has_count: bool, h: usize, s: &[u8], at: usize) -> Result
 }
 
 // Reads the value s by this row (rule K1). Its count is read once, for the answer and for its entries.
-#[tactic(auto, using(crate::proofs::Laws::list_level, crate::proofs::Laws::counting_of, crate::proofs::Laws::end_there, crate::proofs::Laws::read_to, crate::proofs::Within::end_within), unfolding(crate::specs::Reading::read_as_lem))]
+#[tactic(auto, using(crate::proofs::Laws::list_level, crate::proofs::Laws::counting_of, crate::proofs::Laws::end_there, crate::proofs::Laws::read_to, crate::proofs::Laws::end_inside), unfolding(crate::specs::Reading::read_as_lem))]
 pub(crate) fn read_row(row: LayoutRow, s: &[u8]) -> Result<Consumed, Refusal>
     ensures { answered result ≡ read_as_lem (row_layout row) s.now }
 {
@@ -72,6 +71,7 @@ pub(crate) fn read_row(row: LayoutRow, s: &[u8]) -> Result<Consumed, Refusal>
 }
 
 // A value of n entries whose layout ends at `end`. After a list to the end, left-over bytes are refused (rule K4).
+#[tactic(auto, unfolding(crate::specs::Reading::consumed_to_lem))]
 fn consumed_to(has_count: bool, end: usize, n: usize, s: &[u8]) -> Result<Consumed, Refusal>
     requires { end ≤ length s.now }
     ensures { answered result ≡ consumed_to_lem (counting has_count) end n s.now }

@@ -52,6 +52,7 @@ fn to_end(h0: u8, h1: u8) -> LayoutRow
 }
 
 // The row of the list kind with this code (rule K2).
+#[tactic(auto, unfolding(crate::specs::Layouts::layout_of, crate::specs::Rows::layout_in))]
 pub(crate) fn row_of(code: u8) -> Result<LayoutRow, Refusal>
     ensures { mapped row_layout (answered result) ≡ layout_of code }
 {
