@@ -14,9 +14,10 @@ use Rattle.framing.specs.Tlv.{write_size}
 use Rattle.framing.proofs.RoundTrip.{value_written}
 use Rattle.records.specs.declared.RecordKind.{RecordKind}
 use Rattle.records.specs.declared.Record.{Record}
+use Rattle.records.specs.declared.RecordRead.{RecordRead}
 use Rattle.records.specs.Values.{octets, neighbor_octets, bytes_of}
 use Rattle.records.specs.Kinds.{code_of, kind_of}
-use Rattle.records.specs.Reading.{RecordRead, read_record_lem}
+use Rattle.records.specs.Reading.{read_record_lem}
 use Rattle.records.proofs.Given.{consumed_within}
 use Rattle.records.proofs.Ways.{by_kind, filled}
 use Rattle.record_writing.specs.Writing.{readable, record_size_lem}

@@ -1,4 +1,3 @@
-pub mod Others
 pub mod Meaning
 pub mod OneByte
 pub mod Back

@@ -6,13 +6,13 @@ use Prim.Native.Nat.{ℕ}
 use native.Mathlib.Omega.{arith}
 use lib.Dec.{eqb, ltb}
 use borrow.Author.Tests.{eqb-true, ltb-false, le-ltb}
+use Rattle.std.specs.Prelude.{Option, Some, None}
 use Rattle.numbers.specs.Numbers.{Answer, gives, refuses}
 use Rattle.numbers.specs.Bytes.{is_same_lem}
 use Rattle.numbers.proofs.Firm.{never}
 use Rattle.numbers.proofs.Answers.{given}
 use Rattle.numbers.proofs.Bytes.{are_same}
 use Rattle.records.specs.declared.MacAddr.{MacAddr}
-use Rattle.records.specs.declared.NeighborMac.{NeighborMac}
 use Rattle.records.specs.declared.LinkMetricQuery.{LinkMetricQuery}
 use Rattle.records.specs.declared.AssociationState.{AssociationState}
 use Rattle.records.specs.declared.ClientAssociation.{ClientAssociation}
@@ -86,10 +86,10 @@ byte_again r (capability c) f e = none f e
 pub byte_means : (r : Record) (f : ℕ × Bool) → byte_fields (shape_of r) ≡ gives f → bytes_of r ≡ f.0 ∷ []
 byte_means r f e = byte_again r (seen r) f e
 
-query_itself : (n k : ℕ) (m : NeighborMac) → let q : LinkMetricQuery = record { neighbor_type = n; neighbor_mac = m; requested_metrics = k } in query_record_lem (crossed_query q) ≡ gives (Record.LinkMetricQuery q)
+query_itself : (n k : ℕ) (m : Option MacAddr) → let q : LinkMetricQuery = record { neighbor_type = n; neighbor_mac = m; requested_metrics = k } in query_record_lem (crossed_query q) ≡ gives (Record.LinkMetricQuery q)
 unfolding query_record_lem
-query_itself n k (NeighborMac.Address m) = refl
-query_itself n k NeighborMac.None = refl
+query_itself n k (Some m) = refl
+query_itself n k None = refl
 
 query_again : (r : Record) → Seen r → (q : AshlarQuery) → query_fields (shape_of r) ≡ gives q → query_record_lem q ≡ gives r
 query_again r nothing q e = none q e
@@ -170,14 +170,14 @@ query_meant q r e = first q.has_neighbor refl e
     shown m has = gives (record { neighbor = m; neighbor_type = q.neighbor_type; has_neighbor = has; metrics = q.metrics })
 
     without : Answer Record
-    without = gives (Record.LinkMetricQuery (query_with_lem q NeighborMac.None))
+    without = gives (Record.LinkMetricQuery (query_with_lem q None))
 
     second : (x : Bool) → is_same_lem (octets q.neighbor) (octets no_address_lem) ≡ x → q.has_neighbor ≡ false → cond x without (refuses 9 []) ≡ gives r → Meant
-    second true t f e = rw (← given (Record.LinkMetricQuery (query_with_lem q NeighborMac.None)) r e) (refl, ap (λ (m : MacAddr). shown m false) (no_neighbor q.neighbor t) ∙ ap (shown q.neighbor) (sym f))
+    second true t f e = rw (← given (Record.LinkMetricQuery (query_with_lem q None)) r e) (refl, ap (λ (m : MacAddr). shown m false) (no_neighbor q.neighbor t) ∙ ap (shown q.neighbor) (sym f))
     second false t f e = never r 9 [] (sym e)
 
-    first : (x : Bool) → q.has_neighbor ≡ x → cond x (gives (Record.LinkMetricQuery (query_with_lem q (NeighborMac.Address q.neighbor)))) (cond (is_same_lem (octets q.neighbor) (octets no_address_lem)) without (refuses 9 [])) ≡ gives r → Meant
-    first true t e = rw (← given (Record.LinkMetricQuery (query_with_lem q (NeighborMac.Address q.neighbor))) r e) (refl, ap (shown q.neighbor) (sym t))
+    first : (x : Bool) → q.has_neighbor ≡ x → cond x (gives (Record.LinkMetricQuery (query_with_lem q (Some q.neighbor)))) (cond (is_same_lem (octets q.neighbor) (octets no_address_lem)) without (refuses 9 [])) ≡ gives r → Meant
+    first true t e = rw (← given (Record.LinkMetricQuery (query_with_lem q (Some q.neighbor))) r e) (refl, ap (shown q.neighbor) (sym t))
     first false t e = second (is_same_lem (octets q.neighbor) (octets no_address_lem)) refl t e
 
 association_back : (s p : MacAddr) (joined : Bool) → crossed_association (association_with_lem s p joined) ≡ record { station = s; point = p; joined = joined }

@@ -1,46 +1,45 @@
 -- What is claimed of this crate's calls; proofs/Claims.antt proves it.
-use Rattle.std.specs.Prelude.{◌≡◌, Bool, true, false, List, [], ◌∷◌, ◌++◌, ℕ, ◌<◌, length, take}
-use Rattle.numbers.specs.Numbers.{Answer, gives, refuses, mapped, is_given}
+use Rattle.std.specs.Prelude.{◌≡◌, Bool, true, false, List, [], ◌∷◌, ◌++◌, ℕ, ◌<◌, length, take, Result}
+use Rattle.numbers.specs.Numbers.{Answer, gives, refuses, answered, mapped, is_given}
 use Rattle.numbers.specs.Bytes.{AllBytes}
 use Rattle.numbers.specs.Firmness.{Firm}
-use Rattle.framing.specs.declared.Written.{Written}
-use Rattle.framing.specs.Tlv.{read_tlv_lem, value_in_lem, write_size, tlv_bytes, written_of, leaves}
+use Rattle.numbers.specs.declared.Refusal.{Refusal}
+use Rattle.framing.specs.Tlv.{read_tlv_lem, value_in_lem, write_size, tlv_bytes, leaves}
 use Rattle.records.specs.declared.MacAddr.{MacAddr}
-use Rattle.records.specs.declared.RecordAnswer.{RecordAnswer}
+use Rattle.records.specs.declared.RecordRead.{RecordRead}
 use Rattle.records.specs.declared.RecordKind.{RecordKind}
 use Rattle.records.specs.declared.Record.{Record}
 use Rattle.records.specs.Kinds.{code_of}
-use Rattle.records.specs.Reading.{got_of, with_code, read_record_lem}
+use Rattle.records.specs.Reading.{with_code, read_record_lem}
 use Rattle.c_records.specs.declared.AshlarQuery.{AshlarQuery}
 use Rattle.c_records.specs.declared.AshlarAssociation.{AshlarAssociation}
 use Rattle.c_records.specs.declared.AshlarCapability.{AshlarCapability}
-use Rattle.c_records.specs.declared.Meant.{Meant}
 use Rattle.c_records.specs.declared.Shape.{Shape}
 use Rattle.c_records.specs.Shapes.{address_fields, byte_fields, query_fields, association_fields, capability_fields}
 use Rattle.c_records.specs.Reading.{ShapeRead, read_in_shape, address_numbers_lem, byte_numbers_lem, query_numbers_lem, association_numbers_lem, capability_numbers_lem}
-use Rattle.c_records.specs.Writing.{meant_of, address_record_lem, byte_record_lem, query_record_lem, association_record_lem, capability_record_lem, meant_size, meant_bytes}
+use Rattle.c_records.specs.Writing.{address_record_lem, byte_record_lem, query_record_lem, association_record_lem, capability_record_lem, meant_size, meant_bytes}
 
 -- Rule A4: for each public call, by its name, any two answers that its contract allows are one, with what the room
 -- holds afterwards.
 pub record Firmness : Type 0 where
-  pub address_numbers : (answer : RecordAnswer) (length : ℕ)
-      → Firm (λ r. r ≡ address_numbers_lem (read_in_shape address_fields length (got_of answer)))
-  pub byte_numbers : (answer : RecordAnswer) (length : ℕ)
-      → Firm (λ r. r ≡ byte_numbers_lem (read_in_shape byte_fields length (got_of answer)))
-  pub query_numbers : (answer : RecordAnswer) (length : ℕ)
-      → Firm (λ r. r ≡ query_numbers_lem (read_in_shape query_fields length (got_of answer)))
-  pub association_numbers : (answer : RecordAnswer) (length : ℕ)
-      → Firm (λ r. r ≡ association_numbers_lem (read_in_shape association_fields length (got_of answer)))
-  pub capability_numbers : (answer : RecordAnswer) (length : ℕ)
-      → Firm (λ r. r ≡ capability_numbers_lem (read_in_shape capability_fields length (got_of answer)))
-  pub address_record : (code : ℕ) (address : MacAddr) → Firm (λ r. meant_of r ≡ address_record_lem code address)
-  pub byte_record : (code byte : ℕ) → Firm (λ r. meant_of r ≡ byte_record_lem code byte)
-  pub query_record : (query : AshlarQuery) → Firm (λ r. meant_of r ≡ query_record_lem query)
-  pub association_record : (association : AshlarAssociation) → Firm (λ r. meant_of r ≡ association_record_lem association)
-  pub capability_record : (capability : AshlarCapability) → Firm (λ r. meant_of r ≡ capability_record_lem capability)
-  pub write_meant : (meant : Meant) (out : List ℕ) → Firm {A = Written × List ℕ} (λ o.
-      (written_of o.0 ≡ meant_size (meant_of meant) (length out))
-      × (o.1 ≡ leaves (meant_size (meant_of meant) (length out)) (meant_bytes (meant_of meant)) out))
+  pub address_numbers : (answer : Result RecordRead Refusal) (length : ℕ)
+      → Firm (λ r. r ≡ address_numbers_lem (read_in_shape address_fields length (answered answer)))
+  pub byte_numbers : (answer : Result RecordRead Refusal) (length : ℕ)
+      → Firm (λ r. r ≡ byte_numbers_lem (read_in_shape byte_fields length (answered answer)))
+  pub query_numbers : (answer : Result RecordRead Refusal) (length : ℕ)
+      → Firm (λ r. r ≡ query_numbers_lem (read_in_shape query_fields length (answered answer)))
+  pub association_numbers : (answer : Result RecordRead Refusal) (length : ℕ)
+      → Firm (λ r. r ≡ association_numbers_lem (read_in_shape association_fields length (answered answer)))
+  pub capability_numbers : (answer : Result RecordRead Refusal) (length : ℕ)
+      → Firm (λ r. r ≡ capability_numbers_lem (read_in_shape capability_fields length (answered answer)))
+  pub address_record : (code : ℕ) (address : MacAddr) → Firm (λ r. answered r ≡ address_record_lem code address)
+  pub byte_record : (code byte : ℕ) → Firm (λ r. answered r ≡ byte_record_lem code byte)
+  pub query_record : (query : AshlarQuery) → Firm (λ r. answered r ≡ query_record_lem query)
+  pub association_record : (association : AshlarAssociation) → Firm (λ r. answered r ≡ association_record_lem association)
+  pub capability_record : (capability : AshlarCapability) → Firm (λ r. answered r ≡ capability_record_lem capability)
+  pub write_meant : (meant : Result Record Refusal) (out : List ℕ) → Firm {A = Result ℕ Refusal × List ℕ} (λ o.
+      (answered o.0 ≡ meant_size (answered meant) (length out))
+      × (o.1 ≡ leaves (meant_size (answered meant) (length out)) (meant_bytes (answered meant)) out))
 
 -- What a C caller means is written as the first bytes of the value s, under this code, unless 7 refuses it.
 pub record WrittenOf (code : ℕ) (s : List ℕ) (consumed : ℕ) (meant : Answer Record) : Type 0 where

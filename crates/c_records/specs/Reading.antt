@@ -3,7 +3,7 @@
 use Rattle.std.specs.Prelude.{Bool, false, ℕ, ◌-◌}
 use Rattle.numbers.specs.Numbers.{Answer, gives, refuses, and_then, mapped}
 use Rattle.records.specs.declared.MacAddr.{MacAddr}
-use Rattle.records.specs.Reading.{RecordRead}
+use Rattle.records.specs.declared.RecordRead.{RecordRead}
 use Rattle.c_stations.specs.Numbers.{no_address_lem}
 use Rattle.c_records.specs.declared.AshlarQuery.{AshlarQuery}
 use Rattle.c_records.specs.declared.AshlarAssociation.{AshlarAssociation}

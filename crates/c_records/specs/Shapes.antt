@@ -1,8 +1,7 @@
 -- A record's fields as they cross to C (rules K2, K5, K6 and C6): five shapes, with the raw byte beside a named value.
-use Rattle.std.specs.Prelude.{Bool, true, false, [], ℕ, leb, length}
+use Rattle.std.specs.Prelude.{Bool, true, false, [], ℕ, leb, length, Option, Some, None}
 use Rattle.numbers.specs.Numbers.{Answer, gives, refuses}
 use Rattle.records.specs.declared.MacAddr.{MacAddr}
-use Rattle.records.specs.declared.NeighborMac.{NeighborMac}
 use Rattle.records.specs.declared.LinkMetricQuery.{LinkMetricQuery}
 use Rattle.records.specs.declared.ClientAssociation.{ClientAssociation}
 use Rattle.records.specs.declared.Profile2ApCapability.{Profile2ApCapability}
@@ -16,13 +15,13 @@ use Rattle.c_records.specs.declared.AshlarCapability.{AshlarCapability}
 use Rattle.c_records.specs.declared.Shape.{Shape}
 
 -- Rule K2: a query's fields. Where it has no address, that field is 0.
-abbrev pub neighbor_of : NeighborMac → MacAddr
-neighbor_of (NeighborMac.Address m) = m
-neighbor_of NeighborMac.None = no_address_lem
+abbrev pub neighbor_of : Option MacAddr → MacAddr
+neighbor_of (Some m) = m
+neighbor_of None = no_address_lem
 
-abbrev pub has_neighbor_lem : NeighborMac → Bool
-has_neighbor_lem (NeighborMac.Address m) = true
-has_neighbor_lem NeighborMac.None = false
+abbrev pub has_neighbor_lem : Option MacAddr → Bool
+has_neighbor_lem (Some m) = true
+has_neighbor_lem None = false
 
 abbrev pub crossed_query : LinkMetricQuery → AshlarQuery
 crossed_query q = record {

@@ -1,29 +1,23 @@
 -- The record that a C caller's fields mean (rules K2, O1 and C6), and its TLV. Exactly the fields that reading gives
 -- mean a record that is written: 16 for a code of another shape, then 9.
-use Rattle.std.specs.Prelude.{cond, List, [], ◌∷◌, ℕ, eqb, ltb}
-use Rattle.numbers.specs.Numbers.{Answer, gives, refuses, told, and_then}
+use Rattle.std.specs.Prelude.{cond, List, [], ◌∷◌, ℕ, eqb, ltb, Option, Some, None}
+use Rattle.numbers.specs.Numbers.{Answer, gives, refuses, and_then}
 use Rattle.numbers.specs.Bytes.{is_same_lem}
 use Rattle.framing.specs.Tlv.{tlv_bytes}
 use Rattle.records.specs.declared.MacAddr.{MacAddr}
-use Rattle.records.specs.declared.NeighborMac.{NeighborMac}
 use Rattle.records.specs.declared.LinkMetricQuery.{LinkMetricQuery}
 use Rattle.records.specs.declared.Profile2ApCapability.{Profile2ApCapability}
 use Rattle.records.specs.declared.RecordKind.{RecordKind}
 use Rattle.records.specs.declared.Record.{Record}
 use Rattle.records.specs.Values.{octets, units_of, bytes_of}
 use Rattle.records.specs.Kinds.{code_of, kind_of}
-use Rattle.records.specs.Reading.{RecordRead, read_record_lem}
+use Rattle.records.specs.declared.RecordRead.{RecordRead}
+use Rattle.records.specs.Reading.{read_record_lem}
 use Rattle.record_writing.specs.Writing.{record_size_lem}
 use Rattle.c_stations.specs.Numbers.{no_address_lem, association_with_lem}
 use Rattle.c_records.specs.declared.AshlarQuery.{AshlarQuery}
 use Rattle.c_records.specs.declared.AshlarAssociation.{AshlarAssociation}
 use Rattle.c_records.specs.declared.AshlarCapability.{AshlarCapability}
-use Rattle.c_records.specs.declared.Meant.{Meant}
-
--- what each answer says
-abbrev pub meant_of : Meant → Answer Record
-meant_of (Meant.Record r) = gives r
-meant_of (Meant.Refused r) = told r
 
 -- Rule K2: an address under its code.
 unfoldable pub address_record_lem : (code : ℕ) → MacAddr → Answer Record
@@ -42,13 +36,13 @@ abbrev pub byte_record_lem : (code byte : ℕ) → Answer Record
 byte_record_lem code byte = byte_meant (read_record_lem code (byte ∷ []))
 
 -- Rules K2 and O1: a query. A neighbour other than 0 without its flag: 9.
-abbrev pub query_with_lem : AshlarQuery → NeighborMac → LinkMetricQuery
+abbrev pub query_with_lem : AshlarQuery → Option MacAddr → LinkMetricQuery
 query_with_lem q m = record { neighbor_type = q.neighbor_type; neighbor_mac = m; requested_metrics = q.metrics }
 
 unfoldable pub query_record_lem : AshlarQuery → Answer Record
 query_record_lem q =
-    cond q.has_neighbor (gives (Record.LinkMetricQuery (query_with_lem q (NeighborMac.Address q.neighbor))))
-    (cond (is_same_lem (octets q.neighbor) (octets no_address_lem)) (gives (Record.LinkMetricQuery (query_with_lem q NeighborMac.None)))
+    cond q.has_neighbor (gives (Record.LinkMetricQuery (query_with_lem q (Some q.neighbor))))
+    (cond (is_same_lem (octets q.neighbor) (octets no_address_lem)) (gives (Record.LinkMetricQuery (query_with_lem q None)))
     (refuses 9 []))
 
 -- Rule K5: an association.

@@ -3,8 +3,7 @@
 // false.
 #![tactic(auto)]
 
-use numbers::Refusal;
-use records::{MacAddr, Record};
+use records::MacAddr;
 
 mod reading;
 mod shapes;
@@ -19,7 +18,7 @@ pub use writing::{
 
 // A query for link metrics. `neighbor` is there only if `has_neighbor` says so, and 0 otherwise.
 #[repr(C)]
-#[derive(Clone, Copy)]
+#[derive(Clone, Copy, Default)]
 pub struct AshlarQuery {
     pub neighbor: MacAddr,
     pub neighbor_type: u8,
@@ -29,7 +28,7 @@ pub struct AshlarQuery {
 
 // A station joined an access point, or left it (rule K5).
 #[repr(C)]
-#[derive(Clone, Copy)]
+#[derive(Clone, Copy, Default)]
 pub struct AshlarAssociation {
     pub station: MacAddr,
     pub point: MacAddr,
@@ -38,7 +37,7 @@ pub struct AshlarAssociation {
 
 // A capability, with its reserved byte and bits (rule K6). The units are 0 bytes, 1 KiB, 2 MiB, 3 reserved.
 #[repr(C)]
-#[derive(Clone, Copy)]
+#[derive(Clone, Copy, Default)]
 pub struct AshlarCapability {
     pub max_prioritization_rules: u8,
     pub reserved: u8,
@@ -52,7 +51,7 @@ pub struct AshlarCapability {
 
 // A value of kind 1 or 2, as it was read.
 #[repr(C)]
-#[derive(Clone, Copy)]
+#[derive(Clone, Copy, Default)]
 pub struct AshlarAddressRead {
     pub consumed: usize,
     pub rest: usize,
@@ -62,7 +61,7 @@ pub struct AshlarAddressRead {
 
 // A value of kind 12, 13, 15, 16, 26 or 0xB3, as it was read. `reserved`: the byte has no name (rule K5).
 #[repr(C)]
-#[derive(Clone, Copy)]
+#[derive(Clone, Copy, Default)]
 pub struct AshlarByteRead {
     pub consumed: usize,
     pub rest: usize,
@@ -73,7 +72,7 @@ pub struct AshlarByteRead {
 
 // A value of kind 8, as it was read.
 #[repr(C)]
-#[derive(Clone, Copy)]
+#[derive(Clone, Copy, Default)]
 pub struct AshlarQueryRead {
     pub consumed: usize,
     pub rest: usize,
@@ -83,7 +82,7 @@ pub struct AshlarQueryRead {
 
 // A value of kind 0x92, as it was read, with the byte that says joined or left.
 #[repr(C)]
-#[derive(Clone, Copy)]
+#[derive(Clone, Copy, Default)]
 pub struct AshlarAssociationRead {
     pub consumed: usize,
     pub rest: usize,
@@ -94,7 +93,7 @@ pub struct AshlarAssociationRead {
 
 // A value of kind 0xB4, as it was read, with the byte that holds units, flags and reserved bits.
 #[repr(C)]
-#[derive(Clone, Copy)]
+#[derive(Clone, Copy, Default)]
 pub struct AshlarCapabilityRead {
     pub consumed: usize,
     pub rest: usize,
@@ -122,11 +121,4 @@ pub(crate) enum Shape {
         capability: AshlarCapability,
         flags: u8,
     },
-}
-
-// The record that a C caller's fields mean, or why they mean none.
-#[derive(Clone, Copy)]
-pub enum Meant {
-    Record(Record),
-    Refused(Refusal),
 }

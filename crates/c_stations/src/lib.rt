@@ -65,14 +65,7 @@ pub fn association_with(station: MacAddr, point: MacAddr, joined: bool) -> Clien
 pub fn no_address() -> MacAddr
     ensures { result ≡ no_address_lem }
 {
-    MacAddr {
-        b0: 0,
-        b1: 0,
-        b2: 0,
-        b3: 0,
-        b4: 0,
-        b5: 0,
-    }
+    MacAddr::default()
 }
 
 // An answer without an access point.

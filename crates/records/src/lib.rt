@@ -18,7 +18,7 @@ pub use reading::read_client_association;
 
 // An address, its six bytes in their order (rule K3). It is passed to C as it is.
 #[repr(C)]
-#[derive(Clone, Copy, PartialEq, Eq)]
+#[derive(Clone, Copy, PartialEq, Eq, Default)]
 pub struct MacAddr {
     pub b0: u8,
     pub b1: u8,

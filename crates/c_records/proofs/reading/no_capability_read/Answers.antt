@@ -1,5 +1,0 @@
--- `no_capability_read` meets its contract: no field goes with the number.
-use Rattle.c_records.proofs.reading.no_capability_read.Goals as goal
-
-pub returns : goal.returns
-returns c = rw c.no_capability.ensures
