@@ -3,7 +3,9 @@ use mathlib.Core.Path.{◌≡◌, refl, sym, ap, ◌∙◌, subst}
 use mathlib.Core.Bool.{Bool, true, false, cond, ◌&&◌, true≢false}
 use mathlib.Core.List.{List, [], ◌∷◌, ◌++◌, map, flatten}
 use Prim.Native.Nat.{ℕ}
-use Rattle.numbers.specs.Numbers.{Answer, gives, refuses}
+use Rattle.std.specs.Prelude.{Result, Ok, Err}
+use Rattle.numbers.specs.Numbers.{Answer, gives, refuses, answered}
+use Rattle.numbers.specs.declared.Refusal.{Refusal}
 use Rattle.numbers.specs.declared.Refusal.TheVariants.{NoStationRoom}
 use Rattle.machines.specs.Machine.{those, run, remaining, gathered}
 use Rattle.machines.specs.Happened.{Happened, no_call, next_call, Asks, asks_for, asks_nothing, and_steps, steps_of}
@@ -12,10 +14,11 @@ use Rattle.walking.specs.Walk.{walk_of}
 use Rattle.records.specs.declared.ClientAssociation.{ClientAssociation}
 use Rattle.pushing.specs.Push.{PushAnswer, waiting, duplicated, inconsistent, missing, missing_last, single, joined, output_by, answer_by}
 use Rattle.pushing.specs.Show.{shown}
-use Rattle.stations.specs.declared.EventAnswer.{EventAnswer}
 use Rattle.stations.specs.Whereabouts.{Whereabouts, is_nowhere, heard_of, Event, event_of}
 use Rattle.stations.specs.Rows.{Stations, fresh_stations, all_held, where_of, answer_to, table_after}
-use Rattle.stations.specs.Events.{answered_of, AssociationRead, association_read, table_from}
+use Rattle.stations.specs.declared.Heard.{Heard}
+use Rattle.stations.specs.declared.reading.AssociationRead.{AssociationRead}
+use Rattle.stations.specs.Events.{association_read, table_from}
 use Rattle.stations.specs.Runs.{StationCall, of_record, of_value, from_event, station_contract, event_read_lem, event_by, events_of, was_heard, takes_event}
 use Rattle.stations.proofs.Claims.{claims}
 use Rattle.captures.specs.HandedBack.{Arrived}
@@ -91,16 +94,16 @@ clients_are (v ∷ vs) = by_read (association_read v) (clients_are vs)
     by_read (gives x) rest = ap (λ (es : List Event). event_of x.client ∷ es) rest
     by_read (refuses n us) rest = rest
 
-abbrev answer_or : Bool → Event → Whereabouts → EventAnswer
-answer_or b e was = cond b (EventAnswer.Refused NoStationRoom) (EventAnswer.Heard (heard_of e was))
+abbrev answer_or : Bool → Event → Whereabouts → Result Heard Refusal
+answer_or b e was = cond b (Err NoStationRoom) (Ok (heard_of e was))
 
-abbrev answer_got : Stations → Event → EventAnswer
+abbrev answer_got : Stations → Event → Result Heard Refusal
 answer_got t e = answer_or (e.is_join && (is_nowhere (where_of t e.station) && all_held t)) e (where_of t e.station)
 
-got_is : (t : Stations) (e : Event) → answered_of (answer_got t e) ≡ answer_to t e
+got_is : (t : Stations) (e : Event) → answered (answer_got t e) ≡ answer_to t e
 got_is t e = by_test (e.is_join && (is_nowhere (where_of t e.station) && all_held t))
   where
-    by_test : (b : Bool) → answered_of (answer_or b e (where_of t e.station)) ≡ cond b (refuses 17 []) (gives (heard_of e (where_of t e.station)))
+    by_test : (b : Bool) → answered (answer_or b e (where_of t e.station)) ≡ cond b (refuses 17 []) (gives (heard_of e (where_of t e.station)))
     by_test true = refl
     by_test false = refl
 

@@ -8,11 +8,16 @@ use native.Mathlib.Omega.{arith}
 use lib.Dec.{eqb}
 use lib.ListN.{length, take, drop}
 use borrow.Author.Tests.{eq-eqb, ne_eqb, eqb-true}
+use Rattle.std.specs.Prelude.{Result, Ok, Err}
+use Rattle.std.specs.Result.{is_ok}
 use Rattle.numbers.specs.Numbers.{Answer, gives, refuses, mapped, is_given}
 use Rattle.machines.specs.Machine.{those, run}
-use Rattle.walking.specs.Steps.{ended, passed, last}
+use Rattle.walking.specs.Steps.{ended as no_more, passed, last}
 use Rattle.walking.specs.declared.Tlv.{Tlv}
-use Rattle.walking.specs.Walk.{is_marker_lem, WalkCount, step_at, walk_of, counted}
+use Rattle.walking.specs.declared.Stepped.{Stepped}
+use Rattle.walking.specs.declared.Unwalked.{Unwalked}
+use Rattle.walking.specs.declared.WalkCount.{WalkCount}
+use Rattle.walking.specs.Walk.{is_marker_lem, answered_at, stepped_of, step_at, walk_of, counted}
 use Rattle.walking.proofs.Chained.{Has, of_walk}
 use Rattle.walking.proofs.Going.{turned}
 use Rattle.walking.proofs.Stepping.{steps}
@@ -68,19 +73,28 @@ module _ (m : List ℕ) (t₀ : Stations) where
     unfolding event_values those run
     nothing_left e = ap (λ (vs : List Tlv). run table_from t (event_values m vs)) (sym e) ∙ w.will
 
-    pub ends : gives ended ≡ step_at m at → t ≡ all
-    ends e = nothing_left (turned (step_at m) (length m) w.goes (gives ended) e).0
+    ends : gives no_more ≡ step_at m at → t ≡ all
+    ends e = nothing_left (turned (step_at m) (length m) w.goes (gives no_more) e).0
 
-    pub stops : (n : ℕ) (vs : List ℕ) → refuses n vs ≡ step_at m at → t ≡ all
+    stops : (n : ℕ) (vs : List ℕ) → refuses n vs ≡ step_at m at → t ≡ all
     stops n vs e = nothing_left (turned (step_at m) (length m) w.goes (refuses n vs) e).0
 
-    pub ends_at : (v : Tlv) (to : ℕ) → gives (last v to) ≡ step_at m at → t ≡ all
+    ends_at : (v : Tlv) (to : ℕ) → gives (last v to) ≡ step_at m at → t ≡ all
     ends_at v to e =
         let z = marker_type v (steps m at true v to e).marks in
         let is = (turned (step_at m) (length m) w.goes (gives (last v to)) e).0 in
         no_event m t v (λ k. let o : ◌≡◌ {A = ℕ} 0 146 = sym z ∙ k in absurd (omega arith))
         ∙ ap (λ (vs : List Tlv). run table_from t (event_values m vs)) (sym is)
         ∙ w.will
+
+    -- a step that goes over no TLV but the marker is the last, and so is one that is refused
+    pub ended : (s : Stepped) → ((v : Tlv) (next : ℕ) → s ≡ Stepped.Tlv v next → ⊥) → stepped_of (Ok s) ≡ step_at m at → t ≡ all
+    ended Stepped.End other e = ends e
+    ended (Stepped.Tlv v next) other e = absurd (other v next refl)
+    ended (Stepped.Last v to) other e = ends_at v to e
+
+    pub faulty : (u : Unwalked) → stepped_of (Err u) ≡ step_at m at → t ≡ all
+    faulty u e = stops _ _ e
 
     pub goes_on : (v : Tlv) (next : ℕ) (t' : Stations) → gives (passed v next) ≡ step_at m at → t' ≡ run table_from t (event_values m (v ∷ [])) → Taking next t'
     goes_on v next t' e r =
@@ -97,12 +111,16 @@ module _ (m : List ℕ) (t₀ : Stations) where
 
 -- a message that walks to its end, and one that doesn't
 module _ (m : List ℕ) where
-  pub is_walked : (x : Answer WalkCount) → x ≡ counted (walk_of m) → is_given x ≡ is_given (walk_of m).end
+  is_walked : (x : Answer WalkCount) → x ≡ counted (walk_of m) → is_given x ≡ is_given (walk_of m).end
   is_walked x e = ap is_given e ∙ by_end (walk_of m).end
     where
       by_end : (y : Answer ℕ) → is_given (mapped {B = WalkCount} (λ padding. record { count = length (walk_of m).items; padding = padding }) y) ≡ is_given y
       by_end (gives padding) = refl
       by_end (refuses n vs) = refl
+
+  pub walked_ok : (r : Result WalkCount Unwalked) → answered_at r ≡ counted (walk_of m) → is_ok r ≡ is_given (walk_of m).end
+  walked_ok (Ok c) e = is_walked _ e
+  walked_ok (Err u) e = is_walked _ e
 
   module _ (t : Stations) where
     pub walked : true ≡ is_given (walk_of m).end → run table_from t (event_values m (walk_of m).items) ≡ after_message t m

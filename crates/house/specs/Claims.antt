@@ -27,11 +27,11 @@ use Rattle.house.specs.Windows.{window_of, file_around, onwards, after_file, Com
 -- of the output.
 pub record Firmness : Type 0 where
   pub hear : (t : Table) (store out : List ℕ) (held : Stations) (file : List ℕ) (at : ℕ)
-      → Firm {A = AfterRecord × List ℕ × List ℕ × Stations} (λ o. (reached_of o.0.reached ≡ file_step file at)
-      × (house_of o.0.table o.1 o.3 ≡ after_brought (length out) (house_of t store held) (brought_by file (file_step file at)))
+      → Firm {A = AfterRecord × Table × List ℕ × List ℕ × Stations} (λ o. (reached_of o.0.reached ≡ file_step file at)
+      × (house_of o.1 o.2 o.4 ≡ after_brought (length out) (house_of t store held) (brought_by file (file_step file at)))
       × ((pushed_of o.0.answer ≡ answer_to_brought (length out) (house_of t store held) (brought_by file (file_step file at)))
-      × (o.2 ≡ output_after (length out) (house_of t store held) (brought_by file (file_step file at)) out))
-      × Made o.0.table)
+      × (o.3 ≡ output_after (length out) (house_of t store held) (brought_by file (file_step file at)) out))
+      × Made o.1)
 
 -- Rule H5: a station is at an access point exactly when its own latest accepted join among these events named that one, and
 -- no leave of it after that join did.

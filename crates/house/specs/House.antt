@@ -1,7 +1,8 @@
 -- The house (rules H1 to H4): what the records of a capture do, one after the other, to a fragment table with its store
 -- and to a station table.
-use Rattle.std.specs.Prelude.{Bool, List, [], map, ℕ, ◌+◌, eqb, length, take, drop}
+use Rattle.std.specs.Prelude.{Bool, List, [], map, ℕ, ◌+◌, eqb, length, take, drop, Option, Some, None, Result, Ok, Err}
 use Rattle.numbers.specs.Numbers.{Answer, gives, refuses}
+use Rattle.numbers.specs.declared.Refusal.{Refusal}
 use Rattle.walking.specs.Steps.{Ahead, ended, passed, last}
 use Rattle.walking.specs.declared.Tlv.{Tlv}
 use Rattle.walking.specs.Walk.{walk_of}
@@ -14,6 +15,8 @@ use Rattle.pushing.specs.Push.{PushAnswer, waiting, Way, way, table_by, store_by
 use Rattle.orders.specs.Runs.{finished_by}
 use Rattle.stations.specs.Rows.{Stations, fresh_stations}
 use Rattle.stations.specs.Events.{association_code, table_from}
+use Rattle.captures.specs.declared.Frame.{Frame}
+use Rattle.captures.specs.declared.Reached.{Reached}
 use Rattle.captures.specs.Reading.{Captured, ours, other}
 use Rattle.captures.specs.HandedBack.{Arrived, arrived_in}
 
@@ -84,6 +87,13 @@ brought_by s (gives (passed c next)) = brought_of s c
 brought_by s (gives (last c end)) = asks_nothing
 brought_by s (gives ended) = asks_nothing
 brought_by s (refuses n vs) = asks_nothing
+
+-- Rule H4: the 1905 frame that a step went over, if it did.
+abbrev pub frame_in_lem : Result Reached Refusal → Option Frame
+frame_in_lem (Ok Reached.FileEnd) = None
+frame_in_lem (Ok (Reached.Ours f next)) = Some f
+frame_in_lem (Ok (Reached.Other next)) = None
+frame_in_lem (Err r) = None
 
 -- Rules H2 and H4: the house afterwards, what push answered, and what the output holds. Where nothing is brought, nothing
 -- happens; "waiting" then stands for no answer.

@@ -4,8 +4,8 @@ use lib.ListN.{length}
 use Rattle.house.proofs.Taking.{Taking}
 use Rattle.house.proofs.take_events.Given as goal
 
-abbrev pub invariant-loop-tlv : goal.invariant-loop-tlv
-invariant-loop-tlv l = Taking l.message l.initial.held l.at l.held
+abbrev pub invariant-loop-stepped : goal.invariant-loop-stepped
+invariant-loop-stepped l = Taking l.message l.initial.held l.at l.held
 
-abbrev pub decreases-loop-tlv : goal.decreases-loop-tlv
-decreases-loop-tlv l = length l.message - l.at
+abbrev pub decreases-loop-stepped : goal.decreases-loop-stepped
+decreases-loop-stepped l = length l.message - l.at

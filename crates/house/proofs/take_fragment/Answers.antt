@@ -5,8 +5,8 @@ use Rattle.pushing.proofs.Calls.{sweep_made}
 use Rattle.house.proofs.Arriving.{arrived}
 use Rattle.house.proofs.take_fragment.Goals as goal
 
-pub push_step-after-requires : goal.push_step-after-requires
-push_step-after-requires c = sweep_made _ _ _ _ c.requires.0 c.sweep_step-swept.ensures
+pub push-answer-requires : goal.push-answer-requires
+push-answer-requires c = sweep_made _ _ _ _ c.requires.0 c.sweep.ensures
 
 pub returns : goal.returns
-returns c = let whole = arrived _ _ _ _ _ _ _ _ (ap (λ (s : Swept). s.table) c.sweep_step-swept.ensures) c.push_step-after.ensures c.requires.0 c.requires.1 _ _ c.show.ensures.result_value c.take_message.ensures in record { house = whole.0; pushed = whole.1.0; made = whole.1.1 }
+returns c = let whole = arrived _ _ _ _ _ _ _ _ (ap (λ (s : Swept). s.table) c.sweep.ensures) c.push-answer.ensures c.requires.0 c.requires.1 _ _ c.show.ensures.result_value c.take_message.ensures in record { house = whole.0; pushed = whole.1.0; made = whole.1.1 }
