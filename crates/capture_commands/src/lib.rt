@@ -1,126 +1,96 @@
 // The commands of captures (part G of docs/RULES.md): H and F, which write, and R, which reads.
 #![tactic(auto)]
 
-mod listing;
-
-ghost use Rattle.std.specs.Prelude.{◌≤◌};
+ghost use Rattle.std.specs.Prelude.{◌≤◌, IfSome};
 
 use answer_lines::Answers;
-use captures::{FileChecked, Frame};
-use framing::Written;
+use captures::Frame;
+use command_lines::Fields;
+use numbers::Refusal;
 use pushing::Fragment;
 
-// Which field of a line has the command's bytes; H has none, and no such field. For any other letter it is 0.
-pub fn field_of_bytes(letter: u8) -> usize
-    ensures { result ≤ 8 }
+// The most frames that a command lends a list for.
+const LISTED: usize = 40;
+
+// Which field of a line has the command's bytes, for the letters of these commands; H has none, and no such field.
+pub fn field_of_bytes(letter: u8) -> Option<usize>
+    ensures { IfSome result (λ n. n ≤ 8) }
 {
     match letter {
-        b'H' | b'R' => 2,
-        b'F' => 8,
-        _ => 0,
+        b'H' | b'R' => Some(2),
+        b'F' => Some(8),
+        _ => None,
     }
 }
 
-// H: a file header. F: a frame, from what a push takes (rule G5).
-fn write(line: &[u8], payload: &[u8], out: &mut [u8]) -> Written {
-    if command_lines::byte_at(line, 0) == b'H' {
-        return captures::write_file_header(out);
-    }
-    captures::write_frame(table_commands::arrival_in(line), payload, out)
+// H: a file header, into as much room as the line says (rule G5).
+fn put_header(line: &Fields, out: &mut [u8], text: &mut Answers) -> Result<(), Refusal> {
+    let room = line.size(1).min(out.len());
+    let size = captures::write_file_header(&mut out[..room])?;
+    text.put_ok_shown(command_lines::part(out, 0, size));
+    Ok(())
 }
 
-// What was written, into as much room as the line says.
-fn put_written(
-    line: &[u8],
+// F: a frame, from what a push takes, into as much room as the line says (rule G5).
+fn put_frame(
+    line: &Fields,
     payload: &[u8],
-    room: usize,
     out: &mut [u8],
     text: &mut Answers,
-    used: usize,
-) -> usize
-    ensures { result ≤ 65536 }
-{
-    let lent = command_lines::least(room, out.len());
-    match write(line, payload, &mut out[0..lent]) {
-        Written::Bytes(size) => {
-            answer_lines::put_ok_shown(text, used, command_lines::part(out, 0, size))
-        }
-        Written::Refused(refusal) => answer_lines::put_refused(text, used, refusal),
-    }
+) -> Result<(), Refusal> {
+    let arrival = table_commands::arrival_in(line);
+    let room = line.size(9).min(out.len());
+    let size = captures::write_frame(arrival, payload, &mut out[..room])?;
+    text.put_ok_shown(command_lines::part(out, 0, size));
+    Ok(())
 }
 
 // A frame as it was read: sender and id, when it was seen, and its fragment (rule G9).
-fn put_frame(file: &[u8], f: Frame, text: &mut Answers, used: usize) -> usize
-    ensures { result ≤ 65536 }
-{
-    let sender = f.sender;
+fn put_read(file: &[u8], f: Frame, text: &mut Answers) {
     let h = f.cmdu;
-    let a = record_lines::put_address(sender, b' ', text, used);
-    let b = answer_lines::put_after(text, a, b'/', h.message_id as u64);
-    let c = answer_lines::put_after(text, b, b'@', f.seconds as u64);
-    let d = answer_lines::put_after(text, c, b':', f.microseconds as u64);
+    record_lines::put_address(f.sender, b' ', text);
+    text.put_after(b'/', h.message_id as u64);
+    text.put_after(b'@', f.seconds as u64);
+    text.put_after(b':', f.microseconds as u64);
     let fragment = Fragment {
         message_type: h.message_type,
         version: h.message_version,
         number: h.fragment,
         last: h.last_fragment,
     };
-    table_commands::put_fragment(fragment, captures::payload(file, f), text, d)
-}
-
-// The first `count` frames of a list.
-fn put_frames(
-    file: &[u8],
-    list: [Frame; 40],
-    count: usize,
-    text: &mut Answers,
-    used: usize,
-) -> usize
-    requires { used ≤ 65536 }
-    ensures { result ≤ 65536 }
-{
-    let many = command_lines::least(count, 40);
-    let mut end = used;
-    let mut i = 0;
-    while i < many {
-        let f = list[i];
-        end = put_frame(file, f, text, end);
-        i += 1;
-    }
-    end
+    table_commands::put_fragment(fragment, captures::payload(file, f), text);
 }
 
 // R: the frames of a capture, in a list of so many elements (rule G8), and how many frames were passed over.
-fn put_capture(file: &[u8], room: usize, text: &mut Answers, used: usize) -> usize
-    ensures { result ≤ 65536 }
-{
-    let listed = listing::list_frames(listing::empty(), command_lines::least(room, 40), file);
-    let list = listed.frames;
-    let checked = listed.checked;
-    match checked {
-        FileChecked::Capture { frames, others } => {
-            let a = answer_lines::put_ok(text, used);
-            let b = answer_lines::put_next(text, a, frames as u64);
-            let c = answer_lines::put_next(text, b, others as u64);
-            put_frames(file, list, frames, text, c)
-        }
-        FileChecked::Refused(refusal) => answer_lines::put_refused(text, used, refusal),
+fn put_capture(line: &Fields, file: &[u8], text: &mut Answers) -> Result<(), Refusal> {
+    let mut list = [captures::no_frame(); LISTED];
+    let room = line.size(1).min(LISTED);
+    let count = captures::frames_into(&mut list[..room], file)?;
+    text.put_ok();
+    text.put_next(count.handed as u64);
+    text.put_next(count.passed_over as u64);
+    for f in list.iter().take(count.handed) {
+        put_read(file, *f, text);
+    }
+    Ok(())
+}
+
+fn answered(
+    line: &Fields,
+    bytes: &[u8],
+    out: &mut [u8],
+    text: &mut Answers,
+) -> Result<(), Refusal> {
+    match line.letter() {
+        b'R' => put_capture(line, bytes, text),
+        b'H' => put_header(line, out, text),
+        _ => put_frame(line, bytes, out, text),
     }
 }
 
 // Answers one line about captures.
-pub fn answer(line: &[u8], bytes: &[u8], out: &mut [u8], text: &mut Answers, used: usize) -> usize
-    ensures { result ≤ 65536 }
-{
-    match command_lines::byte_at(line, 0) {
-        b'R' => put_capture(bytes, command_lines::size_in(line, 1), text, used),
-        b'H' => {
-            let room = command_lines::size_in(line, 1);
-            put_written(line, bytes, room, out, text, used)
-        }
-        _ => {
-            let room = command_lines::size_in(line, 9);
-            put_written(line, bytes, room, out, text, used)
-        }
+pub fn answer(line: &Fields, bytes: &[u8], out: &mut [u8], text: &mut Answers) {
+    if let Err(refusal) = answered(line, bytes, out, text) {
+        text.put_refused(refusal);
     }
 }
