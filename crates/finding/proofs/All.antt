@@ -9,9 +9,11 @@ use lib.ListN.{length, drop, drop_of_length-le}
 use lib.Seq.{drop-drop}
 use Rattle.numbers.specs.Numbers.{Answer, refuses}
 use Rattle.records.specs.declared.Record.{Record}
-use Rattle.kinds.specs.Kinds.{is_kind_lem, Typed}
+use Rattle.kinds.specs.declared.Typed.{Typed}
+use Rattle.kinds.specs.Kinds.{is_kind_lem}
 use Rattle.walking.specs.declared.Tlv.{Tlv}
-use Rattle.finding.specs.Finding.{Hit, reads_as_lem, there_or, first_of, found_or, find_from}
+use Rattle.finding.specs.declared.Hit.{Hit}
+use Rattle.finding.specs.Finding.{reads_as_lem, there_or, first_of, found_or, find_from}
 use Rattle.finding.specs.Claims.{hit_then, all_that_read, and_on_lem, collected}
 use Rattle.finding.proofs.Passing.{first_nil, first_cons}
 

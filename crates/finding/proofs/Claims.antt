@@ -1,8 +1,8 @@
 -- The claims of specs/Claims.antt, proved.
-use Rattle.numbers.proofs.Firm.{by_telling}
-use Rattle.finding.specs.Finding.{found_of, placed_of, searched_of}
+use Rattle.numbers.proofs.Firm.{by_answer, by_telling}
+use Rattle.finding.specs.Finding.{searched_of}
 use Rattle.finding.specs.Claims.{Firmness, OverAWalk, Claims}
-use Rattle.finding.proofs.Firm.{found_one, placed_one, searched_one}
+use Rattle.finding.proofs.Firm.{searched_one}
 use Rattle.finding.proofs.First.{is_first, none_there}
 use Rattle.finding.proofs.All.{every_one}
 use Rattle.finding.proofs.OfWalk as walk
@@ -11,8 +11,8 @@ use Rattle.finding.proofs.Padded.{not_in_padding}
 
 firmness : Firmness
 firmness = record {
-  find = λ list payload code from. by_telling found_of found_one _;
-  find_place = λ list payload code from. by_telling placed_of placed_one _;
+  find = λ list payload code from. by_answer _;
+  find_place = λ list payload code from. by_answer _;
   find_in_payload = λ payload code from. by_telling searched_of searched_one _;
   find_onward = λ payload code offset looked. by_telling searched_of searched_one _;
 }

@@ -11,10 +11,12 @@ use lib.Seq.{get_or-drop}
 use Rattle.numbers.specs.Numbers.{Answer, gives, refuses}
 use Rattle.numbers.proofs.Firm.{never}
 use Rattle.records.specs.declared.Record.{Record}
-use Rattle.kinds.specs.Kinds.{is_kind_lem, Typed}
+use Rattle.kinds.specs.declared.Typed.{Typed}
+use Rattle.kinds.specs.Kinds.{is_kind_lem}
 use Rattle.walking.specs.declared.Tlv.{Tlv}
 use Rattle.walking.specs.Walk.{no_tlv}
-use Rattle.finding.specs.Finding.{Hit, is_there_lem, reads_as_lem, there_or, first_of, found_or, find_from}
+use Rattle.finding.specs.declared.Hit.{Hit}
+use Rattle.finding.specs.Finding.{is_there_lem, reads_as_lem, there_or, first_of, found_or, find_from}
 use Rattle.finding.specs.Claims.{reads_at, IsFirst}
 
 module _ (code : ℕ) (payload : List ℕ) where

@@ -13,11 +13,14 @@ use borrow.Author.Tests.{le-leb}
 use Rattle.numbers.specs.Numbers.{gives, refuses, mapped}
 use Rattle.numbers.proofs.Firm.{never}
 use Rattle.records.specs.declared.Record.{Record}
-use Rattle.kinds.specs.Kinds.{is_kind_lem, Typed, read_kind_lem}
+use Rattle.kinds.specs.declared.Typed.{Typed}
+use Rattle.kinds.specs.Kinds.{is_kind_lem, read_kind_lem}
 use Rattle.walking.specs.declared.Tlv.{Tlv}
-use Rattle.walking.specs.Walk.{WalkCount, walk_of, filled, no_tlv}
+use Rattle.walking.specs.declared.WalkCount.{WalkCount}
+use Rattle.walking.specs.Walk.{walk_of, filled, no_tlv}
 use Rattle.walking.proofs.Chained.{of_walk, stands}
-use Rattle.finding.specs.Finding.{Hit, if_given, is_there_lem, reads_as_lem, first_of, found_or, with_next, find_from, find_in_payload_lem}
+use Rattle.finding.specs.declared.Hit.{Hit}
+use Rattle.finding.specs.Finding.{if_given, is_there_lem, reads_as_lem, first_of, found_or, with_next, find_from, find_in_payload_lem}
 use Rattle.finding.specs.Claims.{reads_at, tlv_read_as, tlv_as, reads_there, IsFirstTlv}
 use Rattle.finding.proofs.First.{is_first, none_there, unchanged, was_found}
 

@@ -19,7 +19,9 @@ use Rattle.walking.proofs.Going.{turned, at_end_lem}
 use Rattle.walking.proofs.Stepping as step
 use Rattle.walking.proofs.Walking.{Walking}
 use Rattle.walking.proofs.Walking as Walks
-use Rattle.finding.specs.Finding.{Hit, Sought, first_of, found_or, offset_after, with_next, find_from, find_in_payload_lem, find_onward_lem}
+use Rattle.finding.specs.declared.Hit.{Hit}
+use Rattle.finding.specs.declared.Sought.{Sought}
+use Rattle.finding.specs.Finding.{first_of, found_or, offset_after, with_next, find_from, find_in_payload_lem, find_onward_lem}
 use Rattle.finding.specs.Claims.{and_on_lem, collected, and_onward, collected_onward, ByOffset}
 use Rattle.finding.proofs.First.{is_first}
 use Rattle.finding.proofs.OfWalk.{without_list}

@@ -10,14 +10,17 @@ use lib.Seq.{take-append-le, drop-append-le, get_or-drop}
 use borrow.Author.Tests.{le-leb}
 use Rattle.numbers.specs.Numbers.{Answer, gives, refuses, mapped}
 use Rattle.records.specs.declared.Record.{Record}
-use Rattle.kinds.specs.Kinds.{is_kind_lem, Typed}
+use Rattle.kinds.specs.declared.Typed.{Typed}
+use Rattle.kinds.specs.Kinds.{is_kind_lem}
 use Rattle.walking.specs.declared.Tlv.{Tlv}
 use Rattle.walking.specs.Steps.{Walk}
 use Rattle.walking.specs.Walk.{is_marker_lem, walk_of, no_tlv, offset_at}
 use Rattle.walking.specs.Claims.{Ends}
 use Rattle.walking.proofs.Chained.{of_walk, stands}
 use Rattle.walking.proofs.Marked.{marker_ends}
-use Rattle.finding.specs.Finding.{Hit, Sought, reads_as_lem, value_of, there_or, first_of, found_or, with_next, find_from, find_in_payload_lem}
+use Rattle.finding.specs.declared.Hit.{Hit}
+use Rattle.finding.specs.declared.Sought.{Sought}
+use Rattle.finding.specs.Finding.{reads_as_lem, value_of, there_or, first_of, found_or, with_next, find_from, find_in_payload_lem}
 use Rattle.finding.proofs.Passing.{first_nil, first_cons}
 
 -- every one of these records lies inside so many bytes

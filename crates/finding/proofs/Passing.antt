@@ -3,25 +3,24 @@ use mathlib.Core.Path.{◌≡◌, refl, sym, ap, ◌∙◌}
 use mathlib.Core.Bool.{Bool, true, false, cond}
 use mathlib.Core.List.{List, [], ◌∷◌}
 use mathlib.Core.Option.{Option, none, some}
-use Prim.Native.Nat.{ℕ, ◌+◌, ◌≤◌, ◌<◌, ◌^◌}
+use Prim.Native.Nat.{ℕ, ◌+◌, ◌≤◌, ◌<◌}
 use native.Mathlib.Omega.{arith}
 use native.Mathlib.Numerals.{add-one}
-use lib.Dec.{ltb}
 use lib.ListN.{length, get_or, drop, drop_of_length-le}
 use lib.Seq.{drop-cons}
-use borrow.Author.Tests.{ltb-true, ltb-false}
-use Rattle.numbers.specs.Numbers.{Answer, gives, refuses, mapped}
+use Rattle.numbers.specs.Numbers.{gives, refuses, mapped}
 use Rattle.records.specs.declared.Record.{Record}
-use Rattle.kinds.specs.Kinds.{is_kind_lem, Typed}
+use Rattle.kinds.specs.declared.Typed.{Typed}
+use Rattle.kinds.specs.Kinds.{is_kind_lem}
 use Rattle.walking.specs.declared.Tlv.{Tlv}
 use Rattle.walking.specs.Walk.{no_tlv}
-use Rattle.finding.specs.Finding.{Hit, is_there_lem, reads_as_lem, there_or, first_of, found_or, find_from}
+use Rattle.finding.specs.declared.Hit.{Hit}
+use Rattle.finding.specs.Finding.{is_there_lem, reads_as_lem, there_or, first_of, found_or, find_from}
 use Rattle.finding.specs.Private.{none_of_lem}
 use Rattle.finding.proofs.Looking.{of_a_kind}
 
 pub record Passed (code : ℕ) (payload : List ℕ) (ys : List Tlv) (from i : ℕ) : Type 0 where
   pub same : first_of code payload i (drop i ys) ≡ first_of code payload from (drop from ys)
-  pub fits : i < 2 ^ 64
 
 pub first_nil : (code : ℕ) (payload : List ℕ) (before : ℕ) → first_of code payload before [] ≡ none
 unfolding first_of
@@ -32,8 +31,8 @@ unfolding first_of
 first_cons code payload before t ts = refl
 
 module _ (code : ℕ) (payload : List ℕ) (ys : List Tlv) (from : ℕ) where
-  pub begins : from < 2 ^ 64 → Passed code payload ys from from
-  begins h = record { same = refl; fits = h }
+  pub begins : Passed code payload ys from from
+  begins = record { same = refl }
 
   module _ (i : ℕ) (f : Passed code payload ys from i) where
     -- one turn: the record at i, or what is after it
@@ -42,15 +41,15 @@ module _ (code : ℕ) (payload : List ℕ) (ys : List Tlv) (from : ℕ) where
         let e : drop i ys ≡ get_or ys i no_tlv ∷ drop (i + 1) ys = rw (add-one, drop-cons ys i no_tlv) in
         sym (first_cons code payload i (get_or ys i no_tlv) (drop (i + 1) ys)) ∙ ap (first_of code payload i) (sym e) ∙ f.same
 
-    pub goes_on : i < length ys → i + 1 < 2 ^ 64 → is_there_lem (reads_as_lem code payload (get_or ys i no_tlv)) ≡ false → Passed code payload ys from (i + 1)
-    goes_on l small = by_reading (reads_as_lem code payload (get_or ys i no_tlv)) (turn l)
+    pub goes_on : i < length ys → is_there_lem (reads_as_lem code payload (get_or ys i no_tlv)) ≡ false → Passed code payload ys from (i + 1)
+    goes_on l = by_reading (reads_as_lem code payload (get_or ys i no_tlv)) (turn l)
       where
         by_reading : (x : Option (Typed Record)) → there_or x (i + 1) (get_or ys i no_tlv) (first_of code payload (i + 1) (drop (i + 1) ys)) ≡ first_of code payload from (drop from ys) → is_there_lem x ≡ false → Passed code payload ys from (i + 1)
         by_reading (some r) e h = let z : ◌≡◌ {A = ℕ} 0 1 = cc in absurd (omega arith)
-        by_reading none e h = record { same = e; fits = small }
+        by_reading none e h = record { same = e }
 
     -- a hit is of a kind, so that 16 is not to be answered
-    found : i < length ys → is_there_lem (reads_as_lem code payload (get_or ys i no_tlv)) ≡ true → gives (i + 1) ≡ mapped (λ h. h.looked) (find_from code ys payload from)
+    pub found : i < length ys → is_there_lem (reads_as_lem code payload (get_or ys i no_tlv)) ≡ true → gives (i + 1) ≡ mapped (λ h. h.looked) (find_from code ys payload from)
     unfolding find_from
     found l = by_reading (reads_as_lem code payload (get_or ys i no_tlv)) refl (turn l)
       where
@@ -59,7 +58,7 @@ module _ (code : ℕ) (payload : List ℕ) (ys : List Tlv) (from : ℕ) where
         by_reading (some r) e f h = rw (sym (of_a_kind code payload (get_or ys i no_tlv) r e), sym f)
         by_reading none e f h = let z : ◌≡◌ {A = ℕ} 0 1 = cc in absurd (omega arith)
 
-    missed : length ys ≤ i → none_of_lem code (length ys) ≡ mapped (λ h. h.looked) (find_from code ys payload from)
+    pub missed : length ys ≤ i → none_of_lem code (length ys) ≡ mapped (λ h. h.looked) (find_from code ys payload from)
     unfolding find_from
     missed l = by_kind (is_kind_lem code)
       where
@@ -69,11 +68,3 @@ module _ (code : ℕ) (payload : List ℕ) (ys : List Tlv) (from : ℕ) where
         by_kind : (b : Bool) → cond b (refuses 15 (length ys ∷ [])) (refuses 16 []) ≡ mapped (λ (h : Hit). h.looked) (cond b (found_or (first_of code payload from (drop from ys)) (refuses 15 (length ys ∷ []))) (refuses 16 []))
         by_kind true = rw nowhere
         by_kind false = refl
-
-    -- where the loop is left: at a record that reads, or past the last one
-    pub ended_at : (i < length ys → is_there_lem (reads_as_lem code payload (get_or ys i no_tlv)) ≡ true) → (a : Answer ℕ) → a ≡ cond (ltb i (length ys)) (gives (i + 1)) (none_of_lem code (length ys)) → a ≡ mapped (λ h. h.looked) (find_from code ys payload from)
-    ended_at reads a e = e ∙ by_place (ltb i (length ys)) refl
-      where
-        by_place : (b : Bool) → ltb i (length ys) ≡ b → cond b (gives (i + 1)) (none_of_lem code (length ys)) ≡ mapped (λ (h : Hit). h.looked) (find_from code ys payload from)
-        by_place true l = let m = ltb-true i (length ys) l in found m (reads m)
-        by_place false l = missed (ltb-false i (length ys) l)

@@ -4,24 +4,28 @@ use mathlib.Core.Path.{◌≡◌, refl, sym, ap, ◌∙◌}
 use mathlib.Core.Bool.{Bool, true, false, cond}
 use mathlib.Core.List.{List, [], ◌∷◌}
 use mathlib.Core.Option.{Option, none, some}
-use Prim.Native.Nat.{ℕ, suc, ◌+◌, ◌-◌, ◌≤◌}
+use Prim.Native.Nat.{ℕ, suc, ◌+◌, ◌-◌, ◌≤◌, min}
 use native.Mathlib.Omega.{arith}
 use lib.Dec.{ltb}
 use lib.ListN.{length, drop, drop_of_length-le}
 use borrow.Author.Tests.{ltb-true, ltb-false}
 use Rattle.numbers.specs.Numbers.{Answer, gives, refuses, and_then, mapped}
 use Rattle.records.specs.declared.Record.{Record}
-use Rattle.kinds.specs.Kinds.{is_kind_lem, Typed}
+use Rattle.kinds.specs.declared.Typed.{Typed}
+use Rattle.kinds.specs.Kinds.{is_kind_lem}
 use Rattle.walking.specs.declared.Tlv.{Tlv}
 use Rattle.walking.specs.Steps.{ended, passed, last, Walk}
-use Rattle.walking.specs.Walk.{WalkCount, step_at, walk_of, walk_on, counted}
+use Rattle.walking.specs.declared.WalkCount.{WalkCount}
+use Rattle.walking.specs.Walk.{step_at, walk_of, walk_on, counted}
 use Rattle.walking.proofs.Chained.{of_walk_on, the_walk_on, from_the_start}
 use Rattle.walking.proofs.Going.{at_end_lem, onward, final, stopped}
 use Rattle.walking.proofs.Listed as Counts
 use Rattle.walking.proofs.Stepping.{Steps, steps}
-use Rattle.finding.specs.Finding.{Hit, Sought, is_there_lem, reads_as_lem, there_or, first_of, found_or, offset_after, with_next, find_from, find_in_payload_lem, find_onward_lem}
+use Rattle.finding.specs.declared.Hit.{Hit}
+use Rattle.finding.specs.declared.Sought.{Sought}
+use Rattle.finding.specs.Finding.{is_there_lem, reads_as_lem, there_or, first_of, found_or, offset_after, with_next, find_from, find_in_payload_lem, find_onward_lem}
 use Rattle.finding.specs.Private.{looked_as, going_on_lem, spot_as, rest_of, sought_in}
-use Rattle.finding.specs.declared.Spot.{Spot}
+use Rattle.std.specs.Prelude.{Ok}
 use Rattle.finding.proofs.Passing.{first_nil, first_cons}
 
 -- whether the record at this place is the one that is looked for
@@ -99,7 +103,7 @@ module _ (code : ℕ) (p : List ℕ) (from : ℕ) where
 
     -- a TLV that is reached, before these
     module _ (b : Bool) (t : Tlv) (next : ℕ) (o : Steps p at b t next) (ts : List Tlv) (end : Answer ℕ) (a : Answered (sought_in code p from looked (record { items = t ∷ ts; end = end }))) where
-      is_it : (on : ℕ) → on ≡ offset_after p t → true ≡ is_sought_lem code p t looked from → Answered (spot_as code p (Spot.At (looked + 1) t on))
+      is_it : (on : ℕ) → on ≡ offset_after p t → true ≡ is_sought_lem code p t looked from → Answered (spot_as code p (Ok (record { looked = looked + 1; tlv = t; next = on })))
       is_it on f h =
           by_reading (reads_as_lem code p t)
           ∙ ap (mapped (with_next p)) (sought_by (ltb looked from) (reads_as_lem code p t) (looked + 1) t (rest_of code p from (looked + 1) ts) (none_in looked (record { items = t ∷ ts; end = end })) h)
@@ -120,7 +124,7 @@ module _ (code : ℕ) (p : List ℕ) (from : ℕ) where
       alone : Answered (sought_in code p from looked (record { items = t ∷ []; end = gives (length p - end) }))
       alone = by_ahead _ (the_walk_on p at (t ∷ []) (gives (length p - end)) (final e))
 
-      pub marker_found : true ≡ is_sought_lem code p t looked from → Answered (spot_as code p (Spot.At (looked + 1) t (length p)))
+      pub marker_found : true ≡ is_sought_lem code p t looked from → Answered (spot_as code p (Ok (record { looked = looked + 1; tlv = t; next = length p })))
       marker_found = let o = steps p at true t end e in is_it true t end o [] (gives (length p - end)) alone (length p) (rw o.marks)
 
       pub marker_passed : false ≡ is_sought_lem code p t looked from → Answered (refuses 15 ((looked + 1) ∷ []))
@@ -134,7 +138,7 @@ module _ (code : ℕ) (p : List ℕ) (from : ℕ) where
       reached : Answered (sought_in code p from looked (record { items = t ∷ (walk_on p next).items; end = (walk_on p next).end }))
       reached = by_ahead _ (the_walk_on p at (t ∷ (walk_on p next).items) (walk_on p next).end (onward e (of_walk_on p next)))
 
-      pub found : true ≡ is_sought_lem code p t looked from → Answered (spot_as code p (Spot.At (looked + 1) t next))
+      pub found : true ≡ is_sought_lem code p t looked from → Answered (spot_as code p (Ok (record { looked = looked + 1; tlv = t; next = next })))
       found =
           let o = steps p at false t next e in
           let n : next ≡ t.offset + 3 + t.length = omega (arith, o.passing.behind, o.passing.starts) in
@@ -174,10 +178,10 @@ module _ (code : ℕ) (p : List ℕ) where
       let i : before + (0 - before) ≡ before = omega arith in
       rw (e, ← f, i, k)
 
--- the number that a search goes on from stands in front of its offset
-pub least_of : (at looked before : ℕ) → before ≡ cond (ltb looked at) looked at → before ≤ at
-least_of at looked before e = by_test (ltb looked at) refl e
+-- the number that a search goes on from
+pub least_is : (at looked : ℕ) → min looked at ≡ cond (ltb looked at) looked at
+least_is at looked = by_test (ltb looked at) refl
   where
-    by_test : (b : Bool) → ltb looked at ≡ b → before ≡ cond b looked at → before ≤ at
-    by_test true l f = omega (arith, ltb-true looked at l, f)
-    by_test false l f = omega (arith, f)
+    by_test : (b : Bool) → ltb looked at ≡ b → min looked at ≡ cond b looked at
+    by_test true l = omega (arith, ltb-true looked at l)
+    by_test false l = omega (arith, ltb-false looked at l)

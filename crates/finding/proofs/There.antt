@@ -1,51 +1,44 @@
 -- A look at the record that was found answers what is to be found.
 use mathlib.Core.Path.{◌≡◌, refl, sym, ap, ◌∙◌}
-use mathlib.Core.Bool.{Bool, true, false, cond}
-use mathlib.Core.List.{List, [], ◌∷◌}
-use mathlib.Core.Option.{Option}
-use Prim.Native.Nat.{ℕ, ◌-◌, ◌≤◌, ◌<◌}
+use mathlib.Core.List.{List}
+use Prim.Native.Nat.{ℕ, ◌-◌, ◌<◌}
 use native.Mathlib.Omega.{arith}
-use lib.ListN.{length, get_or, drop}
+use lib.ListN.{length, get_or}
 use Rattle.numbers.specs.Numbers.{Answer, gives, refuses, mapped}
-use Rattle.kinds.specs.Kinds.{is_kind_lem}
 use Rattle.walking.specs.declared.Tlv.{Tlv}
 use Rattle.walking.specs.Walk.{no_tlv}
-use Rattle.finding.specs.Finding.{Hit, reads_as_lem, first_of, found_or, find_from}
-use Rattle.finding.specs.Private.{none_of_lem, looked_in_lem, looked_as}
-use Rattle.finding.proofs.First.{is_first, was_none}
+use Rattle.finding.specs.declared.Hit.{Hit}
+use Rattle.finding.specs.Finding.{reads_as_lem, find_from}
+use Rattle.finding.specs.Private.{looked_as}
+use Rattle.numbers.proofs.Firm.{never}
+use Rattle.numbers.proofs.Answers.{given}
+use Rattle.finding.proofs.First.{is_first}
 
-none_is : (code : ℕ) (payload : List ℕ) (ys : List Tlv) (from n : ℕ) (vs : List ℕ) → refuses n vs ≡ find_from code ys payload from → none_of_lem code (length ys) ≡ find_from code ys payload from
-unfolding find_from
-none_is code payload ys from n vs = by_kind (is_kind_lem code)
-  where
-    by_kind : (b : Bool) → refuses n vs ≡ cond b (found_or (first_of code payload from (drop from ys)) (refuses 15 (length ys ∷ []))) (refuses 16 [])
-        → cond b (refuses 15 (length ys ∷ [])) (refuses 16 []) ≡ cond b (found_or (first_of code payload from (drop from ys)) (refuses 15 (length ys ∷ []))) (refuses 16 [])
-    by_kind true e =
-        let w = was_none code payload (first_of code payload from (drop from ys)) (refuses 15 (length ys ∷ [])) n vs e in
-        ap (λ (x : Option Hit). found_or x (refuses 15 (length ys ∷ []))) w.0
-    by_kind false e = refl
+module _ (code : ℕ) (payload : List ℕ) (ys : List Tlv) (from k : ℕ) (e : gives k ≡ mapped (λ h. h.looked) (find_from code ys payload from)) where
+  -- what was found has that number
+  number : (h : Hit) → gives h ≡ find_from code ys payload from → k ≡ h.looked
+  number h g = given k h.looked (e ∙ ap (mapped (λ (h : Hit). h.looked)) (sym g))
 
-module _ (code : ℕ) (payload : List ℕ) (ys : List Tlv) (from : ℕ) (a : Answer ℕ) (k : ℕ) (e : a ≡ mapped (λ h. h.looked) (find_from code ys payload from)) (f : k ≡ looked_in_lem a) where
-  at : (x : Answer Hit) → x ≡ find_from code ys payload from → k ≡ looked_in_lem (mapped (λ (h : Hit). h.looked) x)
-  at x g = f ∙ ap looked_in_lem (e ∙ ap (mapped (λ (h : Hit). h.looked)) (sym g))
+  none : {B : Type 0} (n : ℕ) (vs : List ℕ) → refuses n vs ≡ find_from code ys payload from → B
+  none n vs g = never k n vs (e ∙ ap (mapped (λ (h : Hit). h.looked)) (sym g))
 
-  pub inside : 0 < k → k - 1 < length ys
-  inside l = by_finding (find_from code ys payload from) refl
+  pub inside : (0 < k) × (k - 1 < length ys)
+  inside = by_finding (find_from code ys payload from) refl
     where
-      by_finding : (x : Answer Hit) → x ≡ find_from code ys payload from → k - 1 < length ys
-      by_finding (gives h) g = omega (arith, l, at (gives h) g, (is_first code payload ys from h g).there)
-      by_finding (refuses n vs) g = absurd (omega (arith, l, at (refuses n vs) g))
+      by_finding : (x : Answer Hit) → x ≡ find_from code ys payload from → (0 < k) × (k - 1 < length ys)
+      by_finding (gives h) g =
+          let first = is_first code payload ys from h g in
+          (omega (arith, number h g, first.behind), omega (arith, number h g, first.behind, first.there))
+      by_finding (refuses n vs) g = none n vs g
 
-  pub there : 0 < k → looked_as (reads_as_lem code payload (get_or ys (k - 1) no_tlv)) k (get_or ys (k - 1) no_tlv) ≡ find_from code ys payload from
-  there l = by_finding (find_from code ys payload from) refl
+  pub there : looked_as (reads_as_lem code payload (get_or ys (k - 1) no_tlv)) k (get_or ys (k - 1) no_tlv) ≡ find_from code ys payload from
+  there = by_finding (find_from code ys payload from) refl
     where
       by_finding : (x : Answer Hit) → x ≡ find_from code ys payload from → looked_as (reads_as_lem code payload (get_or ys (k - 1) no_tlv)) k (get_or ys (k - 1) no_tlv) ≡ x
-      by_finding (gives h) g = let first = is_first code payload ys from h g in rw (at (gives h) g, first.is, sym first.reads)
-      by_finding (refuses n vs) g = absurd (omega (arith, l, at (refuses n vs) g))
+      by_finding (gives h) g = let first = is_first code payload ys from h g in rw (number h g, first.is, sym first.reads)
+      by_finding (refuses n vs) g = none n vs g
 
-  pub not_there : k ≤ 0 → none_of_lem code (length ys) ≡ find_from code ys payload from
-  not_there l = by_finding (find_from code ys payload from) refl
-    where
-      by_finding : (x : Answer Hit) → x ≡ find_from code ys payload from → none_of_lem code (length ys) ≡ x
-      by_finding (gives h) g = absurd (omega (arith, l, at (gives h) g, (is_first code payload ys from h g).behind))
-      by_finding (refuses n vs) g = none_is code payload ys from n vs g ∙ sym g
+-- where no place is given, nothing is found, for the same reason
+pub not_there : (x : Answer Hit) (n : ℕ) (vs : List ℕ) → refuses n vs ≡ mapped (λ h. h.looked) x → refuses n vs ≡ x
+not_there (gives h) n vs e = never _ _ _ (sym e)
+not_there (refuses m ws) n vs e = let i : n ≡ m = cc in let j : vs ≡ ws = cc in rw (i, j)

@@ -1,19 +1,24 @@
 -- What is claimed of finding, besides what the calls promise; proofs/Claims.antt proves it.
 use Rattle.std.specs.Prelude.{◌≡◌, Bool, true, false, cond, List, [], ◌∷◌, ◌++◌, ℕ, zero, suc, ◌+◌, ◌-◌, ◌≤◌, ◌<◌, eqb, length, get_or, take, drop}
 use Rattle.std.proofs.Math.Option.{Option, none, some}
-use Rattle.numbers.specs.Numbers.{Answer, gives, refuses, mapped}
+use Rattle.numbers.specs.Numbers.{Answer, gives, refuses, mapped, answered}
 use Rattle.numbers.specs.Firmness.{Firm}
-use Rattle.framing.specs.Tlv.{TlvRead, read_tlv_lem, value_in_lem}
+use Rattle.framing.specs.declared.TlvRead.{TlvRead}
+use Rattle.framing.specs.Tlv.{read_tlv_lem, value_in_lem}
 use Rattle.records.specs.declared.Record.{Record}
-use Rattle.kinds.specs.Kinds.{is_kind_lem, Typed, read_kind_lem}
+use Rattle.kinds.specs.declared.Typed.{Typed}
+use Rattle.kinds.specs.Kinds.{is_kind_lem, read_kind_lem}
 use Rattle.walking.specs.declared.Tlv.{Tlv}
-use Rattle.walking.specs.Walk.{is_marker_lem, WalkCount, walk_of, filled, no_tlv, offset_at}
-use Rattle.finding.specs.Finding.{Hit, Sought, found_of, placed_of, searched_of, if_given, is_there_lem, reads_as_lem, with_next, find_from, find_in_payload_lem, find_onward_lem}
+use Rattle.walking.specs.declared.WalkCount.{WalkCount}
+use Rattle.walking.specs.Walk.{is_marker_lem, walk_of, filled, no_tlv, offset_at}
+use Rattle.finding.specs.declared.Hit.{Hit}
+use Rattle.finding.specs.declared.Sought.{Sought}
+use Rattle.finding.specs.Finding.{searched_of, if_given, is_there_lem, reads_as_lem, with_next, find_from, find_in_payload_lem, find_onward_lem}
 
 -- Rule A4: for each public call, by its name, any two answers that its contract allows are one.
 pub record Firmness : Type 0 where
-  pub find : (list : List Tlv) (payload : List ℕ) (code from : ℕ) → Firm (λ r. found_of r ≡ find_from code list payload from)
-  pub find_place : (list : List Tlv) (payload : List ℕ) (code from : ℕ) → Firm (λ r. placed_of r ≡ mapped (λ h. h.looked) (find_from code list payload from))
+  pub find : (list : List Tlv) (payload : List ℕ) (code from : ℕ) → Firm (λ r. answered r ≡ find_from code list payload from)
+  pub find_place : (list : List Tlv) (payload : List ℕ) (code from : ℕ) → Firm (λ r. answered r ≡ mapped (λ h. h.looked) (find_from code list payload from))
   pub find_in_payload : (payload : List ℕ) (code from : ℕ) → Firm (λ r. searched_of r ≡ find_in_payload_lem code payload from)
   pub find_onward : (payload : List ℕ) (code offset looked : ℕ) → Firm (λ r. searched_of r ≡ find_onward_lem code payload offset looked)
 

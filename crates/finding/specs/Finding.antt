@@ -1,34 +1,17 @@
 -- Finding (rules F1 to F5): the first TLV record that has the code of the kind, lies inside the payload, and whose
 -- value reads.
-use Rattle.std.specs.Prelude.{Bool, true, false, cond, List, [], ◌∷◌, ℕ, ◌+◌, eqb, leb, ltb, length, take, drop}
+use Rattle.std.specs.Prelude.{Bool, true, false, cond, List, [], ◌∷◌, ℕ, ◌+◌, eqb, leb, ltb, length, take, drop, Result, Ok, Err}
 use Rattle.std.proofs.Math.Option.{Option, none, some}
 use Rattle.numbers.specs.Numbers.{Answer, gives, refuses, told, number, values, and_then, mapped}
 use Rattle.records.specs.declared.Record.{Record}
-use Rattle.kinds.specs.Kinds.{is_kind_lem, Typed, one, list, read_kind_lem}
+use Rattle.kinds.specs.declared.Typed.{Typed}
+use Rattle.kinds.specs.Kinds.{is_kind_lem, read_kind_lem}
 use Rattle.walking.specs.declared.Tlv.{Tlv}
 use Rattle.walking.specs.Steps.{Walk}
 use Rattle.walking.specs.Walk.{is_marker_lem, walk_of, walk_on}
-use Rattle.finding.specs.declared.Found.{Found}
-use Rattle.finding.specs.declared.Placed.{Placed}
-use Rattle.finding.specs.declared.Searched.{Searched}
-
--- Rule F1: what is found. It is how many records were looked at up to it, which is its place in the list counted from
--- 1, the record, and what its value reads as.
-pub record Hit : Type 0 where
-  pub looked : ℕ
-  pub tlv : Tlv
-  pub reading : Typed Record
-
--- What each answer of `find` says.
-abbrev pub found_of : Found → Answer Hit
-found_of (Found.Record k t r c n) = gives (record { looked = k; tlv = t; reading = record { held = one r; consumed = c; rest = n } })
-found_of (Found.List k t m c n) = gives (record { looked = k; tlv = t; reading = record { held = list m; consumed = c; rest = n } })
-found_of (Found.Refused r) = told r
-
--- What each answer of `find_place` says: that number alone.
-abbrev pub placed_of : Placed → Answer ℕ
-placed_of (Placed.At k) = gives k
-placed_of (Placed.Refused r) = told r
+use Rattle.finding.specs.declared.Hit.{Hit}
+use Rattle.finding.specs.declared.Sought.{Sought}
+use Rattle.finding.specs.declared.SearchError.{SearchError}
 
 -- Rule F2: a record that has the code and lies inside a payload of this size. The sum is one of whole numbers.
 abbrev pub is_candidate_lem : ℕ → ℕ → Tlv → Bool
@@ -72,19 +55,11 @@ unfoldable pub find_from : ℕ → List Tlv → List ℕ → ℕ → Answer Hit
 find_from code tlvs payload from =
     cond (is_kind_lem code) (found_or (first_of code payload from (drop from tlvs)) (refuses 15 (length tlvs ∷ []))) (refuses 16 [])
 
--- Rules F4 and F5: what is found in a payload, and where the TLV after it stands.
-pub record Sought : Type 0 where
-  pub hit : Hit
-  pub next : ℕ
-
 -- What each answer of `find_in_payload` and of `find_onward` says. A walk's refusal comes with its offset.
-abbrev pub searched_of : Searched → Answer Sought
-searched_of (Searched.Record k next t r c n) =
-    gives (record { hit = record { looked = k; tlv = t; reading = record { held = one r; consumed = c; rest = n } }; next = next })
-searched_of (Searched.List k next t m c n) =
-    gives (record { hit = record { looked = k; tlv = t; reading = record { held = list m; consumed = c; rest = n } }; next = next })
-searched_of (Searched.Unwalked r at) = refuses (number r) (at ∷ values r)
-searched_of (Searched.Refused r) = told r
+abbrev pub searched_of : {A : Type 0} → Result A SearchError → Answer A
+searched_of (Ok a) = gives a
+searched_of (Err (SearchError.Unwalked u)) = refuses (number u.refusal) (u.at ∷ values u.refusal)
+searched_of (Err (SearchError.Refused r)) = told r
 
 -- Rule F5: the offset after a TLV. After the marker the message has no TLV: it is the payload's end.
 abbrev pub offset_after : List ℕ → Tlv → ℕ

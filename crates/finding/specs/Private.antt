@@ -1,22 +1,21 @@
 -- For private functions alone; no contract of a public call cites this file.
-use Rattle.std.specs.Prelude.{cond, List, [], ◌∷◌, ℕ, ◌+◌, ◌-◌, length, drop}
+use Rattle.std.specs.Prelude.{cond, List, [], ◌∷◌, ℕ, ◌+◌, ◌-◌, length, drop, Result, Ok, Err}
 use Rattle.std.proofs.Math.Option.{Option, none}
-use Rattle.numbers.specs.Numbers.{Answer, gives, refuses, and_then, mapped, number, values}
+use Rattle.numbers.specs.Numbers.{Answer, refuses, and_then, mapped}
 use Rattle.records.specs.declared.Record.{Record}
-use Rattle.kinds.specs.Kinds.{is_kind_lem, Typed}
+use Rattle.kinds.specs.declared.Typed.{Typed}
+use Rattle.kinds.specs.Kinds.{is_kind_lem}
 use Rattle.walking.specs.declared.Tlv.{Tlv}
 use Rattle.walking.specs.Steps.{Walk}
 use Rattle.finding.specs.declared.Spot.{Spot}
-use Rattle.finding.specs.Finding.{Hit, Sought, reads_as_lem, there_or, first_of, found_or, with_next}
+use Rattle.finding.specs.declared.SearchError.{SearchError}
+use Rattle.finding.specs.declared.Hit.{Hit}
+use Rattle.finding.specs.declared.Sought.{Sought}
+use Rattle.finding.specs.Finding.{searched_of, reads_as_lem, there_or, first_of, found_or, with_next}
 
 -- what is refused where nothing was found among so many records
 abbrev pub none_of_lem : {A : Type 0} → ℕ → ℕ → Answer A
 none_of_lem code size = cond (is_kind_lem code) (refuses 15 (size ∷ [])) (refuses 16 [])
-
--- the number that was given, or 0
-abbrev pub looked_in_lem : Answer ℕ → ℕ
-looked_in_lem (gives k) = k
-looked_in_lem (refuses n vs) = 0
 
 -- one record, if it reads as said; so many were looked at
 abbrev pub looked_as : Option (Typed Record) → ℕ → Tlv → Answer Hit
@@ -27,10 +26,9 @@ abbrev pub going_on_lem : ℕ → Hit → Sought
 going_on_lem next h = record { hit = h; next = next }
 
 -- what the end of a search is answered by
-abbrev pub spot_as : ℕ → List ℕ → Spot → Answer Sought
-spot_as code payload (Spot.At looked t next) = mapped (going_on_lem next) (looked_as (reads_as_lem code payload t) looked t)
-spot_as code payload (Spot.Nowhere looked) = refuses 15 (looked ∷ [])
-spot_as code payload (Spot.Fault r at) = refuses (number r) (at ∷ values r)
+abbrev pub spot_as : ℕ → List ℕ → Result Spot SearchError → Answer Sought
+spot_as code payload (Ok s) = mapped (going_on_lem s.next) (looked_as (reads_as_lem code payload s.tlv) s.looked s.tlv)
+spot_as code payload (Err e) = searched_of (Err e)
 
 -- the first of these TLVs that reads, from the place `from` on; as many stand in front of them as `before` says
 abbrev pub rest_of : ℕ → List ℕ → ℕ → ℕ → List Tlv → Option Hit

@@ -2,87 +2,65 @@
 #![tactic(auto)]
 
 ghost use Rattle.std.specs.Prelude.{◌≡◌, cond, false, ltb, ℕ, ◌+◌, ◌≤◌, length};
-ghost use Rattle.numbers.specs.Numbers.{gives, told, mapped};
+ghost use Rattle.numbers.specs.Numbers.{told, answered, mapped};
 ghost use Rattle.walking.specs.Walk.{walk_on};
-ghost use Rattle.finding.specs.Finding.{found_of, placed_of, searched_of, is_candidate_lem, value_of, reads_as_lem, is_there_lem, find_from, find_in_payload_lem, find_onward_lem};
-ghost use Rattle.finding.specs.Private.{none_of_lem, looked_in_lem, looked_as, going_on_lem, spot_as, sought_in};
+ghost use Rattle.finding.specs.declared.SearchError.{SearchError};
+ghost use Rattle.finding.specs.Finding.{searched_of, is_candidate_lem, value_of, reads_as_lem, is_there_lem, find_from, find_in_payload_lem, find_onward_lem};
+ghost use Rattle.finding.specs.Private.{none_of_lem, looked_as, spot_as, sought_in};
 
-use kinds::{KindRead, KindSize};
+use kinds::Typed;
 use numbers::Refusal;
 use records::Record;
-use walking::{Stepped, Tlv, Walked};
+use walking::{Stepped, Tlv, Unwalked};
 
 // How many records were looked at, the one that was found included: that is its place in the list counted from 1, and
-// where a search for the next one starts. Then the record, and what its value reads as: a record, or a number of
-// entries (rule F1).
+// where a search for the next one starts. Then the record, and what its value reads as (rule F1).
 #[derive(Clone, Copy)]
-pub enum Found {
-    Record {
-        looked: usize,
-        tlv: Tlv,
-        record: Record,
-        consumed: usize,
-        rest: usize,
-    },
-    List {
-        looked: usize,
-        tlv: Tlv,
-        entries: usize,
-        consumed: usize,
-        rest: usize,
-    },
-    Refused(Refusal),
-}
-
-// The number of records looked at, alone: the place of what was found, counted from 1.
-#[derive(Clone, Copy)]
-pub enum Placed {
-    At(usize),
-    Refused(Refusal),
+pub struct Hit {
+    pub looked: usize,
+    pub tlv: Tlv,
+    pub reading: Typed<Record>,
 }
 
 // The same for a payload's TLVs (rules F4 and F5). `next` is the offset of the TLV after the one that was found, or the
-// payload's end after a marker. Where the walk or a step refuses the payload, its refusal is returned with the offset
-// of the TLV that failed.
+// payload's end after a marker.
 #[derive(Clone, Copy)]
-pub enum Searched {
-    Record {
-        looked: usize,
-        next: usize,
-        tlv: Tlv,
-        record: Record,
-        consumed: usize,
-        rest: usize,
-    },
-    List {
-        looked: usize,
-        next: usize,
-        tlv: Tlv,
-        entries: usize,
-        consumed: usize,
-        rest: usize,
-    },
-    Unwalked {
-        refusal: Refusal,
-        at: usize,
-    },
+pub struct Sought {
+    pub hit: Hit,
+    pub next: usize,
+}
+
+// Why a search through a payload finds nothing. Where the walk or a step refuses the payload, its refusal is returned
+// with the offset of the TLV that failed.
+#[derive(Clone, Copy)]
+pub enum SearchError {
+    Unwalked(Unwalked),
     Refused(Refusal),
 }
 
-// Where a search through a payload ends: at a readable TLV of the kind, after so many TLVs without one, or where a TLV
-// can't be read.
+impl From<Unwalked> for SearchError {
+    ghost from_gives = { λ stopped error. error ≡ SearchError.Unwalked stopped };
+
+    fn from(stopped: Unwalked) -> SearchError {
+        SearchError::Unwalked(stopped)
+    }
+}
+
+impl From<Refusal> for SearchError {
+    ghost from_gives = { λ refusal error. error ≡ SearchError.Refused refusal };
+
+    fn from(refusal: Refusal) -> SearchError {
+        SearchError::Refused(refusal)
+    }
+}
+
+// A readable TLV of the kind that a search through a payload came to: how many TLVs were looked at, it included, and
+// where the next one starts.
 #[derive(Clone, Copy)]
-pub(crate) enum Spot {
-    At {
-        looked: usize,
-        tlv: Tlv,
-        next: usize,
-    },
-    Nowhere(usize),
-    Fault {
-        refusal: Refusal,
-        at: usize,
-    },
+pub(crate) struct Spot {
+    pub looked: usize,
+    pub tlv: Tlv,
+    pub next: usize,
 }
 
 // Has the record the code, and does it lie inside a payload of this size (rule F2)? Its type is looked at first and its
@@ -118,21 +96,10 @@ fn value_in(t: Tlv, payload: &[u8]) -> &[u8]
 fn reads(t: Tlv, payload: &[u8], code: u8) -> bool
     ensures { result ≡ is_there_lem (reads_as_lem code payload.now t) }
 {
-    if is_candidate(t, payload.len(), code) {
-        return match kinds::measure(code, value_in(t, payload)) {
-            KindSize::Record {
-                consumed: _,
-                rest: _,
-            } => true,
-            KindSize::List {
-                entries: _,
-                consumed: _,
-                rest: _,
-            } => true,
-            KindSize::Refused(_) => false,
-        };
+    if !is_candidate(t, payload.len(), code) {
+        return false;
     }
-    false
+    kinds::measure(code, value_in(t, payload)).is_ok()
 }
 
 // What is refused where nothing was found among so many records: 15, or 16 for a code that no kind has.
@@ -145,123 +112,77 @@ fn nothing(code: u8, size: usize) -> Refusal
     Refusal::UnknownKind
 }
 
-// What a search says that ended at this place, from 0, in a list of this size: so many were looked at, if the list has
-// the place.
-fn outcome(place: usize, size: usize, code: u8) -> Placed
-    ensures { placed_of result ≡ cond (ltb place size) (gives (place + 1)) (none_of_lem code size) }
+// The first record of the kind that reads, after the first `from` records of the list (rule F3): its place, counted
+// from 1. From 0 it is the first of all, and from the number that an answer gave the next one. Nothing in the list has
+// to fit the payload.
+pub fn find_place(list: &[Tlv], payload: &[u8], code: u8, from: usize) -> Result<usize, Refusal>
+    ensures { answered result ≡ mapped (λ h. h.looked) (find_from code list.now payload.now from) }
 {
-    if place < size {
-        return Placed::At(place + 1);
-    }
-    Placed::Refused(nothing(code, size))
-}
-
-// The first record of the kind that reads, after the first `from` records of the list (rule F3). From 0 it is the first
-// of all, and from the number that an answer gave the next one. Nothing in the list has to fit the payload.
-pub fn find_place(list: &[Tlv], payload: &[u8], code: u8, from: usize) -> Placed
-    ensures { placed_of result ≡ mapped (λ h. h.looked) (find_from code list.now payload.now from) }
-{
-    let mut place = from;
-    while place < list.len() {
+    for place in from..list.len() {
         if reads(list[place], payload, code) {
-            break;
+            return Ok(place + 1);
         }
-        place += 1;
     }
-    outcome(place, list.len(), code)
-}
-
-// The same as `Found`: nothing was found.
-fn none_found(code: u8, size: usize) -> Found
-    ensures { found_of result ≡ none_of_lem code size }
-{
-    Found::Refused(nothing(code, size))
+    Err(nothing(code, list.len()))
 }
 
 // What this record reads as, if it is a readable one of the kind; it is the last of those that were looked at.
-fn look(t: Tlv, payload: &[u8], code: u8, looked: usize) -> Found
-    ensures { found_of result ≡ looked_as (reads_as_lem code payload.now t) looked t }
+fn look(t: Tlv, payload: &[u8], code: u8, looked: usize) -> Result<Hit, Refusal>
+    ensures { answered result ≡ looked_as (reads_as_lem code payload.now t) looked t }
 {
-    if is_candidate(t, payload.len(), code) {
-        return match kinds::read_kind(code, value_in(t, payload)) {
-            KindRead::Record {
-                record,
-                consumed,
-                rest,
-            } => Found::Record {
-                looked,
-                tlv: t,
-                record,
-                consumed,
-                rest,
-            },
-            KindRead::List {
-                entries,
-                consumed,
-                rest,
-            } => Found::List {
-                looked,
-                tlv: t,
-                entries,
-                consumed,
-                rest,
-            },
-            KindRead::Refused(_) => Found::Refused(Refusal::NotFound(looked)),
-        };
+    if !is_candidate(t, payload.len(), code) {
+        return Err(Refusal::NotFound(looked));
     }
-    Found::Refused(Refusal::NotFound(looked))
-}
-
-// The number that an answer says, or 0 where nothing was found.
-fn looked_in(placed: Placed) -> usize
-    ensures { result ≡ looked_in_lem (placed_of placed) }
-{
-    match placed {
-        Placed::At(looked) => looked,
-        Placed::Refused(_) => 0,
+    match kinds::read_kind(code, value_in(t, payload)) {
+        Ok(reading) => Ok(Hit {
+            looked,
+            tlv: t,
+            reading,
+        }),
+        Err(_) => Err(Refusal::NotFound(looked)),
     }
 }
 
 // The same with the record that was found, and what its value reads as.
-pub fn find(list: &[Tlv], payload: &[u8], code: u8, from: usize) -> Found
-    ensures { found_of result ≡ find_from code list.now payload.now from }
+pub fn find(list: &[Tlv], payload: &[u8], code: u8, from: usize) -> Result<Hit, Refusal>
+    ensures { answered result ≡ find_from code list.now payload.now from }
 {
-    let looked = looked_in(find_place(list, payload, code, from));
-    if 0 < looked {
-        return look(list[looked - 1], payload, code, looked);
-    }
-    none_found(code, list.len())
+    let looked = find_place(list, payload, code, from)?;
+    look(list[looked - 1], payload, code, looked)
 }
 
 // Is the TLV a readable one of the kind, at the place `from` or after it?
 fn is_sought(t: Tlv, payload: &[u8], code: u8, place: usize, from: usize) -> bool
     ensures { result ≡ cond (ltb place from) false (is_there_lem (reads_as_lem code payload.now t)) }
 {
-    if place < from {
-        return false;
-    }
-    reads(t, payload, code)
+    from <= place && reads(t, payload, code)
 }
 
 // The first readable TLV of the kind among those that a walk goes over from an offset on, in front of which stand as
 // many TLVs as `before` says; those before the place `from` are passed over. The marker is looked at like any other,
 // and nothing after it (rule F4).
-fn search(payload: &[u8], code: u8, offset: usize, before: usize, from: usize) -> Spot
+fn search(
+    payload: &[u8],
+    code: u8,
+    offset: usize,
+    before: usize,
+    from: usize,
+) -> Result<Spot, SearchError>
     requires { before ≤ offset }
     ensures { spot_as code payload.now result ≡ sought_in code payload.now from before (walk_on payload.now offset) }
 {
     let mut at = offset;
     let mut looked = before;
     loop {
-        match walking::step(payload, at) {
+        match walking::step(payload, at)? {
             Stepped::End => {
-                return Spot::Nowhere(looked);
+                return Err(SearchError::Refused(Refusal::NotFound(looked)));
             }
             Stepped::Tlv { tlv, next } => {
                 let sought = is_sought(tlv, payload, code, looked, from);
                 looked += 1;
                 if sought {
-                    return Spot::At { looked, tlv, next };
+                    return Ok(Spot { looked, tlv, next });
                 }
                 at = next;
             }
@@ -270,98 +191,59 @@ fn search(payload: &[u8], code: u8, offset: usize, before: usize, from: usize) -
                 looked += 1;
                 if sought {
                     let next = payload.len();
-                    return Spot::At { looked, tlv, next };
+                    return Ok(Spot { looked, tlv, next });
                 }
-                return Spot::Nowhere(looked);
-            }
-            Stepped::Refused { refusal, at } => {
-                return Spot::Fault { refusal, at };
+                return Err(SearchError::Refused(Refusal::NotFound(looked)));
             }
         }
     }
 }
 
-// What was found, with the offset of the TLV after it.
-fn with_next(found: Found, next: usize) -> Searched
-    ensures { searched_of result ≡ mapped (going_on_lem next) (found_of found) }
-{
-    match found {
-        Found::Record {
-            looked,
-            tlv,
-            record,
-            consumed,
-            rest,
-        } => Searched::Record {
-            looked,
-            next,
-            tlv,
-            record,
-            consumed,
-            rest,
-        },
-        Found::List {
-            looked,
-            tlv,
-            entries,
-            consumed,
-            rest,
-        } => Searched::List {
-            looked,
-            next,
-            tlv,
-            entries,
-            consumed,
-            rest,
-        },
-        Found::Refused(refusal) => Searched::Refused(refusal),
-    }
-}
-
 // What such a search answers.
-fn search_on(payload: &[u8], code: u8, offset: usize, before: usize, from: usize) -> Searched
+fn search_on(
+    payload: &[u8],
+    code: u8,
+    offset: usize,
+    before: usize,
+    from: usize,
+) -> Result<Sought, SearchError>
     requires { before ≤ offset }
     ensures { searched_of result ≡ sought_in code payload.now from before (walk_on payload.now offset) }
 {
-    match search(payload, code, offset, before, from) {
-        Spot::At { looked, tlv, next } => with_next(look(tlv, payload, code, looked), next),
-        Spot::Nowhere(looked) => Searched::Refused(Refusal::NotFound(looked)),
-        Spot::Fault { refusal, at } => Searched::Unwalked { refusal, at },
-    }
+    let spot = search(payload, code, offset, before, from)?;
+    let hit = look(spot.tlv, payload, code, spot.looked)?;
+    Ok(Sought {
+        hit,
+        next: spot.next,
+    })
 }
 
 // The same without a list (rule F4): the first readable TLV of the kind in a payload, after its first `from` TLVs. The
 // whole payload is walked first.
-pub fn find_in_payload(payload: &[u8], code: u8, from: usize) -> Searched
+pub fn find_in_payload(payload: &[u8], code: u8, from: usize) -> Result<Sought, SearchError>
     ensures { searched_of result ≡ find_in_payload_lem code payload.now from }
 {
-    if kinds::is_kind(code) {
-        return match walking::walk(payload) {
-            Walked::Count {
-                count: _,
-                padding: _,
-            } => search_on(payload, code, 0, 0, from),
-            Walked::Refused { refusal, at } => Searched::Unwalked { refusal, at },
-        };
+    if !kinds::is_kind(code) {
+        return Err(SearchError::Refused(Refusal::UnknownKind));
     }
-    Searched::Refused(Refusal::UnknownKind)
-}
-
-fn least(a: usize, b: usize) -> usize
-    ensures { result ≡ cond (ltb a b) a b }
-{
-    if a < b { a } else { b }
+    walking::walk(payload)?;
+    search_on(payload, code, 0, 0, from)
 }
 
 // Goes on from an answer, by its `next` and its `looked` (rule F5): the next readable TLV of the kind. It steps on from
 // that offset, so that finding all TLVs of a kind costs one walk and one look at each. A caller may name any numbers.
 // No more TLVs than bytes stand in front of an offset, so a greater number counts as the offset, and none is too great
 // to count on from.
-pub fn find_onward(payload: &[u8], code: u8, offset: usize, looked: usize) -> Searched
+pub fn find_onward(
+    payload: &[u8],
+    code: u8,
+    offset: usize,
+    looked: usize,
+) -> Result<Sought, SearchError>
     ensures { searched_of result ≡ find_onward_lem code payload.now offset looked }
 {
-    if kinds::is_kind(code) {
-        return search_on(payload, code, offset, least(looked, offset), 0);
+    if !kinds::is_kind(code) {
+        return Err(SearchError::Refused(Refusal::UnknownKind));
     }
-    Searched::Refused(Refusal::UnknownKind)
+    search_on(payload, code, offset, looked.min(offset), 0)
 }

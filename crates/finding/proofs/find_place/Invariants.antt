@@ -1,10 +1,6 @@
 -- The records from `from` up to `place` are passed: what is found from there on is what is to be found.
-use Rattle.std.proofs.Common.{length, ◌-◌}
 use Rattle.finding.proofs.Passing.{Passed}
 use Rattle.finding.proofs.find_place.Given as goal
 
 abbrev pub invariant-loop-place : goal.invariant-loop-place
 invariant-loop-place l = Passed l.code l.payload l.list l.from l.place
-
-abbrev pub decreases-loop-place : goal.decreases-loop-place
-decreases-loop-place l = length l.list - l.place

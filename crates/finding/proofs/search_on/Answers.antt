@@ -1,14 +1,15 @@
 -- `search_on` meets its contract: what the end of the search is answered by.
-use mathlib.Core.Path.{sym, ◌∙◌, ap}
+use Rattle.std.proofs.Common.{sym, ◌∙◌, ap, rules}
 use Rattle.numbers.specs.Numbers.{mapped}
-use Rattle.finding.specs.Private.{going_on_lem, spot_as}
+use Rattle.finding.specs.Private.{going_on_lem}
 use Rattle.finding.proofs.search_on.Goals as goal
 
-pub returns-in-At : goal.returns-in-At
-returns-in-At c = c.with_next.ensures ∙ ap (mapped (going_on_lem _)) c.look.ensures ∙ ap (spot_as _ _) (sym c.in-At.is) ∙ c.search.ensures
+pub returns : goal.returns
+returns c = ap (mapped (going_on_lem c.in_ok-spot.spot.next)) c.in_ok-hit.ensures ∙ c.in_ok-spot.ensures
 
-pub returns-in-Nowhere : goal.returns-in-Nowhere
-returns-in-Nowhere c = ap (spot_as _ _) (sym c.in-Nowhere.is) ∙ c.search.ensures
+pub returns-in_err-hit : goal.returns-in_err-hit
+returns-in_err-hit c =
+    rw (sym (ap (mapped (going_on_lem c.in_ok-spot.spot.next)) c.in_err-hit.ensures ∙ c.in_ok-spot.ensures)) (search rules)
 
-pub returns-in-Fault : goal.returns-in-Fault
-returns-in-Fault c = ap (spot_as _ _) (sym c.in-Fault.is) ∙ c.search.ensures
+pub returns-in_err-spot : goal.returns-in_err-spot
+returns-in_err-spot c = rw (sym c.in_err-spot.ensures) (search rules)
