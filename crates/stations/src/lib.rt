@@ -15,7 +15,7 @@ ghost use Rattle.stations.specs.Events.{answer_from, table_from};
 use numbers::Refusal;
 use reading::association_in;
 use records::{AssociationState, ClientAssociation, MacAddr};
-use rows::{address_of, join, leave, number_of, row_with};
+use rows::{address_of, join, leave, row_of};
 
 // How many stations a table holds, at most (rule P1).
 pub const STATIONS: usize = 128;
@@ -67,12 +67,9 @@ pub fn fresh() -> Stations
 pub fn event(t: &mut Stations, e: ClientAssociation) -> Result<Heard, Refusal>
     ensures { (answered result ≡ answer_to t.old (event_of e)) × (t.new ≡ table_after t.old (event_of e)) }
 {
-    let station = number_of(e.sta_mac);
-    let point = number_of(e.ap_mac);
-    let state = e.association_state;
-    match state {
-        AssociationState::JoinedBss => join(t, station, point),
-        AssociationState::LeftBss => Ok(leave(t, station, point)),
+    match e.association_state {
+        AssociationState::JoinedBss => join(t, e.sta_mac, e.ap_mac),
+        AssociationState::LeftBss => Ok(leave(t, e.sta_mac, e.ap_mac)),
     }
 }
 
@@ -93,7 +90,7 @@ pub fn event_from(t: &mut Stations, value: &[u8]) -> Result<Taken, Refusal>
 pub fn where_is(t: &Stations, station: MacAddr) -> Option<MacAddr>
     ensures { result ≡ where_shown (where_of t.now (address_number station)) }
 {
-    let row = row_with(t, number_of(station) + 1)?;
+    let row = row_of(t, station)?;
     Some(address_of(t[STATIONS + row]))
 }
 
