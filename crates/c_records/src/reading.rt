@@ -1,7 +1,7 @@
 // What was read of a value, by the fields of the shape that is asked for. A record of another shape is refused by 16,
 // as a code that no kind has.
-ghost use Rattle.std.specs.Prelude.{◌≡◌, [], ◌-◌};
-ghost use Rattle.numbers.specs.Numbers.{answered, mapped, refuses, number};
+ghost use Rattle.std.specs.Prelude.{◌≡◌, ◌-◌};
+ghost use Rattle.numbers.specs.Numbers.{answered, mapped};
 ghost use Rattle.c_records.specs.Shapes.{shape_of, address_fields, byte_fields, query_fields, association_fields, capability_fields};
 ghost use Rattle.c_records.specs.Reading.{read_in_shape, address_numbers_lem, byte_numbers_lem, query_numbers_lem, association_numbers_lem, capability_numbers_lem};
 
@@ -36,27 +36,24 @@ fn by_shape(answer: Result<RecordRead, Refusal>, length: usize) -> Result<Shaped
 pub fn address_numbers(answer: Result<RecordRead, Refusal>, length: usize) -> AshlarAddressRead
     ensures { result ≡ address_numbers_lem (read_in_shape address_fields «length» (answered answer)) }
 {
-    match by_shape(answer, length) {
+    let refusal = match by_shape(answer, length) {
         Ok(
             Shaped {
                 shape: Shape::Address(address),
                 consumed,
                 rest,
             },
-        ) => AshlarAddressRead {
-            consumed,
-            rest,
-            address,
-            refusal: 0,
-        },
-        Ok(_) => no_address_read(Refusal::UnknownKind),
-        Err(refusal) => no_address_read(refusal),
-    }
-}
-
-fn no_address_read(refusal: Refusal) -> AshlarAddressRead
-    ensures { result ≡ address_numbers_lem (refuses (number refusal) []) }
-{
+        ) => {
+            return AshlarAddressRead {
+                consumed,
+                rest,
+                address,
+                refusal: 0,
+            };
+        }
+        Ok(_) => Refusal::UnknownKind,
+        Err(refusal) => refusal,
+    };
     AshlarAddressRead {
         refusal: numbers::number_of(refusal),
         ..AshlarAddressRead::default()
@@ -67,28 +64,25 @@ fn no_address_read(refusal: Refusal) -> AshlarAddressRead
 pub fn byte_numbers(answer: Result<RecordRead, Refusal>, length: usize) -> AshlarByteRead
     ensures { result ≡ byte_numbers_lem (read_in_shape byte_fields «length» (answered answer)) }
 {
-    match by_shape(answer, length) {
+    let refusal = match by_shape(answer, length) {
         Ok(
             Shaped {
                 shape: Shape::Byte { byte, reserved },
                 consumed,
                 rest,
             },
-        ) => AshlarByteRead {
-            consumed,
-            rest,
-            byte,
-            reserved,
-            refusal: 0,
-        },
-        Ok(_) => no_byte_read(Refusal::UnknownKind),
-        Err(refusal) => no_byte_read(refusal),
-    }
-}
-
-fn no_byte_read(refusal: Refusal) -> AshlarByteRead
-    ensures { result ≡ byte_numbers_lem (refuses (number refusal) []) }
-{
+        ) => {
+            return AshlarByteRead {
+                consumed,
+                rest,
+                byte,
+                reserved,
+                refusal: 0,
+            };
+        }
+        Ok(_) => Refusal::UnknownKind,
+        Err(refusal) => refusal,
+    };
     AshlarByteRead {
         refusal: numbers::number_of(refusal),
         ..AshlarByteRead::default()
@@ -99,27 +93,24 @@ fn no_byte_read(refusal: Refusal) -> AshlarByteRead
 pub fn query_numbers(answer: Result<RecordRead, Refusal>, length: usize) -> AshlarQueryRead
     ensures { result ≡ query_numbers_lem (read_in_shape query_fields «length» (answered answer)) }
 {
-    match by_shape(answer, length) {
+    let refusal = match by_shape(answer, length) {
         Ok(
             Shaped {
                 shape: Shape::Query(query),
                 consumed,
                 rest,
             },
-        ) => AshlarQueryRead {
-            consumed,
-            rest,
-            query,
-            refusal: 0,
-        },
-        Ok(_) => no_query_read(Refusal::UnknownKind),
-        Err(refusal) => no_query_read(refusal),
-    }
-}
-
-fn no_query_read(refusal: Refusal) -> AshlarQueryRead
-    ensures { result ≡ query_numbers_lem (refuses (number refusal) []) }
-{
+        ) => {
+            return AshlarQueryRead {
+                consumed,
+                rest,
+                query,
+                refusal: 0,
+            };
+        }
+        Ok(_) => Refusal::UnknownKind,
+        Err(refusal) => refusal,
+    };
     AshlarQueryRead {
         refusal: numbers::number_of(refusal),
         ..AshlarQueryRead::default()
@@ -133,7 +124,7 @@ pub fn association_numbers(
 ) -> AshlarAssociationRead
     ensures { result ≡ association_numbers_lem (read_in_shape association_fields «length» (answered answer)) }
 {
-    match by_shape(answer, length) {
+    let refusal = match by_shape(answer, length) {
         Ok(
             Shaped {
                 shape: Shape::Association { association, state },
@@ -141,22 +132,17 @@ pub fn association_numbers(
                 rest,
             },
         ) => {
-            AshlarAssociationRead {
+            return AshlarAssociationRead {
                 consumed,
                 rest,
                 association,
                 state,
                 refusal: 0,
-            }
+            };
         }
-        Ok(_) => no_association_read(Refusal::UnknownKind),
-        Err(refusal) => no_association_read(refusal),
-    }
-}
-
-fn no_association_read(refusal: Refusal) -> AshlarAssociationRead
-    ensures { result ≡ association_numbers_lem (refuses (number refusal) []) }
-{
+        Ok(_) => Refusal::UnknownKind,
+        Err(refusal) => refusal,
+    };
     AshlarAssociationRead {
         refusal: numbers::number_of(refusal),
         ..AshlarAssociationRead::default()
@@ -170,7 +156,7 @@ pub fn capability_numbers(
 ) -> AshlarCapabilityRead
     ensures { result ≡ capability_numbers_lem (read_in_shape capability_fields «length» (answered answer)) }
 {
-    match by_shape(answer, length) {
+    let refusal = match by_shape(answer, length) {
         Ok(
             Shaped {
                 shape: Shape::Capability { capability, flags },
@@ -178,22 +164,17 @@ pub fn capability_numbers(
                 rest,
             },
         ) => {
-            AshlarCapabilityRead {
+            return AshlarCapabilityRead {
                 consumed,
                 rest,
                 capability,
                 flags,
                 refusal: 0,
-            }
+            };
         }
-        Ok(_) => no_capability_read(Refusal::UnknownKind),
-        Err(refusal) => no_capability_read(refusal),
-    }
-}
-
-fn no_capability_read(refusal: Refusal) -> AshlarCapabilityRead
-    ensures { result ≡ capability_numbers_lem (refuses (number refusal) []) }
-{
+        Ok(_) => Refusal::UnknownKind,
+        Err(refusal) => refusal,
+    };
     AshlarCapabilityRead {
         refusal: numbers::number_of(refusal),
         ..AshlarCapabilityRead::default()

@@ -3,7 +3,7 @@
 #![tactic(auto)]
 
 ghost use Rattle.std.specs.Prelude.{◌≡◌};
-ghost use Rattle.numbers.specs.Numbers.{answered};
+ghost use Rattle.numbers.specs.Numbers.{answered, number};
 ghost use Rattle.c_stations.specs.Numbers.{association_with_lem, no_address_lem, heard_as_lem, heard_numbers_lem, refused_as_lem, event_numbers_lem, applied_numbers_lem, where_numbers_lem, row_numbers_lem};
 
 use numbers::Refusal;
@@ -13,7 +13,7 @@ use stations::{Heard, Seat, Taken};
 // What an event did (rules P2 and P3): 1 placed, 2 moved, 3 the same, 4 removed, 5 stale; 0 where it is refused. With 2
 // comes the access point where the station was.
 #[repr(C)]
-#[derive(Clone, Copy)]
+#[derive(Clone, Copy, Default)]
 pub struct AshlarHeard {
     pub from: MacAddr,
     pub answer: u8,
@@ -22,7 +22,7 @@ pub struct AshlarHeard {
 
 // The same for an event that was read from a value (rule P6): how many bytes the event took, and how many follow.
 #[repr(C)]
-#[derive(Clone, Copy)]
+#[derive(Clone, Copy, Default)]
 pub struct AshlarApplied {
     pub consumed: usize,
     pub rest: usize,
@@ -31,7 +31,7 @@ pub struct AshlarApplied {
 
 // The access point at which a station is, if it is held (rule P7).
 #[repr(C)]
-#[derive(Clone, Copy)]
+#[derive(Clone, Copy, Default)]
 pub struct AshlarAt {
     pub point: MacAddr,
     pub held: bool,
@@ -39,7 +39,7 @@ pub struct AshlarAt {
 
 // A row of the table, if it holds a station (rule P7).
 #[repr(C)]
-#[derive(Clone, Copy)]
+#[derive(Clone, Copy, Default)]
 pub struct AshlarRow {
     pub station: MacAddr,
     pub point: MacAddr,
@@ -73,35 +73,37 @@ fn heard_as(answer: u8) -> AshlarHeard
     ensures { result ≡ heard_as_lem answer }
 {
     AshlarHeard {
-        from: no_address(),
         answer,
-        refusal: 0,
+        ..AshlarHeard::default()
     }
 }
 
-fn heard_numbers(heard: Heard) -> AshlarHeard
-    ensures { result ≡ heard_numbers_lem heard }
-{
-    match heard {
-        Heard::New => heard_as(1),
-        Heard::Moved { from } => AshlarHeard {
-            from,
-            answer: 2,
-            refusal: 0,
-        },
-        Heard::There => heard_as(3),
-        Heard::Removed => heard_as(4),
-        Heard::Stale => heard_as(5),
+impl From<Heard> for AshlarHeard {
+    ghost from_gives = { λ heard r. r ≡ heard_numbers_lem heard };
+
+    fn from(heard: Heard) -> Self {
+        match heard {
+            Heard::New => heard_as(1),
+            Heard::Moved { from } => AshlarHeard {
+                from,
+                answer: 2,
+                refusal: 0,
+            },
+            Heard::There => heard_as(3),
+            Heard::Removed => heard_as(4),
+            Heard::Stale => heard_as(5),
+        }
     }
 }
 
-fn refused_as(refusal: u8) -> AshlarHeard
-    ensures { result ≡ refused_as_lem refusal }
-{
-    AshlarHeard {
-        from: no_address(),
-        answer: 0,
-        refusal,
+impl From<Refusal> for AshlarHeard {
+    ghost from_gives = { λ refusal r. r ≡ refused_as_lem (number refusal) };
+
+    fn from(refusal: Refusal) -> Self {
+        AshlarHeard {
+            refusal: numbers::number_of(refusal),
+            ..AshlarHeard::default()
+        }
     }
 }
 
@@ -110,8 +112,8 @@ pub fn event_numbers(heard: Result<Heard, Refusal>) -> AshlarHeard
     ensures { result ≡ event_numbers_lem (answered heard) }
 {
     match heard {
-        Ok(heard) => heard_numbers(heard),
-        Err(refusal) => refused_as(numbers::number_of(refusal)),
+        Ok(heard) => heard.into(),
+        Err(refusal) => refusal.into(),
     }
 }
 
@@ -124,12 +126,11 @@ pub fn applied_numbers(size: usize, taken: Result<Taken, Refusal>) -> AshlarAppl
         Ok(taken) => AshlarApplied {
             consumed: taken.consumed,
             rest: size.saturating_sub(taken.consumed),
-            heard: heard_numbers(taken.heard),
+            heard: taken.heard.into(),
         },
         Err(refusal) => AshlarApplied {
-            consumed: 0,
-            rest: 0,
-            heard: refused_as(numbers::number_of(refusal)),
+            heard: refusal.into(),
+            ..AshlarApplied::default()
         },
     }
 }
@@ -140,10 +141,7 @@ pub fn where_numbers(place: Option<MacAddr>) -> AshlarAt
 {
     match place {
         Some(point) => AshlarAt { point, held: true },
-        None => AshlarAt {
-            point: no_address(),
-            held: false,
-        },
+        None => AshlarAt::default(),
     }
 }
 
@@ -157,10 +155,6 @@ pub fn row_numbers(seat: Option<Seat>) -> AshlarRow
             point: seat.point,
             held: true,
         },
-        None => AshlarRow {
-            station: no_address(),
-            point: no_address(),
-            held: false,
-        },
+        None => AshlarRow::default(),
     }
 }
