@@ -2,7 +2,6 @@ pub mod Carried
 pub mod Chained
 pub mod Claims
 pub mod Filled
-pub mod Filling
 pub mod Firm
 pub mod Going
 pub mod Listed

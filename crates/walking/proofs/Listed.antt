@@ -2,11 +2,11 @@
 use mathlib.Core.Path.{◌≡◌, refl, sym, ap, ◌∙◌}
 use mathlib.Core.Bool.{Bool, true, false, cond}
 use mathlib.Core.List.{List, [], ◌∷◌}
-use Prim.Native.Nat.{ℕ, ◌<◌, ◌≤◌}
+use Prim.Native.Nat.{ℕ, ◌≤◌}
 use lib.Dec.{ltb}
 use lib.ListN.{length}
-use borrow.Author.Tests.{lt-ltb, le-ltb, ltb-false}
-use Rattle.numbers.specs.Numbers.{Answer, gives, refuses, and_then, mapped}
+use borrow.Author.Tests.{ltb-false}
+use Rattle.numbers.specs.Numbers.{Answer, gives, refuses, mapped}
 use Rattle.numbers.proofs.Firm.{never}
 use Rattle.numbers.proofs.Answers.{given, gave, mapped_gave}
 use Rattle.walking.specs.declared.Tlv.{Tlv}
@@ -31,16 +31,6 @@ module _ (w : Walk Tlv) where
 
   abbrev room_for : ℕ → WalkCount → Answer WalkCount
   room_for room c = cond (ltb room c.count) (refuses 14 (offset_at w.items room ∷ [])) (gives c)
-
-  pub refused : (room n : ℕ) (vs : List ℕ) → refuses n vs ≡ counted w → refuses n vs ≡ listed room w
-  refused room n vs e = ap (λ (a : Answer WalkCount). and_then a (room_for room)) e
-
-  module _ (c : WalkCount) (e : gives c ≡ counted w) where
-    pub too_short : (room : ℕ) → room < c.count → refuses 14 (offset_at w.items room ∷ []) ≡ listed room w
-    too_short room l = sym (rw (lt-ltb room c.count l)) ∙ ap (λ (a : Answer WalkCount). and_then a (room_for room)) e
-
-    pub enough : (room : ℕ) → c.count ≤ room → gives c ≡ listed room w
-    enough room l = sym (rw (le-ltb room c.count l)) ∙ ap (λ (a : Answer WalkCount). and_then a (room_for room)) e
 
 -- what is counted with a list has room there
 module _ (w : Walk Tlv) (room : ℕ) (c : WalkCount) (e : gives c ≡ listed room w) where

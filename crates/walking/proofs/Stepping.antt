@@ -16,7 +16,8 @@ use Rattle.framing.specs.Tlv.{read_tlv_lem}
 use Rattle.framing.proofs.Reading.{reads}
 use Rattle.walking.specs.declared.Tlv.{Tlv}
 use Rattle.walking.specs.Steps.{Ahead, ended, passed, last}
-use Rattle.walking.specs.Walk.{is_marker_lem, step_by_lem, step_at}
+use Rattle.walking.specs.declared.Stepped.{Stepped}
+use Rattle.walking.specs.Walk.{is_marker_lem, ahead_of, step_by_lem, step_at}
 
 -- the marker has no value
 pub empty : (t : Tlv) → is_marker_lem t ≡ true → t.length ≡ 0
@@ -130,3 +131,7 @@ steps_same p at b t next o q h e =
     let n : next ≡ at + (3 + t.length) = omega (arith, o.passing.behind) in
     let i : t ≡ record { tlv_type = t.tlv_type; length = t.length; offset = at } = ap (λ (k : ℕ). record { tlv_type = t.tlv_type; length = t.length; offset = k }) o.passing.starts in
     ap (λ (k : ℕ). gives (over q at b t k)) n ∙ ap (λ (u : Tlv). gives (over q at b u (at + (3 + t.length)))) i ∙ by_mark q at h _ e b (sym o.marks ∙ ap is_marker_lem i)
+
+-- what a step answered, once it is known what it found
+pub is_found : {found s : Stepped} {a : Answer (Ahead Tlv)} → found ≡ s → gives (ahead_of found) ≡ a → gives (ahead_of s) ≡ a
+is_found is e = ap (λ (s : Stepped). gives (ahead_of s)) (sym is) ∙ e

@@ -5,7 +5,7 @@ use Prim.Native.Nat.{ℕ, ◌+◌, ◌-◌, ◌≤◌}
 use native.Mathlib.Omega.{arith}
 use lib.ListN.{length, drop, length-drop}
 use lib.Seq.{drop-drop}
-use Rattle.numbers.specs.Numbers.{gives, refuses}
+use Rattle.numbers.specs.Numbers.{gives}
 use Rattle.walking.specs.declared.Tlv.{Tlv}
 use Rattle.walking.specs.Steps.{ended, passed, last}
 use Rattle.walking.specs.Walk.{step_at, walk_of, counted}
@@ -40,9 +40,6 @@ module _ (p : List ℕ) where
 
     pub ends_at : (t : Tlv) (to : ℕ) → gives (last t to) ≡ step_at p at → gives (record { count = k + 1; padding = length p - to }) ≡ counted (walk_of p)
     ends_at t to e = let u = turned (step_at p) (length p) w.goes (gives (last t to)) e in answers (t ∷ []) (length p - to) u.0 u.1
-
-    pub stops : (n : ℕ) (vs : List ℕ) → refuses n vs ≡ step_at p at → refuses n vs ≡ counted (walk_of p)
-    stops n vs e = rw (turned (step_at p) (length p) w.goes (refuses n vs) e).1
 
     -- the TLV that a step passes is the next, and those after it follow
     module _ (t : Tlv) (next : ℕ) (e : gives (passed t next) ≡ step_at p at) where

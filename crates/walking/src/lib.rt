@@ -45,10 +45,7 @@ pub enum Stepped {
 fn is_marker(t: Tlv) -> bool
     ensures { result ≡ is_marker_lem t }
 {
-    if t.tlv_type == 0 {
-        return t.length == 0;
-    }
-    false
+    t.tlv_type == 0 && t.length == 0
 }
 
 // One step of the walk, at the offset `at` (rule W6). Whoever goes over a payload's TLVs goes by this step, from 0 on.

@@ -1,13 +1,11 @@
 -- `walk_into` meets its contract: the plan says how many entries fit, and each turn writes one more of them.
-use Rattle.std.proofs.Common.{◌<◌, length, drop, ◌++◌}
-use mathlib.Core.List.{List}
-use mathlib.Core.Path.{refl, sym, ◌∙◌, ap}
+use Rattle.std.proofs.Common.{◌<◌, length}
+use mathlib.Core.Path.{refl, sym, ◌∙◌}
 use native.Mathlib.Omega.{arith}
 use lib.Seq.{length-take-le}
 use Rattle.walking.specs.Walk.{walk_of}
-use Rattle.walking.specs.declared.Tlv.{Tlv}
 use Rattle.walking.proofs.Chained.{is_passed}
-use Rattle.walking.proofs.Filled.{begins, goes_on, ends}
+use Rattle.walking.proofs.Filled.{begins, goes_on}
 use Rattle.walking.proofs.Listed.{fits}
 use Rattle.walking.proofs.walk_into.Goals as goal
 
@@ -29,12 +27,3 @@ loop-element-preserved c =
     let f = fits (walk_of p) (length list) _ c.in_ok-planned.ensures in
     let n = length-take-le c.in_ok-planned.planned.count list f.1 in
     goes_on p _ _ _ c.loop-element.invariant (omega arith) (omega arith) _ (sym c.unwrap-passed.ensures ∙ c.pass.ensures)
-
-pub returns : goal.returns
-returns c =
-    let p = c.args.payload.now in
-    let list = c.args.list.now in
-    let answer = c.in_ok-planned.ensures in
-    let f = fits (walk_of p) (length list) _ answer in
-    let n = length-take-le c.in_ok-planned.planned.count list f.1 in
-    (answer, ap (λ (ts : List Tlv). ts ++ drop c.in_ok-planned.planned.count list) (ends p _ _ _ c.loop-element.invariant (omega arith) (omega arith)) ∙ rw (← answer))
