@@ -32,15 +32,18 @@ use Rattle.kinds.specs.Kinds.{family_of_lem, is_kind_by, is_kind_lem, one_record
 use Rattle.kinds.specs.Writing.{write_kind_lem, kind_bytes}
 
 -- what is measured of a record is what reading it gives, without the record
-pub record Measures (code : ℕ) (s : List ℕ) (n : ℕ) : Type 0 where
-  pub inside : n ≤ length s
-  pub is : gives (record { held = Contents.One tt; consumed = n; rest = length s - n }) ≡ mapped without_record (mapped (one_record (length s)) (read_record_lem code s))
+module _ (code : ℕ) (s : List ℕ) (n : ℕ) (e : gives n ≡ mapped (λ (r : RecordRead). r.consumed) (read_record_lem code s)) where
+  pub measured_inside : n ≤ length s
+  measured_inside =
+      let g = mapped_gave (λ (r : RecordRead). r.consumed) (read_record_lem code s) n (sym e) in
+      let i : g.first.consumed ≡ n = given g.first.consumed n g.then in
+      omega (arith, i, consumed_within code s g.first g.is)
 
-pub measured : (code : ℕ) (s : List ℕ) (n : ℕ) → gives n ≡ mapped (λ (r : RecordRead). r.consumed) (read_record_lem code s) → Measures code s n
-measured code s n e =
-    let g = mapped_gave (λ (r : RecordRead). r.consumed) (read_record_lem code s) n (sym e) in
-    let i : g.first.consumed ≡ n = given g.first.consumed n g.then in
-    record { inside = omega (arith, i, consumed_within code s g.first g.is); is = rw (g.is, i) }
+  pub measured : mapped without_record (mapped (one_record (length s)) (read_record_lem code s)) ≡ gives (record { held = Contents.One tt; consumed = n; rest = length s - n })
+  measured =
+      let g = mapped_gave (λ (r : RecordRead). r.consumed) (read_record_lem code s) n (sym e) in
+      let i : g.first.consumed ≡ n = given g.first.consumed n g.then in
+      rw (g.is, i)
 
 pub unmeasured : (code : ℕ) (s : List ℕ) (n : ℕ) (vs : List ℕ) → refuses n vs ≡ mapped (λ (r : RecordRead). r.consumed) (read_record_lem code s) → refuses n vs ≡ mapped without_record (mapped (one_record (length s)) (read_record_lem code s))
 unmeasured code s n vs = by_reading (read_record_lem code s)
@@ -66,10 +69,6 @@ no_part (refuses n vs) s = (refl, refl)
 abbrev Within : List ℕ → Typed Record → Type 0
 Within s t = (t.consumed ≤ length s) × (t.consumed + t.rest ≡ length s)
 
--- a kind's answer is its family's
-pub kind_by : (code : ℕ) {family : Family} → family ≡ family_of_lem code → is_kind_by family code ≡ is_kind_lem code
-kind_by code e = ap (λ (f : Family). is_kind_by f code) e
-
 module _ (code : ℕ) (s : List ℕ) where
   module _ {family : Family} (e : family ≡ family_of_lem code) where
     pub reads : read_by family code s ≡ read_kind_lem code s
@@ -79,9 +78,6 @@ module _ (code : ℕ) (s : List ℕ) where
     pub located : (is : List ℕ) → locate_by family code is s ≡ locate_kind code is s
     unfolding locate_kind
     located is = ap (λ (f : Family). locate_by f code is s) e
-
-    pub part_located : (is : List ℕ) → (part_of (locate_by family code is s) s ≡ part_of (locate_kind code is s) s) × (start_in (locate_by family code is s) ≡ start_in (locate_kind code is s))
-    part_located is = (ap (λ (x : Answer Span). part_of x s) (located is), ap start_in (located is))
 
     pub counted : (is : List ℕ) → count_by family code is s ≡ count_kind code is s
     unfolding count_kind

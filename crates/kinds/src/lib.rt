@@ -95,7 +95,7 @@ pub fn read_kind(code: u8, s: &[u8]) -> Result<Typed<Record>, Refusal>
 }
 
 // The same for a caller that needs no record: the value is measured alone.
-#[tactic(auto, using(crate::proofs::Laws::measured, crate::proofs::Laws::unmeasured), unfolding(crate::specs::Kinds::read_kind_lem))]
+#[tactic(auto, using(crate::proofs::Laws::measured_inside, crate::proofs::Laws::measured, crate::proofs::Laws::unmeasured), unfolding(crate::specs::Kinds::read_kind_lem))]
 pub fn measure(code: u8, s: &[u8]) -> Result<Typed<()>, Refusal>
     ensures { answered result ≡ mapped without_record (read_kind_lem code s.now) }
 {

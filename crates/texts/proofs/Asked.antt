@@ -3,6 +3,7 @@ use mathlib.Core.Path.{◌≡◌, refl, sym, ◌∙◌}
 use mathlib.Core.List.{List, [], ◌∷◌}
 use Prim.Native.Nat.{ℕ, zero, suc, ◌≤◌}
 use native.Mathlib.Omega.{arith}
+use lib.ListN.{length}
 use Rattle.numbers.specs.Numbers.{Answer, gives, refuses, mapped, and_then}
 use Rattle.numbers.proofs.Firm.{never}
 use Rattle.numbers.proofs.Answers.{given, gave, mapped_gave, follows}
@@ -109,3 +110,19 @@ radio_text_within i s r e =
     let t = text_lies radio s m.first.start m.first.end b.reads in
     let w = end_within radio s m.first.start m.first.end b.reads in
     rw (← (given _ r m.then)) (t.ordered, omega arith)
+
+pub radio_ordered : (code : ℕ) (is s : List ℕ) (r : Span) → locate_radio code is s ≡ gives r → r.start ≤ r.end
+radio_ordered code is s r e = (radio_within code is s r e).0
+
+pub radio_inside : (code : ℕ) (is s : List ℕ) (r : Span) → locate_radio code is s ≡ gives r → r.end ≤ length s
+radio_inside code is s r e = (radio_within code is s r e).1
+
+-- so each lies in the value, where it is found
+pub radio_lies : (code : ℕ) (is s : List ℕ) → InValue (locate_radio code is s) s
+radio_lies code is s = in_value (locate_radio code is s) s (radio_within code is s)
+
+pub text_lies_lem : (code i : ℕ) (s : List ℕ) → InValue (locate_text_lem code i s) s
+text_lies_lem code i s = in_value (locate_text_lem code i s) s (text_within code i s)
+
+pub radio_text_lies : (i : ℕ) (s : List ℕ) → InValue (locate_radio_text_lem i s) s
+radio_text_lies i s = in_value (locate_radio_text_lem i s) s (radio_text_within i s)

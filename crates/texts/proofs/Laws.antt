@@ -4,15 +4,14 @@ use mathlib.Core.Bool.{Bool, true, false, cond}
 use mathlib.Core.List.{List, [], ◌∷◌}
 use Prim.Native.Nat.{ℕ, suc, ◌+◌, ◌-◌, ◌<◌, ◌≤◌}
 use native.Mathlib.Nat.{sub-zero}
-use native.Mathlib.Numerals.{add-one}
 use native.Mathlib.Omega.{arith}
 use Rattle.std.specs.Prelude.{Some, None, unwrap_or}
 use Rattle.std.specs.List.{position, position_or_len}
 use Rattle.std.proofs.lemmas.List.Recursion.{is_position_or_len}
-use lib.ListN.{length, get_or, take, drop, length-drop, drop_of_length-le}
-use lib.Seq.{drop-cons, length-take-le}
+use lib.ListN.{length, take, drop, length-drop}
+use lib.Seq.{length-take-le}
 use lib.Dec.{eqb, ltb}
-use borrow.Author.Tests.{eq-eqb, ne_eqb, lt-ltb, le-ltb, ltb-true, ltb-false}
+use borrow.Author.Tests.{lt-ltb, le-ltb, ltb-true, ltb-false}
 use Rattle.numbers.specs.Numbers.{Answer, gives, refuses, and_then, mapped}
 use Rattle.numbers.proofs.Firm.{never}
 use Rattle.numbers.proofs.Answers.{given, follows, stops, mapped_given}
@@ -22,24 +21,11 @@ use Rattle.layouts.specs.Reading.{count_at_lem, list_of, entries_end, end_of}
 use Rattle.layouts.specs.declared.Span.{Span}
 use Rattle.layouts.specs.Access.{nth_of, Spans, before, spans_from}
 use Rattle.layouts.proofs.Laws.{one_entry}
-use Rattle.layouts.proofs.Within.{Within, reached, behind_head, list_within, entries_within, ends_in, end_within}
+use Rattle.layouts.proofs.Within.{reached, behind_head, list_within, entries_within, ends_in, end_within}
 use Rattle.layouts.proofs.Spans.{span, spans_many, nth_past, nth}
 use Rattle.utf8.specs.Utf8.{is_utf8_lem}
 use Rattle.texts.specs.Reading.{until_zero_lem, count_size_lem, text_span_lem, text_in_lem}
 use Rattle.texts.specs.PrivateSteps.{valid_in, nth_at}
-
--- a byte that is none, a zero byte, and the end
-pub until_on : (s : List ℕ) (i : ℕ) → i < length s → (get_or s i 0 ≡ 0 → ⊥) → until_zero_lem (drop i s) ≡ suc (until_zero_lem (drop (i + 1) s))
-unfolding until_zero_lem
-until_on s i h z = rw (add-one i, drop-cons s i 0 h, ne_eqb (get_or s i 0) 0 z)
-
-pub until_stop : (s : List ℕ) (i : ℕ) → i < length s → get_or s i 0 ≡ 0 → until_zero_lem (drop i s) ≡ 0
-unfolding until_zero_lem
-until_stop s i h z = rw (drop-cons s i 0 h, eq-eqb (get_or s i 0) 0 z)
-
-pub until_end : (s : List ℕ) (i : ℕ) → length s ≤ i → until_zero_lem (drop i s) ≡ 0
-unfolding until_zero_lem
-until_end s i h = rw (drop_of_length-le s h)
 
 pub until_within : (s : List ℕ) → until_zero_lem s ≤ length s
 unfolding until_zero_lem
@@ -90,14 +76,23 @@ text_lies (entry n w e) s p q x =
     let u = entries_within (end_of e s) s (end_within e s) g.list.many g.list.first q v.1 g.ends in
     record { low = omega arith; ordered = omega arith; high = omega arith }
 
-pub text_inside : (l : Layout) (s : List ℕ) (p q : ℕ) (t : Span) → entries_end (end_of l s) 1 p ≡ gives q → t ≡ text_span_lem l s (span p q) → Within t.start t.end s
-text_inside l s p q t e x =
-    let has = sym (one_entry (end_of l s) p) ∙ e in
-    let w = end_within l s p q has in
-    let a = text_lies l s p q has in
-    let o = a.ordered in
-    let h = a.high in
-    rw x (o, omega arith)
+-- of one that was read, the start and the end lie in the bytes, and so does its text
+module _ (l : Layout) (s : List ℕ) (p q : ℕ) (e : entries_end (end_of l s) 1 p ≡ gives q) where
+  has : end_of l s p ≡ gives q
+  has = sym (one_entry (end_of l s) p) ∙ e
+
+  pub entry_ordered : p ≤ q
+  entry_ordered = (end_within l s p q has).0
+
+  pub entry_inside : q ≤ length s
+  entry_inside = (end_within l s p q has).1
+
+  module _ (t : Span) (x : t ≡ text_span_lem l s (span p q)) where
+    pub text_ordered : t.start ≤ t.end
+    text_ordered = rw x (text_lies l s p q has).ordered
+
+    pub text_inside : t.end ≤ length s
+    text_inside = let h = (text_lies l s p q has).high in let w = entry_inside in rw x (omega arith)
 
 -- A loop over n entries that start at `at`, which finds out whether their texts are valid: those from i on, the next of
 -- which starts at p, say what all do.

@@ -8,18 +8,22 @@ use lib.ListN.{length}
 use Rattle.numbers.specs.Numbers.{Answer, gives, refuses, and_then, mapped}
 use Rattle.numbers.proofs.Firm.{never}
 use Rattle.numbers.proofs.Answers.{given, gave, mapped_gave, mapped_given, follows, stops, regrouped}
-use Rattle.layouts.specs.Layouts.{c1_of}
+use Rattle.layouts.specs.Layouts.{Layout, c1_of}
+use Rattle.layouts.specs.Rows.{row_layout}
 use Rattle.layouts.specs.declared.ListAt.{ListAt}
 use Rattle.layouts.specs.Reading.{entries_end, end_of}
-use Rattle.layouts.specs.Access.{nth_of, Spans, spans_from}
+use Rattle.layouts.specs.declared.Span.{Span}
+use Rattle.layouts.specs.Access.{numbers, nth_of, Spans, spans_from}
 use Rattle.layouts.proofs.Within as layouts
 use Rattle.layouts.proofs.Within.{Within, end_within}
 use Rattle.layouts.proofs.Spans.{spans_end, spans_within}
 use Rattle.texts.specs.Texts.{TextKind, radio}
-use Rattle.texts.specs.Reading.{radio_list_lem, radios_in_lem, Laid, laid_of, all_valid_lem, valid_of, whole_of}
+use Rattle.texts.specs.Reading.{text_span_lem, radio_list_lem, radios_in_lem, Laid, laid_of, all_valid_lem, valid_of, whole_of}
 use Rattle.texts.specs.declared.reading.Outline.{Outline}
-use Rattle.texts.specs.PrivateSteps.{valid_in, nth_at, outline_of}
-use Rattle.texts.proofs.Laws.{nth_held}
+use Rattle.texts.specs.declared.rows.TextRow.{TextRow}
+use Rattle.texts.specs.PrivateSteps.{row_kind, valid_in, nth_at, outline_of}
+use Rattle.texts.specs.Access.{radio_in_lem}
+use Rattle.texts.proofs.Laws.{nth_held, Among, among}
 
 -- the outline of a value: where its pieces end, its list, and where its radios end
 abbrev pub outlined : List ℕ → ListAt → Answer Outline
@@ -177,3 +181,45 @@ module _ (k : TextKind) (s : List ℕ) (o : Outline) (w : Whole (whole_of k s) o
 
   pub radio_found : (i : ℕ) → nth_at radio o.list.many i s o.list.first ≡ nth_of w.value.radios.each i
   radio_found i = rw (← w.list) (nth_held radio w.value.list.many i s w.value.list.first w.value.radios (parts k s w.value there).each)
+
+-- in the code's terms, of a value whose outline was answered
+module _ (k : TextKind) (s : List ℕ) (o : Outline) (e : mapped outline_of (whole_of k s) ≡ gives o) where
+  abbrev whole : Whole (whole_of k s) o
+  whole = whole_of_lem (whole_of k s) o e
+
+  pub outline_inside : o.end ≤ length s
+  outline_inside = whole_end k s o whole
+
+  -- its radio with this number
+  pub radio_asked : (d i j m : ℕ) → d ≡ 1 → and_then (whole_of k s) (λ v. radio_in_lem (numbers d i j m) v) ≡ nth_at radio o.list.many i s o.list.first
+  radio_asked d i j m x = follows (whole_of k s) whole.value _ whole.is ∙ rw x (sym (radio_found k s o whole i))
+
+-- and its text with this number, of a row of the table
+module _ (row : TextRow) (s : List ℕ) (o : Outline) (e : mapped outline_of (whole_of (row_kind row) s) ≡ gives o) where
+  abbrev l : Layout
+  l = row_layout row.piece
+
+  value : Whole (whole_of (row_kind row) s) o
+  value = whole_of_lem (whole_of (row_kind row) s) o e
+
+  abbrev asked : ℕ → Answer Span
+  asked i = and_then (whole_of (row_kind row) s) (λ v. mapped (text_span_lem l s) (nth_of v.texts.each i))
+
+  text_asked : (i : ℕ) → asked i ≡ mapped (text_span_lem l s) (nth_at l row.many i s 0)
+  text_asked i = follows (whole_of (row_kind row) s) value.value _ value.is ∙ ap (mapped (text_span_lem l s)) (sym (text_found (row_kind row) s o value i))
+
+  pub text_missing : (i n : ℕ) (vs : List ℕ) → nth_at l row.many i s 0 ≡ refuses n vs → asked i ≡ refuses n vs
+  text_missing i n vs x = text_asked i ∙ rw x
+
+  module _ (i : ℕ) (a : Span) (x : nth_at l row.many i s 0 ≡ gives a) where
+    pub text_there : (t : Span) → t ≡ text_span_lem l s a → asked i ≡ gives t
+    text_there t y = text_asked i ∙ rw (x, y)
+
+    own : Among l s 0 value.value.texts.end a
+    own = among l row.many i s 0 value.value.texts (parts (row_kind row) s value.value (there (row_kind row) s o value)).own a (sym (text_found (row_kind row) s o value i) ∙ x)
+
+    pub piece_ordered : a.start ≤ a.end
+    piece_ordered = (end_within l s a.start a.end own.reads).0
+
+    pub piece_inside : a.end ≤ length s
+    piece_inside = (end_within l s a.start a.end own.reads).1

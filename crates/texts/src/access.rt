@@ -27,7 +27,7 @@ pub(crate) fn part(located: Result<Span, Refusal>, s: &[u8]) -> &[u8]
 }
 
 // The radio with these numbers, in a value that has to read whole.
-#[tactic(auto, using(crate::proofs::Whole::whole_of_lem, crate::proofs::Whole::not_read, crate::proofs::Whole::radio_found, crate::proofs::Asked::one_number, crate::proofs::Asked::no_radio))]
+#[tactic(auto, using(crate::proofs::Whole::not_read, crate::proofs::Whole::radio_asked, crate::proofs::Asked::no_radio, crate::proofs::Whole::whole_of_lem))]
 pub(crate) fn radio_in(row: TextRow, path: Path, s: &[u8]) -> Result<Span, Refusal>
     ensures { answered result ≡ and_then (whole_of (row_kind row) s.now) (λ v. radio_in_lem (numbers_of path) v) }
 {
@@ -51,7 +51,7 @@ pub(crate) fn count_in(row: TextRow, path: Path, s: &[u8]) -> Result<usize, Refu
 }
 
 // The value's own text with this number.
-#[tactic(auto, using(crate::proofs::Whole::whole_of_lem, crate::proofs::Whole::not_read, crate::proofs::Whole::text_found))]
+#[tactic(auto, using(crate::proofs::Whole::not_read, crate::proofs::Whole::text_missing, crate::proofs::Whole::piece_ordered, crate::proofs::Whole::piece_inside))]
 pub(crate) fn text_in(row: TextRow, number: usize, s: &[u8]) -> Result<Span, Refusal>
     ensures { answered result ≡ and_then (whole_of (row_kind row) s.now) (λ v. mapped (text_span_lem (row_layout row.piece) s.now) (nth_of v.texts.each number)) }
 {

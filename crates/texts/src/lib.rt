@@ -35,7 +35,7 @@ pub fn is_text(code: u8) -> bool
 }
 
 // The value of the kind with this code at the start of s (rule K1). Its entries are its radios.
-#[tactic(auto, using(crate::proofs::Whole::whole_of_lem, crate::proofs::Whole::not_outlined), unfolding(crate::specs::Reading::read_text))]
+#[tactic(auto, using(crate::proofs::Whole::whole_of_lem, crate::proofs::Whole::not_outlined, crate::proofs::Whole::outline_inside), unfolding(crate::specs::Reading::read_text))]
 pub fn read_value(code: u8, s: &[u8]) -> Result<Consumed, Refusal>
     ensures { answered result ≡ read_text code s.now }
 {
@@ -60,6 +60,7 @@ pub fn locate(code: u8, path: Path, s: &[u8]) -> Result<Span, Refusal>
 
 // The radio with these numbers as its own part of s: its id, its length and its text. The empty start of s where
 // `locate` refuses (rule A5).
+#[tactic(auto, using(crate::proofs::Asked::radio_lies))]
 pub fn entry(code: u8, path: Path, s: &[u8]) -> &[u8]
     ensures result_value { result.now ≡ part_of (locate_radio code (numbers_of path) s.now) s.now }
     ensures place { result.ref_ptr ≡ behind (start_in (locate_radio code (numbers_of path) s.now)) s.entry }
@@ -106,6 +107,7 @@ pub fn locate_text(code: u8, number: usize, s: &[u8]) -> Result<Span, Refusal>
 }
 
 // That text as its own part of s; the empty start of s where `locate_text` refuses (rule A5).
+#[tactic(auto, using(crate::proofs::Asked::text_lies_lem))]
 pub fn text(code: u8, number: usize, s: &[u8]) -> &[u8]
     ensures result_value { result.now ≡ part_of (locate_text_lem code number s.now) s.now }
     ensures place { result.ref_ptr ≡ behind (start_in (locate_text_lem code number s.now)) s.entry }
@@ -115,7 +117,7 @@ pub fn text(code: u8, number: usize, s: &[u8]) -> &[u8]
 
 // Where the text of the radio with this number lies in the value s of DeviceInventory (rule E8). The whole value has to
 // read.
-#[tactic(auto, unfolding(crate::specs::Access::locate_radio_text_lem))]
+#[tactic(auto, using(crate::proofs::Asked::radio_ordered, crate::proofs::Asked::radio_inside), unfolding(crate::specs::Access::locate_radio_text_lem))]
 pub fn locate_radio_text(number: usize, s: &[u8]) -> Result<Span, Refusal>
     ensures { answered result ≡ locate_radio_text_lem number s.now }
 {
@@ -130,6 +132,7 @@ pub fn locate_radio_text(number: usize, s: &[u8]) -> Result<Span, Refusal>
 }
 
 // That text as its own part of s; the empty start of s where `locate_radio_text` refuses (rule A5).
+#[tactic(auto, using(crate::proofs::Asked::radio_text_lies))]
 pub fn radio_text(number: usize, s: &[u8]) -> &[u8]
     ensures result_value { result.now ≡ part_of (locate_radio_text_lem number s.now) s.now }
     ensures place { result.ref_ptr ≡ behind (start_in (locate_radio_text_lem number s.now)) s.entry }

@@ -46,7 +46,7 @@ pub(crate) fn text_span(row: LayoutRow, s: &[u8], entry: Span) -> Span
 }
 
 // Whether the texts of n entries that are there, the first of which starts at `at`, are UTF-8 (rule E5).
-#[tactic(auto, using(layouts::proofs::Laws::one_entry, crate::proofs::Laws::left_all, crate::proofs::Laws::left_none, crate::proofs::Laws::left_cut, crate::proofs::Laws::left_bad, crate::proofs::Laws::left_more))]
+#[tactic(auto, using(layouts::proofs::Laws::one_entry, crate::proofs::Laws::left_all, crate::proofs::Laws::left_none, crate::proofs::Laws::left_cut, crate::proofs::Laws::left_bad, crate::proofs::Laws::left_more, crate::proofs::Laws::entry_ordered, crate::proofs::Laws::entry_inside, crate::proofs::Laws::text_ordered, crate::proofs::Laws::text_inside))]
 pub(crate) fn all_valid(row: LayoutRow, n: usize, s: &[u8], at: usize) -> bool
     ensures { result ≡ valid_in (row_layout row) s.now (spans_from (end_of (row_layout row) s.now) n at) }
 {

@@ -33,6 +33,7 @@ fn piece(levels: u8, has_count: bool, h: u8) -> LayoutRow
 }
 
 // A radio: an id of 6 bytes, and a text after its length (rule E8).
+#[tactic(auto, unfolding(layouts::specs::Rows::layout_in))]
 pub(crate) fn radio() -> LayoutRow
     ensures { row_layout result ≡ radio }
 {
@@ -40,6 +41,7 @@ pub(crate) fn radio() -> LayoutRow
 }
 
 // The list of the radios.
+#[tactic(auto, unfolding(layouts::specs::Rows::layout_in))]
 pub(crate) fn radio_list() -> LayoutRow
     ensures { row_layout result ≡ c1_of radio }
 {
@@ -64,6 +66,7 @@ fn text_row(many: usize, piece: LayoutRow, radios: bool) -> TextRow
 }
 
 // The row of the kind with this code.
+#[tactic(auto, unfolding(crate::specs::Texts::text_kind, layouts::specs::Rows::layout_in))]
 pub(crate) fn row_of(code: u8) -> Result<TextRow, Refusal>
     ensures { mapped row_kind (answered result) ≡ text_kind code }
 {
