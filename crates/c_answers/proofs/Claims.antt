@@ -9,7 +9,8 @@ use Rattle.numbers.specs.Numbers.{gives, refuses}
 use Rattle.numbers.proofs.Firm.{by_equation}
 use Rattle.pushing.specs.Push.{waiting, duplicated, inconsistent, missing, missing_last, single, joined}
 use Rattle.records.specs.declared.Record.{Record}
-use Rattle.kinds.specs.Kinds.{Contents, one, list, held_without}
+use Rattle.kinds.specs.declared.Contents.{Contents}
+use Rattle.kinds.specs.Kinds.{held_without}
 use Rattle.c_answers.specs.Numbers.{contents_numbers, shown_in_lem}
 use Rattle.c_answers.specs.Claims.{Firmness, MeasuredAsRead, NamesThePart, ShowsTheMessage, Claims}
 
@@ -31,8 +32,8 @@ measured_as_read : MeasuredAsRead
 measured_as_read (gives t) = by_held t.held
   where
     by_held : (h : Contents Record) → contents_numbers (held_without h) t.consumed t.rest ≡ contents_numbers h t.consumed t.rest
-    by_held (one r) = refl
-    by_held (list n) = refl
+    by_held (Contents.One r) = refl
+    by_held (Contents.List n) = refl
 measured_as_read (refuses n vs) = refl
 
 names_the_part : NamesThePart

@@ -1,26 +1,23 @@
 -- What is claimed of this crate's calls; proofs/Claims.antt proves it.
-use Rattle.std.specs.Prelude.{◌≡◌, cond, List, ℕ, length, take, drop}
-use Rattle.numbers.specs.Numbers.{Answer, mapped}
+use Rattle.std.specs.Prelude.{◌≡◌, cond, List, ℕ, length, take, drop, Bool, Result}
+use Rattle.numbers.specs.Numbers.{Answer, mapped, answered}
 use Rattle.numbers.specs.Firmness.{Firm}
-use Rattle.framing.specs.declared.HeaderRead.{HeaderRead}
-use Rattle.framing.specs.Cmdu.{header_of_lem}
-use Rattle.walking.specs.declared.Walked.{Walked}
+use Rattle.numbers.specs.declared.Refusal.{Refusal}
+use Rattle.framing.specs.declared.CmduHeader.{CmduHeader}
+use Rattle.walking.specs.declared.WalkCount.{WalkCount}
 use Rattle.walking.specs.declared.Stepped.{Stepped}
-use Rattle.walking.specs.Walk.{walked_of, stepped_of}
+use Rattle.walking.specs.declared.Unwalked.{Unwalked}
+use Rattle.walking.specs.Walk.{answered_at, stepped_of}
 use Rattle.records.specs.declared.Record.{Record}
-use Rattle.kinds.specs.declared.KindSize.{KindSize}
-use Rattle.kinds.specs.Kinds.{Typed, kind_size_of, without_record}
-use Rattle.finding.specs.declared.Placed.{Placed}
-use Rattle.finding.specs.Finding.{placed_of}
-use Rattle.layouts.specs.declared.Located.{Located}
-use Rattle.layouts.specs.Access.{Span, located_of, part_of}
+use Rattle.kinds.specs.declared.Typed.{Typed}
+use Rattle.kinds.specs.Kinds.{without_record}
+use Rattle.layouts.specs.declared.Span.{Span}
+use Rattle.layouts.specs.Access.{part_of}
 use Rattle.pushing.specs.declared.Pushed.{Pushed}
 use Rattle.pushing.specs.Push.{PushAnswer, pushed_of}
 use Rattle.pushing.specs.Show.{shown}
-use Rattle.cutting.specs.declared.Checked.{Checked}
-use Rattle.cutting.specs.declared.Cutting.{Cutting}
-use Rattle.cutting.specs.Cuts.{checked_of}
-use Rattle.cutting.specs.Greedy.{cutting_of}
+use Rattle.cutting.specs.declared.CuttingError.{CuttingError}
+use Rattle.cutting.specs.Cuts.{cutting_answered}
 use Rattle.c_answers.specs.declared.AshlarPart.{AshlarPart}
 use Rattle.c_answers.specs.declared.AshlarPushed.{AshlarPushed}
 use Rattle.c_answers.specs.declared.AshlarShown.{AshlarShown}
@@ -28,17 +25,17 @@ use Rattle.c_answers.specs.Numbers.{header_numbers_lem, walk_numbers_lem, step_n
 
 -- Rule A4: for each public call, by its name, any two answers that its contract allows are one.
 pub record Firmness : Type 0 where
-  pub header_numbers : (read : HeaderRead) → Firm (λ r. r ≡ header_numbers_lem (header_of_lem read))
-  pub walk_numbers : (walked : Walked) → Firm (λ r. r ≡ walk_numbers_lem (walked_of walked))
-  pub step_numbers : (stepped : Stepped) → Firm (λ r. r ≡ step_numbers_lem (stepped_of stepped))
-  pub kind_numbers : (size : KindSize) → Firm (λ r. r ≡ kind_numbers_lem (kind_size_of size))
-  pub found_numbers : (placed : Placed) → Firm (λ r. r ≡ found_numbers_lem (placed_of placed))
-  pub part_numbers : (located : Located) → Firm (λ r. r ≡ part_numbers_lem (located_of located))
-  pub push_numbers : (pushed : Pushed) → Firm (λ r. r ≡ push_numbers_lem (pushed_of pushed))
+  pub header_numbers : (read : Result CmduHeader Refusal) → Firm (λ r. r ≡ header_numbers_lem (answered read))
+  pub walk_numbers : (walked : Result WalkCount Unwalked) → Firm (λ r. r ≡ walk_numbers_lem (answered_at walked))
+  pub step_numbers : (stepped : Result Stepped Unwalked) → Firm (λ r. r ≡ step_numbers_lem (stepped_of stepped))
+  pub kind_numbers : (size : Result (Typed Unit) Refusal) → Firm (λ r. r ≡ kind_numbers_lem (answered size))
+  pub found_numbers : (placed : Result ℕ Refusal) → Firm (λ r. r ≡ found_numbers_lem (answered placed))
+  pub part_numbers : (located : Result Span Refusal) → Firm (λ r. r ≡ part_numbers_lem (answered located))
+  pub push_numbers : (pushed : Result Pushed Refusal) → Firm (λ r. r ≡ push_numbers_lem (pushed_of pushed))
   pub shown_in : (pushed : AshlarPushed) (payload-size out-size : ℕ)
       → Firm (λ r. r ≡ shown_in_lem pushed payload-size out-size)
-  pub check_numbers : (checked : Checked) → Firm (λ r. r ≡ check_numbers_lem (checked_of checked))
-  pub cut_numbers : (cutting : Cutting) → Firm (λ r. r ≡ cut_numbers_lem (cutting_of cutting))
+  pub check_numbers : (checked : Result Bool CuttingError) → Firm (λ r. r ≡ check_numbers_lem (cutting_answered checked))
+  pub cut_numbers : (cutting : Result ℕ CuttingError) → Firm (λ r. r ≡ cut_numbers_lem (cutting_answered cutting))
 
 -- Rule C1: a value that was measured crosses as the value that was read does.
 abbrev pub MeasuredAsRead : Type 0

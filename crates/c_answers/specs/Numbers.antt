@@ -1,13 +1,15 @@
 -- Rule C1: the answers of the calls about TLVs, kinds and fragments, in the numbers that cross to C. `refusal` is the
 -- refusal's number of part N, and 0 where nothing is refused. A field that a refusal doesn't carry is 0.
-use Rattle.std.specs.Prelude.{◌≡◌, Bool, true, false, cond, List, ℕ, ◌-◌, eqb, leb, get_or}
+use Rattle.std.specs.Prelude.{◌≡◌, Bool, true, false, cond, List, ℕ, ◌-◌, eqb, leb, get_or, Result}
 use Rattle.numbers.specs.Numbers.{Answer, gives, refuses}
+use Rattle.numbers.specs.declared.Refusal.{Refusal}
 use Rattle.framing.specs.declared.CmduHeader.{CmduHeader}
 use Rattle.walking.specs.declared.Tlv.{Tlv}
 use Rattle.walking.specs.Steps.{Ahead, ended, passed, last}
-use Rattle.walking.specs.Walk.{WalkCount}
-use Rattle.layouts.specs.Access.{Span}
-use Rattle.kinds.specs.Kinds.{Contents, one, list, Typed}
+use Rattle.walking.specs.declared.WalkCount.{WalkCount}
+use Rattle.layouts.specs.declared.Span.{Span}
+use Rattle.kinds.specs.declared.Contents.{Contents}
+use Rattle.kinds.specs.declared.Typed.{Typed}
 use Rattle.table.specs.declared.Table.{Table}
 use Rattle.pushing.specs.declared.Arrival.{Arrival}
 use Rattle.pushing.specs.declared.Pushed.{Pushed}
@@ -71,9 +73,9 @@ step_numbers_lem (refuses n vs) = unstepped_by (walk_numbers_lem (refuses n vs))
 -- Rules K1 and C1: a record doesn't cross; it is the first bytes of its value, as many as were consumed. For a list,
 -- how many entries its outermost level has.
 abbrev pub contents_numbers : {R : Type 0} → Contents R → ℕ → ℕ → AshlarKind
-contents_numbers (one r) consumed rest =
+contents_numbers (Contents.One r) consumed rest =
     record { entries = 0; consumed = consumed; rest = rest; is_list = false; refusal = 0 }
-contents_numbers (list n) consumed rest =
+contents_numbers (Contents.List n) consumed rest =
     record { entries = n; consumed = consumed; rest = rest; is_list = true; refusal = 0 }
 
 abbrev pub kind_numbers_lem : {R : Type 0} → Answer (Typed R) → AshlarKind
@@ -112,7 +114,7 @@ push_numbers_lem (refuses n vs) = record { length = get_or vs 0 0; answer = 0; r
 -- A push goes the way w (rules T4 to T9), and answer' is what it answers, in numbers.
 pub record Numbered (w : Way) (t : Table) (store out : List ℕ) (a : Arrival) (payload : List ℕ)
     (answer' : AshlarPushed) (table' : Table) (store' out' : List ℕ) : Type 0 where
-  pub pushed : Pushed
+  pub pushed : Result Pushed Refusal
   pub crosses : answer' ≡ push_numbers_lem (pushed_of pushed)
   pub goes : Goes w t store out a payload pushed table' store' out'
 

@@ -2,26 +2,20 @@
 // part N. `refusal` is 0 where nothing is refused.
 #![tactic(auto)]
 
-ghost use Rattle.std.specs.Prelude.{◌≡◌, ◌∷◌};
-ghost use Rattle.numbers.specs.Numbers.{refuses, told, number, values};
-ghost use Rattle.framing.specs.Cmdu.{header_of_lem};
-ghost use Rattle.walking.specs.Walk.{walked_of, stepped_of};
-ghost use Rattle.kinds.specs.Kinds.{kind_size_of};
-ghost use Rattle.finding.specs.Finding.{placed_of};
-ghost use Rattle.layouts.specs.Access.{located_of};
+ghost use Rattle.std.specs.Prelude.{◌≡◌, ◌∷◌, Err};
+ghost use Rattle.numbers.specs.Numbers.{refuses, told, number, values, answered};
+ghost use Rattle.walking.specs.Walk.{answered_at, stepped_of};
 ghost use Rattle.pushing.specs.Push.{pushed_of};
-ghost use Rattle.cutting.specs.Cuts.{checked_of};
-ghost use Rattle.cutting.specs.Greedy.{cutting_of};
-ghost use Rattle.c_answers.specs.Numbers.{header_numbers_lem, walk_numbers_lem, tlv_at_lem, unstepped_by, step_numbers_lem, kind_numbers_lem, found_numbers_lem, part_numbers_lem, named_as, push_numbers_lem, within_of, shown_in_lem, unchecked_by, check_numbers_lem, uncut_by, cut_numbers_lem};
+ghost use Rattle.cutting.specs.Cuts.{cutting_answered};
+ghost use Rattle.c_answers.specs.Numbers.{header_numbers_lem, walk_numbers_lem, tlv_at_lem, step_numbers_lem, kind_numbers_lem, found_numbers_lem, part_numbers_lem, named_as, push_numbers_lem, within_of, shown_in_lem, check_numbers_lem, cut_numbers_lem};
 
-use cutting::{Checked, Cutting};
-use finding::Placed;
-use framing::HeaderRead;
-use kinds::KindSize;
-use layouts::Located;
-use numbers::Refusal;
+use cutting::CuttingError;
+use framing::CmduHeader;
+use kinds::{Contents, Typed};
+use layouts::Span;
+use numbers::{Refusal, carried_by, number_of};
 use pushing::Pushed;
-use walking::{Stepped, Tlv, Walked};
+use walking::{Stepped, Tlv, Unwalked, WalkCount};
 
 // The header of a CMDU (rule B6). Its fields stand in their order, after the shortfall: how many bytes are missing
 // where it is refused. `last` is bit 7 of `flags`.
@@ -136,11 +130,11 @@ pub struct AshlarCutting {
 }
 
 // A CMDU header.
-pub fn header_numbers(read: HeaderRead) -> AshlarHeader
-    ensures { result ≡ header_numbers_lem (header_of_lem read) }
+pub fn header_numbers(read: Result<CmduHeader, Refusal>) -> AshlarHeader
+    ensures { result ≡ header_numbers_lem (answered read) }
 {
     match read {
-        HeaderRead::Header(h) => AshlarHeader {
+        Ok(h) => AshlarHeader {
             shortfall: 0,
             version: h.message_version,
             reserved: h.reserved,
@@ -151,8 +145,8 @@ pub fn header_numbers(read: HeaderRead) -> AshlarHeader
             last: h.last_fragment,
             refusal: 0,
         },
-        HeaderRead::Refused(short) => AshlarHeader {
-            shortfall: numbers::carried_by(short),
+        Err(short) => AshlarHeader {
+            shortfall: carried_by(short),
             version: 0,
             reserved: 0,
             message_type: 0,
@@ -160,37 +154,37 @@ pub fn header_numbers(read: HeaderRead) -> AshlarHeader
             number: 0,
             flags: 0,
             last: false,
-            refusal: numbers::number_of(short),
+            refusal: number_of(short),
         },
     }
 }
 
-// A refusal of a walk, with the offset of a TLV (rule N3).
-fn refused_at(refusal: Refusal, at: usize) -> AshlarWalk
-    ensures { result ≡ walk_numbers_lem (refuses (number refusal) («at» ∷ values refusal)) }
+// Why a walk stopped, with the offset of a TLV (rule N3).
+fn unwalked(stopped: Unwalked) -> AshlarWalk
+    ensures { result ≡ walk_numbers_lem (answered_at (Err stopped)) }
 {
     AshlarWalk {
         count: 0,
         padding: 0,
-        at,
-        shortfall: numbers::carried_by(refusal),
-        refusal: numbers::number_of(refusal),
+        at: stopped.at,
+        shortfall: carried_by(stopped.refusal),
+        refusal: number_of(stopped.refusal),
     }
 }
 
 // What a walk found, counted or listed.
-pub fn walk_numbers(walked: Walked) -> AshlarWalk
-    ensures { result ≡ walk_numbers_lem (walked_of walked) }
+pub fn walk_numbers(walked: Result<WalkCount, Unwalked>) -> AshlarWalk
+    ensures { result ≡ walk_numbers_lem (answered_at walked) }
 {
     match walked {
-        Walked::Count { count, padding } => AshlarWalk {
-            count,
-            padding,
+        Ok(found) => AshlarWalk {
+            count: found.count,
+            padding: found.padding,
             at: 0,
             shortfall: 0,
             refusal: 0,
         },
-        Walked::Refused { refusal, at } => refused_at(refusal, at),
+        Err(stopped) => unwalked(stopped),
     }
 }
 
@@ -205,109 +199,100 @@ fn tlv_at(offset: usize) -> Tlv
     }
 }
 
-// What a walk refuses, its step does.
-fn unstepped(walk: AshlarWalk) -> AshlarStep
-    ensures { result ≡ unstepped_by walk }
-{
-    AshlarStep {
-        tlv: tlv_at(walk.at),
-        next: 0,
-        shortfall: walk.shortfall,
-        answer: 0,
-        refusal: walk.refusal,
-    }
-}
-
-// What a step of the walk finds.
-pub fn step_numbers(stepped: Stepped) -> AshlarStep
+// What a step of the walk finds. What a walk refuses, its step does.
+pub fn step_numbers(stepped: Result<Stepped, Unwalked>) -> AshlarStep
     ensures { result ≡ step_numbers_lem (stepped_of stepped) }
 {
     match stepped {
-        Stepped::End => AshlarStep {
+        Ok(Stepped::End) => AshlarStep {
             tlv: tlv_at(0),
             next: 0,
             shortfall: 0,
             answer: 1,
             refusal: 0,
         },
-        Stepped::Tlv { tlv, next } => AshlarStep {
+        Ok(Stepped::Tlv { tlv, next }) => AshlarStep {
             tlv,
             next,
             shortfall: 0,
             answer: 2,
             refusal: 0,
         },
-        Stepped::Last { tlv, end } => AshlarStep {
+        Ok(Stepped::Last { tlv, end }) => AshlarStep {
             tlv,
             next: end,
             shortfall: 0,
             answer: 3,
             refusal: 0,
         },
-        Stepped::Refused { refusal, at } => unstepped(refused_at(refusal, at)),
+        Err(stopped) => {
+            let walk = unwalked(stopped);
+            AshlarStep {
+                tlv: tlv_at(walk.at),
+                next: 0,
+                shortfall: walk.shortfall,
+                answer: 0,
+                refusal: walk.refusal,
+            }
+        }
     }
 }
 
 // A typed value, measured alone: its record doesn't cross to C.
-pub fn kind_numbers(size: KindSize) -> AshlarKind
-    ensures { result ≡ kind_numbers_lem (kind_size_of size) }
+pub fn kind_numbers(size: Result<Typed<()>, Refusal>) -> AshlarKind
+    ensures { result ≡ kind_numbers_lem (answered size) }
 {
     match size {
-        KindSize::Record { consumed, rest } => AshlarKind {
-            entries: 0,
-            consumed,
-            rest,
-            is_list: false,
-            refusal: 0,
-        },
-        KindSize::List {
-            entries,
-            consumed,
-            rest,
-        } => AshlarKind {
-            entries,
-            consumed,
-            rest,
-            is_list: true,
-            refusal: 0,
-        },
-        KindSize::Refused(refusal) => AshlarKind {
+        Ok(typed) => {
+            let (entries, is_list) = match typed.held {
+                Contents::One(()) => (0, false),
+                Contents::List(entries) => (entries, true),
+            };
+            AshlarKind {
+                entries,
+                consumed: typed.consumed,
+                rest: typed.rest,
+                is_list,
+                refusal: 0,
+            }
+        }
+        Err(refusal) => AshlarKind {
             entries: 0,
             consumed: 0,
             rest: 0,
             is_list: false,
-            refusal: numbers::number_of(refusal),
+            refusal: number_of(refusal),
         },
     }
 }
 
 // A record that was looked for.
-pub fn found_numbers(placed: Placed) -> AshlarFound
-    ensures { result ≡ found_numbers_lem (placed_of placed) }
+pub fn found_numbers(placed: Result<usize, Refusal>) -> AshlarFound
+    ensures { result ≡ found_numbers_lem (answered placed) }
 {
     match placed {
-        Placed::At(looked) => AshlarFound { looked, refusal: 0 },
-        Placed::Refused(refusal) => AshlarFound {
-            looked: numbers::carried_by(refusal),
-            refusal: numbers::number_of(refusal),
+        Ok(looked) => AshlarFound { looked, refusal: 0 },
+        Err(refusal) => AshlarFound {
+            looked: carried_by(refusal),
+            refusal: number_of(refusal),
         },
     }
 }
 
 // A part of a value. One that ended before it starts would have no byte: no call gives such a part.
-pub fn part_numbers(located: Located) -> AshlarPart
-    ensures { result ≡ part_numbers_lem (located_of located) }
+pub fn part_numbers(located: Result<Span, Refusal>) -> AshlarPart
+    ensures { result ≡ part_numbers_lem (answered located) }
 {
     match located {
-        Located::Entry { start, end } => AshlarPart {
-            start,
-            length: if start <= end { end - start } else { 0 },
+        Ok(span) => AshlarPart {
+            start: span.start,
+            length: span.end.saturating_sub(span.start),
             refusal: 0,
         },
-        Located::Refused(refusal) => AshlarPart {
+        Err(refusal) => AshlarPart {
             start: 0,
             length: 0,
-            refusal: numbers::number_of(refusal),
+            refusal: number_of(refusal),
         },
     }
 }
@@ -324,21 +309,21 @@ fn named(answer: u8, length: usize) -> AshlarPushed
 }
 
 // What push answers.
-pub fn push_numbers(pushed: Pushed) -> AshlarPushed
+pub fn push_numbers(pushed: Result<Pushed, Refusal>) -> AshlarPushed
     ensures { result ≡ push_numbers_lem (pushed_of pushed) }
 {
     match pushed {
-        Pushed::WaitingForMoreFragments => named(1, 0),
-        Pushed::DuplicatedFragment => named(2, 0),
-        Pushed::InconsistentMetadata => named(3, 0),
-        Pushed::MissingFragments => named(4, 0),
-        Pushed::MissingLastFragment => named(5, 0),
-        Pushed::Single(length) => named(6, length),
-        Pushed::Joined(length) => named(7, length),
-        Pushed::Refused(refusal) => AshlarPushed {
-            length: numbers::carried_by(refusal),
+        Ok(Pushed::WaitingForMoreFragments) => named(1, 0),
+        Ok(Pushed::DuplicatedFragment) => named(2, 0),
+        Ok(Pushed::InconsistentMetadata) => named(3, 0),
+        Ok(Pushed::MissingFragments) => named(4, 0),
+        Ok(Pushed::MissingLastFragment) => named(5, 0),
+        Ok(Pushed::Single(length)) => named(6, length),
+        Ok(Pushed::Joined(length)) => named(7, length),
+        Err(refusal) => AshlarPushed {
+            length: carried_by(refusal),
             answer: 0,
-            refusal: numbers::number_of(refusal),
+            refusal: number_of(refusal),
         },
     }
 }
@@ -351,99 +336,86 @@ fn within(n: usize, room: usize) -> usize
 }
 
 // Where the message of an answer lies (rule T10), in one of the two slices that push was lent, whose sizes these are.
+#[tactic(auto, unfolding(crate::specs::Numbers::shown_in_lem))]
 pub fn shown_in(pushed: AshlarPushed, payload_size: usize, out_size: usize) -> AshlarShown
     ensures { result ≡ shown_in_lem pushed payload_size out_size }
 {
-    if pushed.answer == 7 {
-        return AshlarShown {
+    match pushed.answer {
+        7 => AshlarShown {
             length: within(pushed.length, out_size),
             in_output: true,
-        };
-    }
-    if pushed.answer == 6 {
-        return AshlarShown {
+        },
+        6 => AshlarShown {
             length: within(pushed.length, payload_size),
             in_output: false,
-        };
-    }
-    AshlarShown {
-        length: 0,
-        in_output: false,
+        },
+        _ => AshlarShown {
+            length: 0,
+            in_output: false,
+        },
     }
 }
 
-// A refusal that has no offset, in the same numbers. What it carried would cross as the offset: no call gives one that
-// carries anything.
-fn refused(refusal: Refusal) -> AshlarWalk
-    ensures { result ≡ walk_numbers_lem (told refusal) }
+// Why a message is not cut, in a walk's numbers. What a refusal without an offset carried would cross as the offset: no
+// call gives one that carries anything.
+#[tactic(auto, using(crate::proofs::OneValue::one_value))]
+fn stopped_by(error: CuttingError) -> AshlarWalk
+    ensures { result ≡ walk_numbers_lem (cutting_answered (Err error)) }
 {
-    AshlarWalk {
-        count: 0,
-        padding: 0,
-        at: numbers::carried_by(refusal),
-        shortfall: 0,
-        refusal: numbers::number_of(refusal),
+    match error {
+        CuttingError::Unwalked(stopped) => unwalked(stopped),
+        CuttingError::Refused(refusal) => AshlarWalk {
+            count: 0,
+            padding: 0,
+            at: carried_by(refusal),
+            shortfall: 0,
+            refusal: number_of(refusal),
+        },
     }
 }
 
-// What a walk over the message refuses, the checker does.
-fn unchecked(walk: AshlarWalk) -> AshlarChecked
-    ensures { result ≡ unchecked_by walk }
-{
-    AshlarChecked {
-        at: walk.at,
-        shortfall: walk.shortfall,
-        accepted: false,
-        refusal: walk.refusal,
-    }
-}
-
-// Whether fragments are a cutting of a message.
-pub fn check_numbers(checked: Checked) -> AshlarChecked
-    ensures { result ≡ check_numbers_lem (checked_of checked) }
+// Whether fragments are a cutting of a message. What a walk over the message refuses, the checker does.
+pub fn check_numbers(checked: Result<bool, CuttingError>) -> AshlarChecked
+    ensures { result ≡ check_numbers_lem (cutting_answered checked) }
 {
     match checked {
-        Checked::Accepted => AshlarChecked {
+        Ok(accepted) => AshlarChecked {
             at: 0,
             shortfall: 0,
-            accepted: true,
+            accepted,
             refusal: 0,
         },
-        Checked::NotAccepted => AshlarChecked {
-            at: 0,
-            shortfall: 0,
-            accepted: false,
-            refusal: 0,
-        },
-        Checked::Unwalked { refusal, at } => unchecked(refused_at(refusal, at)),
-        Checked::Refused(refusal) => unchecked(refused(refusal)),
+        Err(error) => {
+            let walk = stopped_by(error);
+            AshlarChecked {
+                at: walk.at,
+                shortfall: walk.shortfall,
+                accepted: false,
+                refusal: walk.refusal,
+            }
+        }
     }
 }
 
-// What a walk over the message refuses, the cutter does.
-fn uncut(walk: AshlarWalk) -> AshlarCutting
-    ensures { result ≡ uncut_by walk }
-{
-    AshlarCutting {
-        count: 0,
-        at: walk.at,
-        shortfall: walk.shortfall,
-        refusal: walk.refusal,
-    }
-}
-
-// Into how many fragments a message is cut.
-pub fn cut_numbers(cutting: Cutting) -> AshlarCutting
-    ensures { result ≡ cut_numbers_lem (cutting_of cutting) }
+// Into how many fragments a message is cut. What a walk over the message refuses, the cutter does.
+pub fn cut_numbers(cutting: Result<usize, CuttingError>) -> AshlarCutting
+    ensures { result ≡ cut_numbers_lem (cutting_answered cutting) }
 {
     match cutting {
-        Cutting::Into(count) => AshlarCutting {
+        Ok(count) => AshlarCutting {
             count,
             at: 0,
             shortfall: 0,
             refusal: 0,
         },
-        Cutting::Unwalked { refusal, at } => uncut(refused_at(refusal, at)),
-        Cutting::Refused(refusal) => uncut(refused(refusal)),
+        Err(error) => {
+            let walk = stopped_by(error);
+            AshlarCutting {
+                count: 0,
+                at: walk.at,
+                shortfall: walk.shortfall,
+                refusal: walk.refusal,
+            }
+        }
     }
 }

@@ -1,12 +1,10 @@
--- `refused` meets its contract: no refusal carries two values.
-use mathlib.Core.Path.{◌≡◌, refl}
-use lib.ListN.{get_or}
+-- No refusal carries two values.
+use Rattle.std.proofs.Common.{◌≡◌, refl, get_or}
 use Rattle.numbers.specs.Numbers.{values}
 use Rattle.numbers.specs.declared.Refusal.{Refusal}
 use Rattle.numbers.specs.declared.Refusal.TheVariants.{TooFewBytes, RunsPastEnd, CutShort, LeftOver, BadValue, NoEntry, NoRoom, ValueTooLong, NeverRead, TableFull, StoreTooSmall, PayloadTooLong, OutputTooSmall, ListTooShort, NotFound, UnknownKind, NoStationRoom, NotText, NoReport, SenderFull, NoCutting, NotACapture, BadFrame}
-use Rattle.c_answers.proofs.refused.Goals as goal
 
-one_value : (r : Refusal) → get_or (values r) 1 0 ≡ 0
+pub one_value : (r : Refusal) → get_or (values r) 1 0 ≡ 0
 one_value (TooFewBytes missing) = refl
 one_value (RunsPastEnd missing) = refl
 one_value CutShort = refl
@@ -30,6 +28,3 @@ one_value SenderFull = refl
 one_value NoCutting = refl
 one_value NotACapture = refl
 one_value BadFrame = refl
-
-pub returns : goal.returns
-returns c = rw (c.number_of.ensures, c.carried_by.ensures, one_value c.args.refusal)
