@@ -3,40 +3,44 @@
 
 mod found;
 mod given;
-mod listing;
 mod walked;
 
-ghost use Rattle.std.specs.Prelude.{◌≤◌};
+ghost use Rattle.std.specs.Prelude.{◌≤◌, IfSome};
 
 use answer_lines::Answers;
+use command_lines::Fields;
+use finding::SearchError;
 
-// Which field of a line has the payload of these commands. For any other letter it is 0.
-pub fn field_of_bytes(letter: u8) -> usize
-    ensures { result ≤ 3 }
+// Which field of a line has the payload, for the letters of these commands.
+pub fn field_of_bytes(letter: u8) -> Option<usize>
+    ensures { IfSome result (λ n. n ≤ 3) }
 {
     match letter {
-        b'k' | b'g' => 1,
-        b'd' | b'D' | b'L' => 2,
-        b'l' => 3,
-        _ => 0,
+        b'k' | b'g' => Some(1),
+        b'd' | b'D' | b'L' => Some(2),
+        b'l' => Some(3),
+        _ => None,
     }
 }
 
-// Answers one line from the payload that it has. Returns where the text then ends.
-pub fn answer(line: &[u8], payload: &[u8], text: &mut Answers, used: usize) -> usize
-    ensures { result ≤ 65536 }
-{
-    let code = command_lines::byte_in(line, 1);
-    match command_lines::byte_at(line, 0) {
-        b'l' => given::first(command_lines::field(line, 2), payload, code, text, used),
-        b'd' => found::first(payload, code, text, used),
-        b'D' => found::every(payload, code, text, used),
-        b'L' => walked::walk_into(
-            payload,
-            command_lines::number(command_lines::field(line, 1)),
-            text,
-            used,
-        ),
-        _ => walked::walk(payload, text, used),
+fn answered(line: &Fields, payload: &[u8], text: &mut Answers) -> Result<(), SearchError> {
+    match line.letter() {
+        b'l' => given::first(&line.pieces(2, b','), payload, line.byte(1), text)?,
+        b'd' => found::first(payload, line.byte(1), text)?,
+        b'D' => found::every(payload, line.byte(1), text)?,
+        b'L' => walked::walk_into(payload, line.number(1), text)?,
+        _ => walked::walk(payload, text)?,
+    }
+    Ok(())
+}
+
+// Answers one line from the payload that it has.
+pub fn answer(line: &Fields, payload: &[u8], text: &mut Answers) {
+    match answered(line, payload, text) {
+        Ok(()) => {}
+        Err(SearchError::Unwalked(unwalked)) => {
+            text.put_refused_at(unwalked.refusal, unwalked.at);
+        }
+        Err(SearchError::Refused(refusal)) => text.put_refused(refusal),
     }
 }
