@@ -36,8 +36,8 @@ pub struct EntryAt {
     pub level: u8,
 }
 
-// The entries of a value begun: the cursor at the first one, how many entries the outermost list has, and how many bytes
-// were consumed and follow these (rule K1).
+// The entries of a value begun: the cursor at the first one, how many entries the outermost list has, and how many
+// bytes were consumed and follow these (rule K1).
 #[derive(Clone, Copy)]
 pub struct Start {
     pub cursor: Cursor,

@@ -17,7 +17,7 @@ pub(crate) struct Found {
 }
 
 impl Path {
-    // The number for this level, counted from 0. Those past the third are 0, because no kind has more than three levels.
+    // The number for this level, counted from 0. Those past the third are 0: no kind has more than three levels.
     #[tactic(auto, using(crate::proofs::Finding::first, crate::proofs::Finding::second, crate::proofs::Finding::third, crate::proofs::Finding::further))]
     fn number(self, level: usize) -> usize
         requires { level < self.depth }

@@ -35,8 +35,8 @@ pub(crate) fn run_end(n: usize, h: usize, s: &[u8], at: usize) -> Result<usize, 
     reach(size, s, at)
 }
 
-// The list at `at` (rule K3), by its count or to the end. Its entries begin with h bytes. A list to the end has no entry
-// if h is 0.
+// The list at `at` (rule K3), by its count or to the end. Its entries begin with h bytes. A list to the end has no
+// entry if h is 0.
 #[tactic(auto, unfolding(crate::specs::Reading::count_at_lem))]
 pub(crate) fn count_at(has_count: bool, h: usize, s: &[u8], at: usize) -> Result<ListAt, Refusal>
     requires { at ≤ length s.now }

@@ -61,18 +61,6 @@ begun_is (f ∷ fs) b rs t x = go (above f.first.high fs) refl t x (begun_is fs 
       rw (above_range f.first b (higher f.first.high fs b rs u y)) (on t y)
   go false e t y on = absurd t
 
--- b is in no first range
-abbrev pub Outside : List Form → ℕ → Type 0
-Outside [] b = Unit
-Outside (f ∷ fs) b = ((b < f.first.low) ⊎ (f.first.high < b)) × Outside fs b
-
-pub begun_none : (fs : List Form) (b : ℕ) → Outside fs b → begun fs b ≡ None
-begun_none [] b x = refl
-begun_none (f ∷ fs) b x = go x.0 (begun_none fs b x.1) where
-  go : (b < f.first.low) ⊎ (f.first.high < b) → begun fs b ≡ None → begun (f ∷ fs) b ≡ None
-  go (inl h) e = rw (below_range f.first b h) e
-  go (inr h) e = rw (above_range f.first b h) e
-
 -- what is awaited of a character that has begun, and the bytes that are not
 pub some_left : (n low high b : ℕ) → 0 < n → low ≤ b → b ≤ high → onward (ranges n low high) b ≡ Some (ranges (n - 1) 0x80 0xBF)
 some_left zero low high b z l h = absurd (omega arith)

@@ -22,6 +22,7 @@ fn awaiting(left: usize, low: u8, high: u8) -> Option<Awaited>
 }
 
 // What is awaited after the first byte of a character: the grammar's forms, a line for each.
+#[tactic(auto, using(std::proofs::lemmas::Bool::Decides::nat_tests))]
 fn begin(b: u8) -> Option<Awaited>
     ensures { option_map awaits result ≡ begun forms b }
 {
@@ -55,6 +56,7 @@ fn step(awaited: Awaited, b: u8) -> Option<Awaited>
 
 // What follows the bytes below 0x80 at the start, which are passed eight at a time. Each of them is a character, and
 // most texts hold no others.
+#[tactic(auto, using(crate::proofs::Grammar::ascii_eight))]
 fn after_ascii(s: &[u8]) -> &[u8]
     ensures { is_utf8_lem s.now ≡ is_utf8_lem result.now }
 {
