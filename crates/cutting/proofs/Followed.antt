@@ -1,4 +1,5 @@
 -- Following the fragments one by one says what the definition says of all of them (rule M3).
+use Rattle.std.specs.Prelude.{Some}
 use mathlib.Core.Path.{◌≡◌, refl, sym, ap, ◌∙◌}
 use mathlib.Core.Bool.{Bool, true, false, cond, ◌&&◌, ◌||◌, beq}
 use mathlib.Core.List.{List, [], ◌∷◌, map, flatten}
@@ -107,14 +108,14 @@ module _ (m ps : List ℕ) where
             on k ∙ ap (λ (i : ℕ). each_from (is_fragment m ps s.count g) (i + 1) fs && is_same_lem rest (drop (s.at + f.length) m)) k.number_is
             ∙ ap (λ (t : List ℕ). others && is_same_lem rest t) (ap (λ (n : ℕ). drop (s.at + n) m) (sym k.size_is) ∙ sym (drop-drop (length p) s.at m))
 
-  -- after the first one
-  follows : (fs : List Proposed) (s : Reached) → s.sound ≡ true → (s.number ≡ 0 → ⊥) → s.at ≤ length m
-      → follows_from m ps s fs ≡ (each_from (is_fragment m ps s.count s.first) s.number fs && is_same_lem (flatten (map (payload_in ps) fs)) (drop s.at m))
+  -- after the first one, g
+  follows : (fs : List Proposed) (s : Reached) (g : Proposed) → s.sound ≡ true → s.first ≡ Some g → s.at ≤ length m
+      → follows_from m ps s fs ≡ (each_from (is_fragment m ps s.count g) s.number fs && is_same_lem (flatten (map (payload_in ps) fs)) (drop s.at m))
   unfolding follows_from flatten
-  follows [] s e n h = rw e (at_end_lem s.at m h)
-  follows (f ∷ fs) s e n h =
-      let g : first_by_lem s f ≡ s.first = rw (ne_eqb s.number 0 n) in
-      goes_on s f s.first e g h fs (λ k. follows fs (after_good s f) refl (λ z. omega (arith, z)) k.at_most ∙ ap (λ (q : Proposed). each_from (is_fragment m ps s.count q) (f.number + 1) fs && is_same_lem (flatten (map (payload_in ps) fs)) (drop (s.at + f.length) m)) g)
+  follows [] s g e n h = rw e (at_end_lem s.at m h)
+  follows (f ∷ fs) s g e n h =
+      let i : first_by_lem s f ≡ g = rw n in
+      goes_on s f g e i h fs (λ k. follows fs (after_good s f) g refl (ap Some i) k.at_most)
 
   -- all of them
   module _ (f : Proposed) (fs : List Proposed) where
@@ -122,7 +123,7 @@ module _ (m ps : List ℕ) where
     start = before (length (f ∷ fs))
 
     from_first : start.sound ≡ true → follows_from m ps start (f ∷ fs) ≡ (each_from (is_fragment m ps (length (f ∷ fs)) f) 0 (f ∷ fs) && is_same_lem (flatten (map (payload_in ps) (f ∷ fs))) m)
-    from_first e = goes_on start f f e refl (omega arith) fs (λ k. follows fs (after_good start f) refl (λ z. omega (arith, z)) k.at_most)
+    from_first e = goes_on start f f e refl (omega arith) fs (λ k. follows fs (after_good start f) f refl refl k.at_most)
 
     cut_so : (b : Bool) → start.sound ≡ b → follows_from m ps start (f ∷ fs) ≡ is_cutting_lem m ps (f ∷ fs)
     unfolding is_cutting_lem

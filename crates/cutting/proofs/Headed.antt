@@ -1,4 +1,5 @@
 -- Laws of the tests that a fragment has to pass, by what the code looks at.
+use Rattle.std.specs.Prelude.{Some}
 use mathlib.Core.Path.{◌≡◌, refl, sym, ◌∙◌}
 use mathlib.Core.Bool.{Bool, true, false, ◌&&◌, ◌||◌}
 use mathlib.Core.List.{List, [], ◌∷◌}
@@ -73,7 +74,7 @@ module _ (m ps : List ℕ) (s : Reached) (f first : Proposed) (is_first : first 
   pub sound_carried : sound ≡ true → is_carried_lem m ps s f ≡ true
   sound_carried e = (both_true (s.sound && is_headed_lem s first f) (is_carried_lem m ps s f) (sym is-sound ∙ e)).1
 
-  pub good : sound ≡ true → (n : ℕ) → n ≡ f.number → record { count = s.count; number = n + 1; at = s.at + f.length; first = first; sound = s.sound } ≡ taken_by m ps s f
+  pub good : sound ≡ true → (n : ℕ) → n ≡ f.number → record { count = s.count; number = n + 1; at = s.at + f.length; first = Some first; sound = s.sound } ≡ taken_by m ps s f
   unfolding taken_by
   good e n is = rw (← is_first, ← is-sound, e, is, sound_before e)
 

@@ -1,9 +1,9 @@
 -- What the checker's private steps promise each other. No contract of a public call cites these.
-use Rattle.std.specs.Prelude.{Bool, true, false, cond, ◌&&◌, ◌||◌, List, [], ◌∷◌, ℕ, ◌+◌, eqb, leb, length, take, drop}
+use Rattle.std.specs.Prelude.{Bool, true, false, cond, Some, None, unwrap_or, ◌&&◌, ◌||◌, List, [], ◌∷◌, ℕ, ◌+◌, eqb, leb, length, take, drop}
 use Rattle.std.specs.Bool.{beq}
 use Rattle.numbers.specs.Numbers.{Answer, mapped}
 use Rattle.numbers.specs.Bytes.{is_same_lem}
-use Rattle.cutting.specs.Cuts.{tlvs_of, longest_payload, most_fragments, payload_in, is_tlvs_lem, is_empty_one, is_alike_lem, no_fragment}
+use Rattle.cutting.specs.Cuts.{tlvs_of, longest_payload, most_fragments, payload_in, is_tlvs_lem, is_empty_one, is_alike_lem}
 use Rattle.cutting.specs.declared.Proposed.{Proposed}
 use Rattle.cutting.specs.declared.following.Reached.{Reached}
 
@@ -17,7 +17,7 @@ goes_on_lem message at part = leb (at + length part) (length message) && is_same
 
 -- the first fragment, once the fragment f has come
 abbrev pub first_by_lem : Reached → Proposed → Proposed
-first_by_lem s f = cond (eqb s.number 0) f s.first
+first_by_lem s f = unwrap_or s.first f
 
 -- f has the next number, the right mark, and the fields of the first one
 unfoldable pub is_headed_lem : Reached → (first f : Proposed) → Bool
@@ -34,10 +34,10 @@ is_carried_lem message payloads s f =
 -- before the first of `count` fragments
 abbrev pub before : (count : ℕ) → Reached
 before count =
-    record { count = count; number = 0; at = 0; first = no_fragment; sound = leb 1 count && leb count most_fragments }
+    record { count = count; number = 0; at = 0; first = None; sound = leb 1 count && leb count most_fragments }
 
 abbrev pub after_good : Reached → Proposed → Reached
-after_good s f = record { count = s.count; number = f.number + 1; at = s.at + f.length; first = first_by_lem s f; sound = true }
+after_good s f = record { count = s.count; number = f.number + 1; at = s.at + f.length; first = Some (first_by_lem s f); sound = true }
 
 abbrev pub after_bad : Reached → Reached
 after_bad s = record { count = s.count; number = s.number; at = s.at; first = s.first; sound = false }

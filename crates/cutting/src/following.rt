@@ -2,7 +2,7 @@
 ghost use Rattle.std.specs.Prelude.{◌≡◌, Bool, ◌&&◌, ◌||◌, ◌+◌, eqb, leb};
 ghost use Rattle.std.specs.Bool.{beq};
 ghost use Rattle.cutting.specs.Cuts.{most_fragments, cutting_answered, is_tlvs_lem, is_alike_lem};
-ghost use Rattle.cutting.specs.PrivateFollowing.{alone, goes_on_lem, first_by_lem, is_headed_lem, is_carried_lem, before, taken_by, is_whole};
+ghost use Rattle.cutting.specs.PrivateFollowing.{alone, goes_on_lem, is_headed_lem, is_carried_lem, before, taken_by, is_whole};
 
 use crate::filling::{LONGEST_PAYLOAD, MOST_FRAGMENTS};
 use crate::{CuttingError, Proposed};
@@ -102,13 +102,6 @@ fn is_sound(s: Reached, first: Proposed, f: Proposed, message: &[u8], payloads: 
     s.sound && is_headed(s, first, f) && is_carried(s, f, message, payloads)
 }
 
-// The first fragment, once this one has come.
-fn first_by(s: Reached, f: Proposed) -> Proposed
-    ensures { result ≡ first_by_lem s f }
-{
-    if s.number == 0 { f } else { s.first }
-}
-
 // Can a message have so many fragments?
 fn is_count(count: usize) -> bool
     ensures { result ≡ (leb 1 count && leb count most_fragments) }
@@ -123,7 +116,7 @@ pub(crate) struct Reached {
     count: usize,
     number: usize,
     at: usize,
-    first: Proposed,
+    first: Option<Proposed>,
     sound: bool,
 }
 
@@ -131,20 +124,11 @@ pub(crate) struct Reached {
 pub(crate) fn begin(count: usize) -> Reached
     ensures { result ≡ before count }
 {
-    let first = Proposed {
-        version: 0,
-        message_type: 0,
-        id: 0,
-        number: 0,
-        last: false,
-        start: 0,
-        length: 0,
-    };
     Reached {
         count,
         number: 0,
         at: 0,
-        first,
+        first: None,
         sound: is_count(count),
     }
 }
@@ -153,12 +137,12 @@ pub(crate) fn begin(count: usize) -> Reached
 pub(crate) fn follow(s: Reached, f: Proposed, message: &[u8], payloads: &[u8]) -> Reached
     ensures { result ≡ taken_by message.now payloads.now s f }
 {
-    let first = first_by(s, f);
+    let first = s.first.unwrap_or(f);
     let mut next = s;
     if is_sound(s, first, f, message, payloads) {
         next.number = numbers::wide(f.number) + 1;
         next.at = s.at + f.length;
-        next.first = first;
+        next.first = Some(first);
         return next;
     }
     next.sound = false;
