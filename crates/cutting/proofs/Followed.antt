@@ -8,7 +8,6 @@ use native.Mathlib.Omega.{arith}
 use lib.Dec.{eqb, leb}
 use lib.ListN.{length, take, drop, length-drop, length-take}
 use lib.Seq.{drop-drop, length-take-le}
-use borrow.Author.Tests.{ne_eqb}
 use Rattle.numbers.specs.Bytes.{is_same_lem}
 use Rattle.numbers.proofs.Bytes.{are_same}
 use Rattle.cutting.specs.Cuts.{longest_payload, payload_in, is_tlvs_lem, is_empty_one, is_alike_lem, is_fragment, each_from, is_cutting_lem}

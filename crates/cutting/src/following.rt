@@ -73,10 +73,18 @@ fn is_run(payload: &[u8], size: usize, count: usize) -> bool
     is_tlvs(payload) || (size == 0 && count == 1)
 }
 
+// What is cut, and the lent payloads: those of the fragments are parts of them.
+#[derive(Clone, Copy)]
+pub(crate) struct Lent<'a> {
+    pub(crate) message: &'a [u8],
+    pub(crate) payloads: &'a [u8],
+}
+
 // Is its payload as asked, and does the message go on with it?
-fn is_carried(s: Reached, f: Proposed, message: &[u8], payloads: &[u8]) -> bool
-    ensures { result ≡ is_carried_lem message.now payloads.now s f }
+fn is_carried(s: Reached, f: Proposed, lent: Lent) -> bool
+    ensures { result ≡ is_carried_lem lent.entry.message.now lent.entry.payloads.now s f }
 {
+    let payloads = lent.payloads;
     let start = f.start;
     let length = f.length;
     if payloads.len() < length {
@@ -89,17 +97,17 @@ fn is_carried(s: Reached, f: Proposed, message: &[u8], payloads: &[u8]) -> bool
         return false;
     }
     let end = start + length;
-    if !is_run(&payloads[start..end], message.len(), s.count) {
+    if !is_run(&payloads[start..end], lent.message.len(), s.count) {
         return false;
     }
-    goes_on(message, s.at, &payloads[start..end])
+    goes_on(lent.message, s.at, &payloads[start..end])
 }
 
 // Is all as asked, with this fragment?
-fn is_sound(s: Reached, first: Proposed, f: Proposed, message: &[u8], payloads: &[u8]) -> bool
-    ensures { result ≡ (s.sound && is_headed_lem s first f && is_carried_lem message.now payloads.now s f) }
+fn is_sound(s: Reached, first: Proposed, f: Proposed, lent: Lent) -> bool
+    ensures { result ≡ (s.sound && is_headed_lem s first f && is_carried_lem lent.entry.message.now lent.entry.payloads.now s f) }
 {
-    s.sound && is_headed(s, first, f) && is_carried(s, f, message, payloads)
+    s.sound && is_headed(s, first, f) && is_carried(s, f, lent)
 }
 
 // Can a message have so many fragments?
@@ -134,12 +142,12 @@ pub(crate) fn begin(count: usize) -> Reached
 }
 
 // One fragment more.
-pub(crate) fn follow(s: Reached, f: Proposed, message: &[u8], payloads: &[u8]) -> Reached
-    ensures { result ≡ taken_by message.now payloads.now s f }
+pub(crate) fn follow(s: Reached, f: Proposed, lent: Lent) -> Reached
+    ensures { result ≡ taken_by lent.entry.message.now lent.entry.payloads.now s f }
 {
     let first = s.first.unwrap_or(f);
     let mut next = s;
-    if is_sound(s, first, f, message, payloads) {
+    if is_sound(s, first, f, lent) {
         next.number = numbers::wide(f.number) + 1;
         next.at = s.at + f.length;
         next.first = Some(first);

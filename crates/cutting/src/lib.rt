@@ -11,7 +11,7 @@ ghost use Rattle.cutting.specs.Greedy.{cut_into, with_ends};
 ghost use Rattle.cutting.specs.declared.CuttingError.{CuttingError};
 
 use filling::plan;
-use following::{begin, follow, is_whole, whole};
+use following::{Lent, begin, follow, is_whole, whole};
 use numbers::Refusal;
 use walking::Unwalked;
 
@@ -60,9 +60,10 @@ pub fn check(message: &[u8], fragments: &[Proposed], payloads: &[u8]) -> Result<
     ensures { cutting_answered result ≡ check_of message.now fragments.now payloads.now }
 {
     whole(message)?;
+    let lent = Lent { message, payloads };
     let mut reached = begin(fragments.len());
     for fragment in fragments {
-        reached = follow(reached, *fragment, message, payloads);
+        reached = follow(reached, *fragment, lent);
     }
     Ok(is_whole(reached, message.len()))
 }
