@@ -10,10 +10,6 @@ use borrow.Author.Tests.{eq-eqb, ne_eqb, le-leb}
 use Rattle.numbers.specs.Bytes.{is_same_lem}
 use Rattle.numbers.proofs.Bytes.{are_same}
 
-pub not_true : (b : Bool) → (b ≡ true → ⊥) → false ≡ b
-not_true true h = absurd (h refl)
-not_true false h = refl
-
 -- first the one part, then the other
 pub part_by_part : (p r t : List ℕ) → is_same_lem (p ++ r) t ≡ (is_same_lem p (take (length p) t) && is_same_lem r (drop (length p) t))
 part_by_part [] r t = refl
