@@ -69,16 +69,26 @@ module _ (k : LinkKind) (s : List ℕ) (n : ℕ) (few : n ≤ most_pairs) (count
   inside = let r = read k s ps have in rw (← many, ← r.same) r.lie.inside
 
   -- pair i lies in the value, and the part that code takes is this pair
-  pub turn : (i at size : ℕ) → i < n → at ≡ 12 + i * pair_bytes k → size ≡ pair_bytes k → Whole k s (record { start = at; end = at + size })
-  turn i at size h here sized = record { long = rw sized; inside = rw (sized, here) (below k i n s h inside) }
+  here : (i size : ℕ) → size ≡ pair_bytes k → 12 + i * size ≡ 12 + i * pair_bytes k
+  here i size sized = ap (λ n. 12 + i * n) sized
 
-  pub taken : (i at size : ℕ) → at ≡ 12 + i * pair_bytes k → size ≡ pair_bytes k → take (at + size - at) (drop at s) ≡ part_at k s i
-  taken i at size here sized = let long : at + size - at ≡ pair_bytes k = omega (arith, sized) in λ j. take (long j) (drop (here j) s)
+  pub turn : (i size : ℕ) → i < n → size ≡ pair_bytes k → Whole k s (record { start = 12 + i * size; end = 12 + i * size + size })
+  turn i size h sized = record { long = rw sized; inside = rw sized (below k i n s h inside) }
 
-  pub step : (i : ℕ) → i < n → added (so_far k s i) (one_pair_lem k (part_at k s i)) ≡ so_far k s (i + 1)
+  taken : (i size : ℕ) → size ≡ pair_bytes k → take (12 + i * size + size - (12 + i * size)) (drop (12 + i * size) s) ≡ part_at k s i
+  taken i size sized =
+      let long : 12 + i * size + size - (12 + i * size) ≡ pair_bytes k = omega (arith, sized) in
+      λ j. take (long j) (drop (here i size sized j) s)
+
+  step : (i : ℕ) → i < n → added (so_far k s i) (one_pair_lem k (part_at k s i)) ≡ so_far k s (i + 1)
   step i h =
       ap (λ p. added (so_far k s i) (one_pair_lem k p)) (sym (each i h)) ∙
       sym (ap (λ i. so_far k s i) (add-one i) ∙ ap (report_over k) (take-suc ps i [] (rw many h)) ∙ over_next k (take i ps) (get_or ps i []))
+
+  -- what one turn adds
+  pub added_next : (i size : ℕ) (total one : LinkReport) → i < n → size ≡ pair_bytes k → total ≡ so_far k s i →
+      one ≡ one_pair_lem k (take (12 + i * size + size - (12 + i * size)) (drop (12 + i * size) s)) → added total one ≡ so_far k s (i + 1)
+  added_next i size total one h sized e is = (λ j. added (e j) ((is ∙ ap (one_pair_lem k) (taken i size sized)) j)) ∙ step i h
 
   pub fits : AllBytes s → (i : ℕ) → i ≤ n → Fit (so_far k s i)
   fits bytes i h =

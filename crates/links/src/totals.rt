@@ -17,12 +17,9 @@ pub(crate) fn over_pairs(kind: LinkKind, value: &[u8], n: usize) -> LinkReport
 {
     let size = pairs::size_of(kind);
     let mut total = no_pairs(kind);
-    let mut at = 12;
-    let mut i = 0;
-    while i < n {
+    for i in 0..n {
+        let at = 12 + i * size;
         total = add(total, one_pair(kind, &value[at..at + size]));
-        at += size;
-        i += 1;
     }
     total
 }
