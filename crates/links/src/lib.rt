@@ -113,6 +113,7 @@ pub fn report(kind: LinkKind, value: &[u8]) -> Result<LinkReport, Refusal>
 }
 
 // Two reports made into one (rule Q7).
+#[tactic(auto, using(crate::proofs::Merging::merged_gives, crate::proofs::Merging::merged_refuses))]
 pub fn merge(one: LinkReport, other: LinkReport) -> Result<LinkReport, Refusal>
     ensures { answered result ≡ merged one other }
 {
@@ -137,6 +138,7 @@ pub fn rx_pair(value: &[u8], number: usize) -> Result<RxPair, Refusal>
 }
 
 // The pair of LinkMetricTx that starts at `at` in the bytes s (rule E11): 3 where they end before it does.
+#[tactic(auto, unfolding(crate::specs::Pairs::tx_pair_at_lem, fields::specs::Fields::fields_at))]
 pub fn tx_pair_at(s: &[u8], at: usize) -> AshlarTxPair
     ensures { result ≡ tx_pair_at_lem s.now at }
 {
@@ -144,6 +146,7 @@ pub fn tx_pair_at(s: &[u8], at: usize) -> AshlarTxPair
 }
 
 // The pair of LinkMetricRx that starts at `at` in the bytes s (rule E11): 3 where they end before it does.
+#[tactic(auto, unfolding(crate::specs::Pairs::rx_pair_at_lem, fields::specs::Fields::fields_at))]
 pub fn rx_pair_at(s: &[u8], at: usize) -> AshlarRxPair
     ensures { result ≡ rx_pair_at_lem s.now at }
 {

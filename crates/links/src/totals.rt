@@ -42,28 +42,17 @@ fn one_pair(kind: LinkKind, pair: &[u8]) -> LinkReport
     requires { pair_bytes kind ≤ length pair.now }
     ensures { result ≡ one_pair_lem kind pair.now }
 {
-    let errors = pairs::errors(kind, pair) as u64;
-    let packets = pairs::packets(kind, pair) as u64;
-    match kind {
-        LinkKind::Tx => LinkReport {
-            kind,
-            pairs: 1,
-            errors,
-            packets,
-            low: None,
-            sum: 0,
-        },
-        LinkKind::Rx => {
-            let signal = pairs::signal(pair);
-            LinkReport {
-                kind,
-                pairs: 1,
-                errors,
-                packets,
-                low: Some(signal),
-                sum: signal as i32,
-            }
-        }
+    let low = match kind {
+        LinkKind::Tx => None,
+        LinkKind::Rx => Some(pairs::signal(pair)),
+    };
+    LinkReport {
+        kind,
+        pairs: 1,
+        errors: pairs::errors(kind, pair) as u64,
+        packets: pairs::packets(kind, pair) as u64,
+        low,
+        sum: low.unwrap_or(0) as i32,
     }
 }
 
@@ -73,16 +62,12 @@ pub(crate) fn add(one: LinkReport, other: LinkReport) -> LinkReport
     requires packets_bound { (one.packets + other.packets < 18446744073709551616) × SFits w32 (one.sum +ℤ other.sum) }
     ensures { result ≡ added one other }
 {
-    let kind = one.kind;
-    let first = one.low;
-    let second = other.low;
-    let low = lower_of(first, second);
     LinkReport {
-        kind,
+        kind: one.kind,
         pairs: one.pairs + other.pairs,
         errors: one.errors + other.errors,
         packets: one.packets + other.packets,
-        low,
+        low: lower_of(one.low, other.low),
         sum: one.sum + other.sum,
     }
 }

@@ -1,10 +1,8 @@
 -- `links::totals::over_pairs` meets its contract. The loop's invariant: the total is that of the pairs passed.
-use Rattle.std.proofs.Common.{◌≡◌, ◌+◌, ◌*◌, ◌≤◌, length, refl, sym, ap, subst, ◌∙◌, arith, rules}
+use Rattle.std.proofs.Common.{◌≡◌, ◌+◌, sym, ap, subst, ◌∙◌, arith, rules}
 use Rattle.numbers.specs.Numbers.{gives}
-use Rattle.links.specs.Reports.{one_pair_lem, added, report_over}
-use Rattle.links.specs.PrivatePairs.{pair_bytes}
+use Rattle.links.specs.Reports.{report_over}
 use Rattle.links.proofs.Merging.{Fit}
-use Rattle.links.proofs.Reading.{Whole, long_part}
 use Rattle.links.proofs.Loop.{so_far, turn, added_next, fits, done}
 use Rattle.links.proofs.totals.over_pairs.Goals as goal
 
