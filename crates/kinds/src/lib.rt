@@ -94,7 +94,8 @@ pub fn read_kind(code: u8, s: &[u8]) -> Result<Typed<Record>, Refusal>
     }
 }
 
-// The same for a caller that needs no record: the value is measured alone.
+// The same for a caller that needs no record: the value is measured alone. It stands beside `read_kind`, since the two
+// differ in the call for a record: a trait of what is kept of one would be longer than both.
 #[tactic(auto, using(crate::proofs::Laws::measured_inside, crate::proofs::Laws::measured, crate::proofs::Laws::unmeasured), unfolding(crate::specs::Kinds::read_kind_lem))]
 pub fn measure(code: u8, s: &[u8]) -> Result<Typed<()>, Refusal>
     ensures { answered result ≡ mapped without_record (read_kind_lem code s.now) }

@@ -66,7 +66,7 @@ pub struct Span {
 }
 
 // The list of the entry that starts at `at` and has this row. It follows the entry's first h0 bytes. An entry of the
-// lowest level has none.
+// lowest level has none. The row and the place are no struct: both change at each step, so it would be made anew there.
 #[tactic(auto, using(crate::proofs::Laws::list_none, crate::proofs::Laws::list_steps))]
 pub fn list_at(row: LayoutRow, s: &[u8], at: usize) -> Result<ListAt, Refusal>
     ensures { answered result ≡ list_of (row_layout row) s.now at }

@@ -14,7 +14,8 @@ use crate::rows::{TextRow, radio};
 use layouts::{Path, Span};
 use numbers::Refusal;
 
-// What was located in s, as its own part of it; the empty start of s where it is refused (rule A5).
+// What was located in s, as its own part of it; the empty start of s where it is refused (rule A5). `layouts::entry`
+// has these lines too: lent from there, they would be one more public call.
 pub(crate) fn part(located: Result<Span, Refusal>, s: &[u8]) -> &[u8]
     requires { InValue (answered located) s.now }
     ensures result_value { result.now ≡ part_of (answered located) s.now }
