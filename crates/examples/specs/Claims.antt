@@ -1,7 +1,7 @@
 -- Worked examples of the rules, proved as one table. There is a row for each choice that code and definition could get
 -- wrong alike: where both are wrong in the same way no contract notices, and these rows do. A row is an equation
 -- between what a definition gives and what the rule says.
-use Rattle.std.specs.Prelude.{◌≡◌, true, false, List, [], ◌∷◌, ◌++◌, ℕ, ◌+◌, length, take, drop, replicate, pos, negsuc}
+use Rattle.std.specs.Prelude.{◌≡◌, true, false, List, [], ◌∷◌, ◌++◌, ℕ, ◌+◌, length, take, drop, replicate, pos, negsuc, Some, None}
 use Rattle.numbers.specs.Numbers.{gives, refuses}
 use Rattle.machines.specs.Machine.{those}
 use Rattle.framing.specs.Tlv.{read_tlv_lem, value_in_lem, header, write_size, tlv_bytes, leaves}
@@ -13,7 +13,6 @@ use Rattle.records.specs.declared.Record.{Record}
 use Rattle.records.specs.declared.SupportedFreqBand.{SupportedFreqBand}
 use Rattle.records.specs.declared.Ieee1905ProfileVersion.{Ieee1905ProfileVersion}
 use Rattle.records.specs.declared.LinkMetricResultCode.{LinkMetricResultCode}
-use Rattle.records.specs.declared.NeighborMac.{NeighborMac}
 use Rattle.records.specs.declared.AssociationState.{AssociationState}
 use Rattle.records.specs.declared.MultiApProfile.{MultiApProfile}
 use Rattle.records.specs.Reading.{read_record_lem}
@@ -21,7 +20,8 @@ use Rattle.record_writing.specs.Writing.{record_size_lem}
 use Rattle.layouts.specs.Access.{part_of}
 use Rattle.utf8.specs.Utf8.{is_utf8_lem}
 use Rattle.texts.specs.Access.{locate_radio_text_lem}
-use Rattle.kinds.specs.Kinds.{one, read_kind_lem, locate_kind, count_kind, locate_text_in}
+use Rattle.kinds.specs.declared.Contents.{Contents}
+use Rattle.kinds.specs.Kinds.{read_kind_lem, locate_kind, count_kind, locate_text_in}
 use Rattle.kinds.specs.Writing.{write_kind_lem, kind_bytes}
 use Rattle.entries.specs.Entries.{beginning, next_is, none_left_lem, gone_on_lem}
 use Rattle.entries.specs.Claims.{by_numbers}
@@ -29,8 +29,6 @@ use Rattle.finding.specs.Finding.{find_from, find_in_payload_lem, find_onward_le
 use Rattle.pushing.specs.Push.{Way, refuse, duplicate, keep_at, open_at, end, waiting, duplicated, inconsistent, missing, missing_last, single, joined as joinedAs, way_by, keep_way, message_way}
 use Rattle.orders.specs.Runs.{Push, push, sweep, pushed, dropped, after, reply_to, start, holding, holds_nothing, replies_to}
 use Rattle.stations.specs.declared.Heard.{Heard}
-use Rattle.stations.specs.declared.Where.{Where}
-use Rattle.stations.specs.declared.Listed.{Listed}
 use Rattle.stations.specs.Rows.{fresh_stations, answer_to, table_after, held_row, count_of}
 use Rattle.stations.specs.Events.{answer_from, table_from}
 use Rattle.captures.specs.Form.{is1905}
@@ -39,7 +37,6 @@ use Rattle.captures.specs.Reading.{capture_in, frame_payload, arrival_of_lem}
 use Rattle.examples.specs.Captured.{low_header, high_header, an_arrival, a_frame, low_record, high_record, as_read}
 use Rattle.c_answers.specs.Numbers.{header_numbers_lem, walk_numbers_lem, tlv_at_lem, step_numbers_lem, kind_numbers_lem, found_numbers_lem, part_numbers_lem, push_numbers_lem, shown_in_lem, check_numbers_lem, cut_numbers_lem}
 use Rattle.links.specs.declared.LinkKind.TheVariants.{Tx, Rx}
-use Rattle.links.specs.declared.Lowest.TheVariants.{Absent, Signal}
 use Rattle.links.specs.Pairs.{signed}
 use Rattle.links.specs.Reports.{report_of, signals_fit_lem, merged, no_pairs_lem}
 use Rattle.cutting.specs.Cuts.{check_of}
@@ -138,9 +135,9 @@ pub record OfKinds : Type 0 where
   pub band : read_kind_lem 16 (and_more (0x01 ∷ [])) ≡ one_record_lem (Record.SupportedFreqBand SupportedFreqBand.Band_802_11_5) 1 1
   pub version : read_kind_lem 26 (and_more (0x01 ∷ [])) ≡ one_record_lem (Record.Ieee1905ProfileVersion Ieee1905ProfileVersion.Ieee1905_1a) 1 1
   pub result_code : read_kind_lem 12 (and_more (0x00 ∷ [])) ≡ one_record_lem (Record.LinkMetricResultCode LinkMetricResultCode.InvalidNeighbor) 1 1
-  pub query_of_all : read_kind_lem 8 (and_more (0x00 ∷ 0x02 ∷ [])) ≡ one_record_lem (Record.LinkMetricQuery (record { neighbor_type = 0; neighbor_mac = NeighborMac.None; requested_metrics = 2 })) 2 1
+  pub query_of_all : read_kind_lem 8 (and_more (0x00 ∷ 0x02 ∷ [])) ≡ one_record_lem (Record.LinkMetricQuery (record { neighbor_type = 0; neighbor_mac = None; requested_metrics = 2 })) 2 1
   pub query_of_one : read_kind_lem 8 (and_more (0x01 ∷ (mac 2 ++ (0x02 ∷ []))))
-      ≡ one_record_lem (Record.LinkMetricQuery (record { neighbor_type = 1; neighbor_mac = NeighborMac.Address (kept_mac 2); requested_metrics = 2 })) 8 1
+      ≡ one_record_lem (Record.LinkMetricQuery (record { neighbor_type = 1; neighbor_mac = Some (kept_mac 2); requested_metrics = 2 })) 8 1
   pub association_left_over : read_kind_lem 0x92 (and_more (association_of_law 0x80)) ≡ one_record_lem (associated AssociationState.JoinedBss) 13 1
   pub profile : read_kind_lem 0xB3 (and_more (0x02 ∷ [])) ≡ one_record_lem (Record.MultiApProfile MultiApProfile.Profile2) 1 1
   pub capability_left_over : read_kind_lem 0xB4 (and_more (0x00 ∷ 0x00 ∷ 0xA8 ∷ 0x02 ∷ [])) ≡ one_record_lem able 4 1
@@ -200,7 +197,7 @@ pub record OfKinds : Type 0 where
   pub no_room_for_a_record : record_size_lem (Record.MacAddress (kept_mac 1)) 8 ≡ refuses 7 []
   pub never_read : record_size_lem (Record.SupportedFreqBand (SupportedFreqBand.Reserved 2)) 0 ≡ refuses 9 []
   pub role_never_read : record_size_lem (Record.SearchedRole 1) 0 ≡ refuses 9 []
-  pub stray_address : record_size_lem (Record.LinkMetricQuery (record { neighbor_type = 0; neighbor_mac = NeighborMac.Address (kept_mac 2); requested_metrics = 2 })) 0 ≡ refuses 9 []
+  pub stray_address : record_size_lem (Record.LinkMetricQuery (record { neighbor_type = 0; neighbor_mac = Some (kept_mac 2); requested_metrics = 2 })) 0 ≡ refuses 9 []
 
 pub record OfTexts : Type 0 where
   -- Rules K2 and E6 to E8: the kinds that hold text, and their texts.
@@ -255,7 +252,7 @@ pub record OfEntries : Type 0 where
 pub record OfFinding : Type 0 where
   -- Rule F1: of three records, the one at place 0 doesn't read as kind 2, and the next one is of kind 1.
   pub found_at : find_from 2 (with_none ∷ with_a_byte ∷ record { tlv_type = 2; length = 6; offset = 4 } ∷ []) (two_tlvs ++ mac 3) 0
-      ≡ gives (record { looked = 3; tlv = record { tlv_type = 2; length = 6; offset = 4 }; reading = record { held = one (Record.MacAddress (kept_mac 3)); consumed = 6; rest = 0 } })
+      ≡ gives (record { looked = 3; tlv = record { tlv_type = 2; length = 6; offset = 4 }; reading = record { held = Contents.One (Record.MacAddress (kept_mac 3)); consumed = 6; rest = 0 } })
   -- 15 carries the list's length, wherever the search starts, and 0 for an empty list
   pub none_found : find_from 2 (with_none ∷ with_a_byte ∷ []) two_tlvs 0 ≡ refuses 15 (2 ∷ [])
   pub none_from_the_second : find_from 2 (with_none ∷ with_a_byte ∷ []) two_tlvs 1 ≡ refuses 15 (2 ∷ [])
@@ -335,16 +332,16 @@ pub record OfStations : Type 0 where
 -- Rules Q2 to Q7: signal strengths at both ends, reports over the values above, and which sums two signals can have.
 pub record OfLinks : Type 0 where
   pub signals : (signed 0x7F ≡ pos 127) × (signed 0x80 ≡ negsuc 127) × (signed 0xFF ≡ negsuc 0)
-  pub over_sent : report_of Tx links_sent ≡ gives (record { kind = Tx; pairs = 2; errors = 14; packets = 2000; low = Absent; sum = pos 0 })
-  pub over_received : report_of Rx links_received ≡ gives (record { kind = Rx; pairs = 2; errors = 14; packets = 2000; low = Signal (negsuc 59); sum = negsuc 119 })
+  pub over_sent : report_of Tx links_sent ≡ gives (record { kind = Tx; pairs = 2; errors = 14; packets = 2000; low = None; sum = pos 0 })
+  pub over_received : report_of Rx links_received ≡ gives (record { kind = Rx; pairs = 2; errors = 14; packets = 2000; low = Some (negsuc 59); sum = negsuc 119 })
   pub no_sent_pairs : report_of Tx (replicate 12 0) ≡ gives (no_pairs_lem Tx)
   pub no_received_pairs : report_of Rx (replicate 12 0) ≡ gives (no_pairs_lem Rx)
   pub short_front : report_of Rx (replicate 11 0) ≡ refuses 3 []
   pub cut_pair : report_of Rx (replicate 13 0) ≡ refuses 4 []
   pub two_kinds : merged (no_pairs_lem Tx) (no_pairs_lem Rx) ≡ refuses 19 []
-  pub lowest_sum : (signals_fit_lem Rx 2 (Signal (negsuc 4)) (negsuc 10) ≡ false) × (signals_fit_lem Rx 2 (Signal (negsuc 4)) (negsuc 9) ≡ true)
-  pub highest_sum : (signals_fit_lem Rx 2 (Signal (negsuc 4)) (pos 122) ≡ true) × (signals_fit_lem Rx 2 (Signal (negsuc 4)) (pos 123) ≡ false)
-  pub sent_has_none : signals_fit_lem Tx 1 (Signal (pos 0)) (pos 0) ≡ false
+  pub lowest_sum : (signals_fit_lem Rx 2 (Some (negsuc 4)) (negsuc 10) ≡ false) × (signals_fit_lem Rx 2 (Some (negsuc 4)) (negsuc 9) ≡ true)
+  pub highest_sum : (signals_fit_lem Rx 2 (Some (negsuc 4)) (pos 122) ≡ true) × (signals_fit_lem Rx 2 (Some (negsuc 4)) (pos 123) ≡ false)
+  pub sent_has_none : signals_fit_lem Tx 1 (Some (pos 0)) (pos 0) ≡ false
 
 -- Rule C1: each answer as C gets it, in the fields of the structs of include/ashlar.h.
 pub record OfCutting : Type 0 where
@@ -423,18 +420,18 @@ pub record OfC : Type 0 where
   -- Rule P6: an event from a value of 20 bytes, of which it took 13.
   pub c_applied : applied_numbers_lem 20 (gives (record { heard = Heard.Stale; consumed = 13 })) ≡ record { consumed = 13; rest = 7; heard = record { from = no_address_lem; answer = 5; refusal = 0 } }
   pub c_not_applied : applied_numbers_lem 20 (refuses 5 []) ≡ record { consumed = 0; rest = 0; heard = record { from = no_address_lem; answer = 0; refusal = 5 } }
-  pub c_at : where_numbers_lem (Where.At (kept_mac 1)) ≡ record { point = kept_mac 1; held = true }
-  pub c_nowhere : where_numbers_lem Where.Nowhere ≡ record { point = no_address_lem; held = false }
-  pub c_row : row_numbers_lem (Listed.Occupied (kept_mac 1) (kept_mac 2)) ≡ record { station = kept_mac 1; point = kept_mac 2; held = true }
-  pub c_free_row : row_numbers_lem Listed.Free ≡ record { station = no_address_lem; point = no_address_lem; held = false }
-  pub c_report : report_numbers_lem (gives (record { kind = Rx; pairs = 2; errors = 3; packets = 4; low = Signal (negsuc 4); sum = negsuc 6 }))
+  pub c_at : where_numbers_lem (Some (kept_mac 1)) ≡ record { point = kept_mac 1; held = true }
+  pub c_nowhere : where_numbers_lem None ≡ record { point = no_address_lem; held = false }
+  pub c_row : row_numbers_lem (Some (record { station = kept_mac 1; point = kept_mac 2 })) ≡ record { station = kept_mac 1; point = kept_mac 2; held = true }
+  pub c_free_row : row_numbers_lem None ≡ record { station = no_address_lem; point = no_address_lem; held = false }
+  pub c_report : report_numbers_lem (gives (record { kind = Rx; pairs = 2; errors = 3; packets = 4; low = Some (negsuc 4); sum = negsuc 6 }))
       ≡ record { errors = 3; packets = 4; sum = negsuc 6; count = 2; kind = 10; low = negsuc 4; has_low = true; refusal = 0 }
-  pub c_report_without_lowest : report_numbers_lem (gives (record { kind = Tx; pairs = 2; errors = 3; packets = 4; low = Absent; sum = pos 0 }))
+  pub c_report_without_lowest : report_numbers_lem (gives (record { kind = Tx; pairs = 2; errors = 3; packets = 4; low = None; sum = pos 0 }))
       ≡ record { errors = 3; packets = 4; sum = pos 0; count = 2; kind = 9; low = pos 0; has_low = false; refusal = 0 }
   pub c_no_report : report_numbers_lem (refuses 19 [])
       ≡ record { errors = 0; packets = 0; sum = pos 0; count = 0; kind = 0; low = pos 0; has_low = false; refusal = 19 }
   pub c_lent : report_from_lem (record { errors = 3; packets = 4; sum = negsuc 6; count = 2; kind = 10; low = negsuc 4; has_low = true; refusal = 7 })
-      ≡ gives (record { kind = Rx; pairs = 2; errors = 3; packets = 4; low = Signal (negsuc 4); sum = negsuc 6 })
+      ≡ gives (record { kind = Rx; pairs = 2; errors = 3; packets = 4; low = Some (negsuc 4); sum = negsuc 6 })
   pub c_no_kind : report_from_lem (record { errors = 3; packets = 4; sum = pos 0; count = 2; kind = 8; low = pos 0; has_low = false; refusal = 0 }) ≡ refuses 19 []
   pub c_no_flag : report_from_lem (record { errors = 3; packets = 4; sum = pos 0; count = 2; kind = 9; low = pos 1; has_low = false; refusal = 0 }) ≡ refuses 19 []
 

@@ -8,7 +8,9 @@ use Rattle.records.specs.declared.AssociationState.{AssociationState}
 use Rattle.records.specs.declared.ByteCounterUnits.{ByteCounterUnits}
 use Rattle.layouts.specs.Access.{part_of}
 use Rattle.texts.specs.Access.{locate_text_lem}
-use Rattle.kinds.specs.Kinds.{is_kind_lem, one, list, Typed, locate_kind}
+use Rattle.kinds.specs.declared.Contents.{Contents}
+use Rattle.kinds.specs.declared.Typed.{Typed}
+use Rattle.kinds.specs.Kinds.{is_kind_lem, locate_kind}
 use Rattle.entries.specs.declared.Cursor.{Cursor}
 use Rattle.entries.specs.declared.EntryAt.{EntryAt}
 use Rattle.walking.specs.declared.Tlv.{Tlv}
@@ -53,10 +55,10 @@ codes_below (suc n) = cond (is_kind_lem n) (n ∷ codes_below n) (codes_below n)
 
 -- A record or a list that was read, with the number of bytes consumed and the number of bytes after them.
 abbrev pub one_record_lem : Record → ℕ → ℕ → Answer (Typed Record)
-one_record_lem r n m = gives (record { held = one r; consumed = n; rest = m })
+one_record_lem r n m = gives (record { held = Contents.One r; consumed = n; rest = m })
 
 abbrev pub a_list : ℕ → ℕ → ℕ → Answer (Typed Record)
-a_list entries n m = gives (record { held = list entries; consumed = n; rest = m })
+a_list entries n m = gives (record { held = Contents.List entries; consumed = n; rest = m })
 
 -- A value with a byte after it.
 abbrev pub and_more : List ℕ → List ℕ
