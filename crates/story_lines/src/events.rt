@@ -79,8 +79,8 @@ impl fmt::Display for Event<'_> {
 }
 
 // What the events of a message do, by stations that take them as the house's own did.
-pub(crate) fn put_events(rt: &impl Print, text: &mut Answers, message: &[u8], seats: &Stations) {
-    let mut held = *seats;
+pub(crate) fn put_events(rt: &impl Print, text: &mut Answers, message: &[u8], seats: Stations) {
+    let mut held = seats;
     for TlvRead { tlv, value } in tlvs_of(message) {
         if tlv.tlv_type == EVENT {
             let answer = stations::event_from(&mut held, value);

@@ -103,7 +103,7 @@ pub struct Outcome<'a> {
     pub frame: Frame,
     pub answer: Result<Pushed, Refusal>,
     pub message: &'a [u8],
-    pub seats: &'a Stations,
+    pub seats: Stations,
 }
 
 // What the line of a message begins with: when, from whom, which type and which id.

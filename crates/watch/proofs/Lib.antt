@@ -1,3 +1,4 @@
-pub mod Shortening
+pub mod Nexts
 pub mod Refilling
+pub mod Shortening
 pub mod Turning

@@ -1,65 +1,53 @@
 -- The bytes of a window that are not gone over yet move to its start, and more of the file follows them (rule H10).
-use Rattle.std.proofs.Common.{◌≡◌, ℕ, ◌+◌, ◌-◌, ◌<◌, ◌≤◌, List, ◌++◌, length, get_or, take, drop, set, sym, ap, ◌∙◌, append_assoc, add-one, arith, length-drop, length-take, length-take-le, get_or-drop, take_at, take-add, drop_at}
-use lib.Seq.{paste, paste-zero, paste-suc, take-paste, drop-paste}
+use Rattle.std.proofs.Common.{◌≡◌, ℕ, ◌+◌, ◌-◌, ◌≤◌, List, ◌++◌, length, take, drop, sym, ap, ◌∙◌, append_assoc, arith, length-drop, length-take, length-take-le, take-add, take-take, drop_at}
+use lib.Seq.{paste, take-paste, take-append-add, take-append-le}
+use Rattle.watch.specs.Refills.{Refills}
+
+-- a part of a list, two ways
+part : (s : List ℕ) (from n : ℕ) → from + n ≤ length s → take n (drop from s) ≡ drop from (take (from + n) s)
+part s from n inside = sym (ap (drop from) (take-add from n s) ∙ drop_at (take from s) (take n (drop from s)) from (length-take-le from s (omega (arith, inside))))
 
 -- so many bytes are moved
-abbrev pub moved_by : List ℕ → ℕ → ℕ → List ℕ
-moved_by s₀ from i = paste s₀ 24 (drop from s₀) i
+pub all_moved : (s : List ℕ) (from end : ℕ) → 24 ≤ from → from ≤ end → end ≤ length s
+    → take (24 + (end - from)) (paste s 24 (drop from s) (end - from)) ≡ take 24 s ++ drop from (take end s)
+all_moved s from end up order inside =
+    let all : from + (end - from) ≡ end = omega (arith, order) in
+    take-paste s 24 (drop from s) (end - from) (omega (arith, up, order, inside)) (simp length-drop (omega (arith, order, inside)))
+    ∙ ap (λ (t : List ℕ). take 24 s ++ t) (part s from (end - from) (omega (arith, all, inside)))
+    ∙ ap (λ (k : ℕ). take 24 s ++ drop from (take k s)) all
 
-pub none_moved : (s₀ : List ℕ) (from : ℕ) → s₀ ≡ moved_by s₀ from 0
-none_moved s₀ from = paste-zero s₀ 24 (drop from s₀)
+-- a window has as many bytes as are counted
+pub counted : (bytes w : List ℕ) (have : ℕ) → length bytes ≡ 131072 → have ≤ 131072 → take have bytes ≡ w → length w ≡ have
+counted bytes w have size inside view = ap length (sym view) ∙ length-take-le have bytes (omega (arith, size, inside))
 
-module _ (s₀ : List ℕ) (from n : ℕ) (up : 24 ≤ from) (inside : from + n ≤ length s₀) where
-  module _ (s : List ℕ) (i : ℕ) (e : s ≡ moved_by s₀ from i) (below : i < n) where
-    -- what is read lies after what is written
-    same : get_or s (from + i) 0 ≡ get_or (drop from s₀) i 0
-    same =
-        let there : from + i ≡ 24 + i + (from - 24) = omega arith in
-        let rest : drop (24 + i) (moved_by s₀ from i) ≡ drop (24 + i) s₀ = drop-paste s₀ 24 (drop from s₀) i (omega arith) (simp length-drop (omega arith)) in
-        (λ j. get_or (e j) (there j) 0)
-        ∙ sym (get_or-drop (24 + i) (moved_by s₀ from i) (from - 24) 0)
-        ∙ ap (λ (t : List ℕ). get_or t (from - 24) 0) rest
-        ∙ get_or-drop (24 + i) s₀ (from - 24) 0
-        ∙ ap (λ (k : ℕ). get_or s₀ k 0) (sym there)
-        ∙ sym (get_or-drop from s₀ i 0)
+-- its file header stays
+pub header : (bytes w : List ℕ) (have : ℕ) → 24 ≤ have → take have bytes ≡ w → take 24 bytes ≡ take 24 w
+header bytes w have low view = sym (take-take 24 have bytes low) ∙ ap (take 24) view
 
-    pub one_moved : set s (24 + i) (get_or s (from + i) 0) ≡ moved_by s₀ from (i + 1)
-    one_moved =
-        (λ j. set (e j) (24 + i) (same j))
-        ∙ paste-suc s₀ 24 (drop from s₀) i 0 (omega arith) (simp length-drop (omega arith))
-        ∙ ap (moved_by s₀ from) (sym (add-one i))
+-- the window that goes on: `kept` bytes of it are the file header and what is left, and so many more are read
+module _ (bytes moved room post w : List ℕ) (have at kept more : ℕ) (size : length bytes ≡ 131072) (inside : have ≤ 131072) (view : take have bytes ≡ w) (up : 24 ≤ at) (below : at ≤ length w)
+    (long : length moved ≡ 131072) (e : kept ≡ 24 + (have - at)) (f : take kept moved ≡ take 24 bytes ++ drop at (take have bytes)) (rest : length room ≡ 131072 - kept) (came : more ≤ length room) where
+  there : length w ≡ have
+  there = counted bytes w have size inside view
 
-  -- a part of a list, two ways
-  part : take n (drop from s₀) ≡ drop from (take (from + n) s₀)
-  part = sym (ap (drop from) (take-add from n s₀) ∙ drop_at (take from s₀) (take n (drop from s₀)) from (length-take-le from s₀ (omega arith)))
+  fits : kept ≤ 131072
+  fits = omega (arith, there, up, below, inside, e)
 
-  pub all_moved : (s : List ℕ) (end : ℕ) → s ≡ moved_by s₀ from n → end ≡ from + n → take (24 + n) s ≡ take 24 s₀ ++ drop from (take end s₀)
-  all_moved s end e f =
-      ap (take (24 + n)) e
-      ∙ take-paste s₀ 24 (drop from s₀) n (omega arith) (simp length-drop (omega arith))
-      ∙ ap (λ (t : List ℕ). take 24 s₀ ++ t) part
-      ∙ ap (λ (k : ℕ). take 24 s₀ ++ drop from (take k s₀)) (sym f)
+  front : length (take kept moved) ≡ kept
+  front = length-take-le kept moved (omega (arith, fits, long))
 
--- the bytes before a tail that was lent
-pub before_tail : (s ys : List ℕ) (from : ℕ) → from ≤ length s → take from (take from s ++ ys) ≡ take from s
-before_tail s ys from h = take_at (take from s) ys from (length-take-le from s h)
+  goes_on : take (kept + more) (take kept moved ++ (room ++ post)) ≡ take 24 w ++ (drop at w ++ take more room)
+  goes_on =
+      ap (λ (k : ℕ). take (k + more) (take kept moved ++ (room ++ post))) (sym front)
+      ∙ take-append-add (take kept moved) (room ++ post) more
+      ∙ ap (λ (t : List ℕ). take kept moved ++ t) (take-append-le more room post came)
+      ∙ ap (λ (t : List ℕ). t ++ take more room) (f ∙ (λ i. header bytes w have (omega (arith, there, up, below)) view i ++ drop at (view i)))
+      ∙ append_assoc (take 24 w) (drop at w) (take more room)
 
--- as many bytes as are counted in the tail
-pub in_tail : (s : List ℕ) (from r n : ℕ) → from ≤ n → length s ≡ n → r ≤ length (take (length s - from) (drop from s)) → from + r ≤ n
-in_tail s from r n h same counts = omega (arith, length-take (length s - from) (drop from s))
-
--- the window that goes on: `kept` bytes of it are the file header and what is left, and r more are read
-module _ (room moved room' : List ℕ) (at have kept r : ℕ) (size : length room' ≡ 131072) (e : kept ≡ 24 + (have - at)) (f : take kept moved ≡ take 24 room ++ drop at (take have room))
-    (inside : kept + r ≤ 131072) (g : take kept room' ≡ take kept moved) where
-  abbrev pub new : List ℕ
-  new = take r (drop kept room')
-
-  pub new_long : r ≡ length new
-  new_long = sym (length-take-le r (drop kept room') (simp length-drop (omega arith)))
-
-  pub gone_on : (n : ℕ) → n ≡ kept + r → take n room' ≡ take 24 room ++ (drop at (take have room) ++ new)
-  gone_on n h =
-      ap (λ (k : ℕ). take k room') h
-      ∙ take-add kept r room'
-      ∙ ap (λ (t : List ℕ). t ++ new) (g ∙ f)
-      ∙ append_assoc (take 24 room) (drop at (take have room)) new
+  pub refilled : Refills w (take (kept + more) (take kept moved ++ (room ++ post))) at more
+  refilled = record {
+    bytes = take more room;
+    so_many = sym (length-take-le more room came);
+    holds = goes_on;
+    inside = omega (arith, length-take (kept + more) (take kept moved ++ (room ++ post)), fits, rest, came);
+  }

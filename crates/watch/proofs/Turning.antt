@@ -1,12 +1,10 @@
 -- What a turn of the program does, and its turns one after the other: the windows of a file (rule H10).
-use Rattle.std.proofs.Common.{◌≡◌, ℕ, ◌≤◌, List, [], ◌∷◌, ◌++◌, length, take, drop, sym, refl, ap, ◌∙◌, subst, append-nil, arith, length-append, take-append-drop, length-take-le, take_all, take-take, take_at, le-leb}
+use Rattle.std.proofs.Common.{◌≡◌, ℕ, ◌≤◌, List, [], ◌∷◌, ◌++◌, length, take, drop, sym, refl, ap, ◌∙◌, subst, append-nil, arith, length-append, take-append-drop, length-take-le, take_all, take-take, take_at}
 use lib.Seq.{take-append-le}
-use Rattle.pushing.specs.Show.{start_of}
 use Rattle.house.specs.House.{House}
 use Rattle.house.specs.Story.{after_records}
 use Rattle.house.specs.Windows.{records_from, stop_of, left_in, window_of, shortened, after_file, Coming, read, skip, after_windows}
 use Rattle.house.proofs.Stops.{stops, bounds}
-use Rattle.watch.specs.declared.window.Refilled.{Refilled}
 use Rattle.watch.specs.Refills.{Refills}
 use Rattle.watch.specs.Turns.{Turns, goes_on, overruns, ByWindows}
 
@@ -23,63 +21,53 @@ head_shortened : (s : List ℕ) → 32 ≤ length s → take 24 (shortened s) �
 unfolding shortened
 head_shortened s h = take-append-le 24 (take 32 s) _ (omega (arith, length-take-le 32 s h)) ∙ take-take 24 32 s (omega arith)
 
-module _ (n : ℕ) (z z₁ : House) (room seen room' : List ℕ) (have from stop : ℕ) (r : Refilled) (size : length room ≡ 131072) (low : 24 ≤ have) (high : have ≤ 131072)
-    (e : seen ≡ start_of have room) (first : from ≡ 24) (told : z₁ ≡ after_records n seen z (records_from seen from)) (stopped : stop ≡ stop_of seen from)
-    (refills : 24 ≤ stop → stop ≤ have → have ≤ 131072 → Refills room room' stop have r) where
-  abbrev w : List ℕ
-  w = take have room
+shortened_low : (s : List ℕ) → 32 ≤ length s → 24 ≤ length (shortened s)
+unfolding shortened
+shortened_low s h = simp length-append (omega (arith, length-take-le 32 s h))
 
-  seen_is : seen ≡ w
-  seen_is = e ∙ rw (le-leb have (length room) (omega (arith, size)))
+-- the file header of a window that is shortened
+pub header_alone : (w s next : List ℕ) → length w ≡ 131072 → s ≡ shortened w → (24 ≤ length s → next ≡ take 24 s) → next ≡ take 24 (shortened w)
+header_alone w s next full e goes = goes (omega (arith, ap length e, shortened_low w (omega (arith, full)))) ∙ ap (take 24) e
 
-  long : length w ≡ have
-  long = length-take-le have room (omega (arith, size))
-
-  -- the file header is at hand
-  at_hand : 24 ≤ length w
-  at_hand = omega (arith, long, low)
+-- the window w is heard up to where its records stop, and w' is the next one
+module _ (n : ℕ) (z z₁ : House) (w w' seen : List ℕ) (stop more : ℕ) (low : 24 ≤ length w) (e : seen ≡ w) (told : z₁ ≡ after_records n seen z (records_from seen 24)) (stopped : stop ≡ stop_of seen 24)
+    (refills : 24 ≤ stop → stop ≤ length w → Refills w w' stop more) where
+  heard : z₁ ≡ after_file n z w
+  heard = told ∙ (λ i. after_records n (e i) z (records_from (e i) 24))
 
   stop_is : stop ≡ stop_of w 24
-  stop_is = stopped ∙ (λ i. stop_of (seen_is i) (first i))
+  stop_is = stopped ∙ ap (λ (s : List ℕ). stop_of s 24) e
 
-  within : (24 ≤ stop) × (stop ≤ have)
-  within = let o = bounds w (omega (arith, long)) (stops w 24) in (omega (arith, stop_is, o.0), omega (arith, stop_is, o.1, long))
+  within : (24 ≤ stop) × (stop ≤ length w)
+  within = let o = bounds w low (stops w 24) in (omega (arith, stop_is, o.0), omega (arith, stop_is, o.1))
 
-  refilled : Refills room room' stop have r
-  refilled = refills within.0 within.1 high
+  refilled : Refills w w' stop more
+  refilled = refills within.0 within.1
 
-  heard : z₁ ≡ after_file n z w
-  heard = told ∙ (λ i. after_records n (seen_is i) z (records_from (seen_is i) (first i)))
+  holds : w' ≡ take 24 w ++ (left_in w ++ refilled.bytes)
+  holds = refilled.holds ∙ ap (λ (k : ℕ). take 24 w ++ (drop k w ++ refilled.bytes)) stop_is
 
-  holds : take r.window.have room' ≡ take 24 w ++ (left_in w ++ refilled.bytes)
-  holds = refilled.holds ∙ (λ i. sym (take-take 24 have room low) i ++ (drop (stop_is i) w ++ refilled.bytes))
+  at_least : 24 ≤ length w'
+  at_least = omega (arith, ap length holds, length-append (take 24 w) (left_in w ++ refilled.bytes), length-take-le 24 w low)
 
-  size' : length room' ≡ 131072
-  size' = refilled.same_size ∙ size
+  -- the turn, and that the next window has a file header too
+  pub went_on : Turns n w w' z z₁ × (24 ≤ length w')
+  went_on = (goes_on refilled.bytes holds heard, at_least)
 
-  at_least : 24 ≤ r.window.have
-  at_least =
-      omega (arith, refilled.inside, length-take-le r.window.have room' (omega (arith, refilled.inside, size')), ap length holds, length-append (take 24 w) (left_in w ++ refilled.bytes), length-take-le 24 w (omega (arith, long, low)))
-
-  -- the turn, where the next window stands, and that this one has a file header
-  pub went_on : Turns n w (take r.window.have room') z z₁ × (((r.window.at ≡ 24) × ((24 ≤ r.window.have) × (r.window.have ≤ 131072))) × (24 ≤ length w))
-  went_on = (goes_on refilled.bytes holds heard, ((refilled.starts, (at_least, refilled.inside)), at_hand))
-
-  module _ (z₂ : House) (room'' : List ℕ) (have'' n' : ℕ) (nothing : r.more ≤ 0) (full : r.window.have ≡ 131072) (same : n' ≡ n) (long-told : z₂ ≡ after_file n' z₁ (shortened room')) (f : room'' ≡ shortened room') (start : have'' ≡ 24) where
-    all : room' ≡ take 24 w ++ left_in w
+  module _ (z₂ : House) (w'' : List ℕ) (n' : ℕ) (nothing : more ≤ 0) (full : length w' ≡ 131072) (same : n' ≡ n) (long-told : z₂ ≡ after_file n' z₁ (shortened w')) (f : w'' ≡ take 24 (shortened w')) where
+    all : w' ≡ take 24 w ++ left_in w
     all =
-        sym (take_all r.window.have room' (omega (arith, size', full)))
-        ∙ holds
+        holds
         ∙ ap (λ (l : List ℕ). take 24 w ++ (left_in w ++ l)) (none refilled.bytes (omega (arith, refilled.so_many, nothing)))
         ∙ ap (λ (l : List ℕ). take 24 w ++ l) (append-nil (left_in w))
 
-    pub overran : Turns n w (take have'' room'') z z₂ × (24 ≤ length w)
+    next : w'' ≡ take 24 w
+    next = f ∙ head_shortened w' (omega (arith, full)) ∙ ap (take 24) all ∙ head_kept w (left_in w) low
+
+    pub overran : Turns n w w'' z z₂ × (24 ≤ length w'')
     overran = (
-      overruns
-          ((λ i. take (start i) (f i)) ∙ head_shortened room' (omega (arith, size')) ∙ ap (take 24) all ∙ head_kept w (left_in w) (omega (arith, long, low)))
-          (sym (ap length all) ∙ size')
-          (long-told ∙ (λ i. after_file (same i) (heard i) (shortened (all i)))),
-      at_hand,
+      overruns next (sym (ap length all) ∙ full) (long-told ∙ (λ i. after_file (same i) (heard i) (shortened (all i)))),
+      omega (arith, ap length next, length-take-le 24 w low),
     )
 
 -- the windows so far
@@ -107,9 +95,6 @@ pub record Telling (n : ℕ) (z₀ z : House) (w : List ℕ) : Type 0 where
 
 pub begins : (n : ℕ) (z : House) (w : List ℕ) → Telling n z z w
 begins n z w = record { header = take 24 w; told = []; new = drop 24 w; is_header = refl; heard = refl; next = sym (take-append-drop 24 w) }
-
-pub nothing_told : (n : ℕ) (z z' : House) → z' ≡ z → ByWindows n z z'
-nothing_told n z z' e = record { file_header = []; comings = []; heard = e }
 
 pub ends : (n : ℕ) (z₀ z : House) (w : List ℕ) → Telling n z₀ z w → ByWindows n z₀ z
 ends n z₀ z w t = record { file_header = t.header; comings = t.told; heard = t.heard }

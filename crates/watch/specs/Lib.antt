@@ -1,2 +1,3 @@
 pub mod Refills
 pub mod Turns
+pub mod Watching

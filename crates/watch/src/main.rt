@@ -15,228 +15,110 @@ ghost use Rattle.pushing.specs.Made.{Made};
 ghost use Rattle.house.specs.House.{house_of};
 ghost use Rattle.house.specs.Windows.{after_file, shortened, window_size};
 ghost use Rattle.watch.specs.Turns.{Turns, ByWindows};
+ghost use Rattle.watch.specs.Watching.{house_in};
 
-use answer_lines::Answers;
-use hearing::{Out, Store, Watch};
-use stations::Stations;
+use hearing::Watch;
 use std::fs::File;
 use std::io;
 use std::io::{Read, Seek};
 use std::rt::Env;
-use story_lines::Counts;
-use table::{STORE_SIZE, Table};
-use window::{HEADER, Room, WINDOW, Window};
-
-// What is printed so far, where the window stands, and whether the file has ended.
-#[derive(Drop)]
-struct Turned {
-    watch: Watch,
-    window: Window,
-    ended: bool,
-}
-
-fn made_fresh() -> Table
-    ensures fresh { result ≡ fresh_table }
-    ensures made { Made result }
-{
-    table::fresh()
-}
-
-fn fresh_watch(verbose: bool) -> Watch
-    ensures fresh { result.table ≡ fresh_table }
-    ensures made { Made result.table }
-{
-    let table = made_fresh();
-    let counts = Counts {
-        frames: 0,
-        others: 0,
-        messages: 0,
-        losses: 0,
-    };
-    Watch {
-        table,
-        counts,
-        used: 0,
-        verbose,
-    }
-}
+use window::{HEADER, Window};
 
 // A frame that is longer than the window: what there is of it is heard, and the file goes on after it.
 fn turn_long(
     rt: &impl Print,
     input: &mut impl Seek,
-    watch: Watch,
+    watch: &mut Watch,
+    window: &mut Window,
     next: u64,
-    room: &mut Room,
-    store: &mut Store,
-    out: &mut Out,
-    held: &mut Stations,
-    text: &mut Answers,
-) -> Turned
-    requires { Made watch.table }
-    ensures house { house_of result.watch.table store.new held.new ≡ after_file (length out.old) (house_of watch.table store.old held.old) (shortened room.old) }
-    ensures made { Made result.watch.table }
-    ensures long { length out.new ≡ length out.old }
-    ensures window { (room.new ≡ shortened room.old) × ((result.window.at ≡ 24) × (result.window.have ≡ 24)) }
+)
+    requires { Made watch.old.table × (length window.old ≡ window_size) }
+    ensures house { house_in watch.new ≡ after_file (length watch.old.out) (house_in watch.old) (shortened window.old) }
+    ensures made { Made watch.new.table }
+    ensures long { length watch.new.out ≡ length watch.old.out }
+    ensures window { window.new ≡ take 24 (shortened window.old) }
 {
-    window::shorten(room);
-    let seen = window::upto(room, WINDOW);
-    let told = hearing::told_window(rt, watch, seen, HEADER, store, out, held, text);
-    let after = told.watch;
-    let window = window::sought(input, next);
-    Turned {
-        watch: after,
-        window,
-        ended: false,
-    }
+    window.shorten();
+    watch.told_window(rt, window.seen(), HEADER);
+    window.seek(input, next);
 }
 
-// The records of the window are printed, and the window goes on. The file has no fault: the first pass saw to it.
+// The records of the window are printed, and the window goes on. The file has no fault: the first pass saw to it. Says
+// whether the file has ended.
 fn turn<R: Read + Seek>(
     rt: &impl Print,
     input: &mut R,
-    t: Turned,
-    room: &mut Room,
-    store: &mut Store,
-    out: &mut Out,
-    held: &mut Stations,
-    text: &mut Answers,
-) -> Turned
-    requires { Made t.watch.table × ((t.window.at ≡ 24) × ((24 ≤ t.window.have) × (t.window.have ≤ window_size))) }
-    ensures turned { Turns (length out.old) (take t.window.have room.old) (take result.window.have room.new) (house_of t.watch.table store.old held.old) (house_of result.watch.table store.new held.new) }
-    ensures made { Made result.watch.table × ((result.window.at ≡ 24) × ((24 ≤ result.window.have) × (result.window.have ≤ window_size))) }
-    ensures long { length out.new ≡ length out.old }
-    ensures header { 24 ≤ length (take t.window.have room.old) }
+    watch: &mut Watch,
+    window: &mut Window,
+) -> bool
+    requires { Made watch.old.table × (24 ≤ length window.old) }
+    ensures turned { Turns (length watch.old.out) window.old window.new (house_in watch.old) (house_in watch.new) }
+    ensures made { Made watch.new.table × (24 ≤ length window.new) }
+    ensures long { length watch.new.out ≡ length watch.old.out }
 {
-    let watch = t.watch;
-    let w = t.window;
-    let seen = window::upto(room, w.have);
-    let told = hearing::told_window(rt, watch, seen, w.at, store, out, held, text);
-    let after = told.watch;
-    let stopped = told.stopped;
-    let reached = stopped.reached;
-    let refilled = window::refill(input, room, w, stopped.at);
-    let window = refilled.window;
-    if 0 < refilled.more {
-        return Turned {
-            watch: after,
-            window,
-            ended: false,
-        };
+    let stopped = watch.told_window(rt, window.seen(), HEADER);
+    if 0 < window.refill(input, stopped.at) {
+        return false;
     }
-    if window.have == WINDOW {
-        let next = checking::after_long(window, checking::missing_in(reached));
-        return turn_long(rt, input, after, next, room, store, out, held, text);
+    if window.is_full() {
+        let next = window.after_long(checking::missing_in(stopped.reached));
+        turn_long(rt, input, watch, window, next);
+        return false;
     }
-    Turned {
-        watch: after,
-        window,
-        ended: true,
-    }
+    true
 }
 
-// The whole file is printed. A proved loop has to end, and nothing says that a file does: so it counts its turns. The
-// first pass saw that there is a file header. Should there be none any more, there is nothing to print.
-fn told_file<R: Read + Seek>(
-    rt: &impl Print,
-    input: &mut R,
-    verbose: bool,
-    room: &mut Room,
-    store: &mut Store,
-    out: &mut Out,
-    held: &mut Stations,
-    text: &mut Answers,
-) -> Watch
-    ensures { ByWindows (length out.old) (house_of fresh_table store.old held.old) (house_of result.table store.new held.new) }
+// The whole file is printed, from a fresh table on. A proved loop has to end, and nothing says that a file does: so its
+// turns are counted. The first pass saw that there is a file header. Should there be none any more, there is nothing to
+// print.
+fn told_file<R: Read + Seek>(rt: &impl Print, input: &mut R, watch: &mut Watch, window: &mut Window)
+    ensures { ByWindows (length watch.old.out) (house_of fresh_table watch.old.store watch.old.held) (house_in watch.new) }
 {
-    let window = window::start(input, room);
-    let watch = fresh_watch(verbose);
-    if window.have < HEADER {
-        return watch;
+    watch.table = table::fresh();
+    window.start(input);
+    if window.seen().len() < HEADER {
+        return;
     }
-    if WINDOW < window.have {
-        return watch;
-    }
-    let mut t = Turned {
-        watch,
-        window,
-        ended: false,
-    };
-    let mut turns = u64::MAX;
-    while turns > 0 {
-        t = turn(rt, input, t, room, store, out, held, text);
-        if t.ended {
-            return t.watch;
+    for _ in 0..u64::MAX {
+        if turn(rt, input, watch, window) {
+            return;
         }
-        turns -= 1;
     }
-    t.watch
 }
 
 // What is printed at the end (rules H8 and H9).
-fn put_end(rt: &impl Print, w: Watch, held: &Stations, text: &mut Answers) {
-    let table = w.table;
-    let n = w.counts;
-    let open = story_lines::put_open(rt, text, w.used, table);
-    let counts = Counts {
-        frames: n.frames,
-        others: n.others,
-        messages: n.messages,
-        losses: std::num::wrapping_add_u64(n.losses, open.losses),
-    };
-    let a = story_lines::put_counts(rt, text, open.used, counts);
-    let b = story_lines::put_stations(rt, text, a, held);
-    answer_lines::flush(rt, text, b);
+fn put_end(rt: &impl Print, watch: &mut Watch) {
+    let open = story_lines::put_open(rt, &mut watch.text, &watch.table);
+    watch.counts.losses = watch.counts.losses.wrapping_add(open.losses);
+    story_lines::put_counts(rt, &mut watch.text, watch.counts);
+    story_lines::put_stations(rt, &mut watch.text, &watch.held);
+    watch.text.flush(rt);
 }
 
 // Both passes.
-fn run<R: Read + Seek>(
-    rt: &impl Print,
-    errors: &impl Print,
-    input: &mut R,
-    verbose: bool,
-    room: &mut Room,
-    store: &mut Store,
-    out: &mut Out,
-    held: &mut Stations,
-    text: &mut Answers,
-) {
-    let fault = checking::fault_of_file(input, room);
-    if faults::is_fault(fault) {
-        faults::say(errors, text, fault);
+fn run<R: Read + Seek>(rt: &impl Print, errors: &impl Print, input: &mut R, verbose: bool) {
+    let mut window = Window::new();
+    if let Err(fault) = checking::check_file(input, &mut window) {
+        let _ = println!(errors; "{fault}");
         return;
     }
-    let watch = told_file(rt, input, verbose, room, store, out, held, text);
-    put_end(rt, watch, held, text);
+    let mut watch = Watch::new(verbose);
+    told_file(rt, input, &mut watch, &mut window);
+    put_end(rt, &mut watch);
 }
 
 // Whether the first word is -v.
 fn is_verbose(rt: &impl Env) -> bool {
     let mut word = [0u8; 4];
     match rt.arg(1, &mut word) {
-        Ok(n) => n == 2 && word[0] == b'-' && word[1] == b'v',
-        Err(_) => false,
+        Ok(2) => word[0] == b'-' && word[1] == b'v',
+        _ => false,
     }
 }
 
 // Opened by its name, standard input can be gone over twice where it is a file.
 fn main(rt: HostRuntime) -> io::Result<()> {
     let mut input = File::open(&rt, "/dev/stdin")?;
-    let mut room = [0u8; WINDOW];
-    let mut store = [0u8; STORE_SIZE];
-    let mut out = [0u8; 13428];
-    let mut held = stations::fresh();
-    let mut text = [0u8; 65536];
-    run(
-        &rt,
-        &rt.stderr(),
-        &mut input,
-        is_verbose(&rt),
-        &mut room,
-        &mut store,
-        &mut out,
-        &mut held,
-        &mut text,
-    );
+    run(&rt, &rt.stderr(), &mut input, is_verbose(&rt));
     Ok(())
 }

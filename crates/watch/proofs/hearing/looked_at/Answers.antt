@@ -1,29 +1,20 @@
--- `looked_at` meets its contract: what the loop keeps is where the records stop.
-use Rattle.std.proofs.Common.{sym, ap, ◌∙◌, arith}
-use Rattle.captures.specs.declared.Reached.{Reached}
-use Rattle.captures.specs.Reading.{reached_of}
+-- What the loop keeps is where the records stop.
+use Rattle.std.proofs.Common.{sym, ◌∙◌, arith}
+use Rattle.house.proofs.Stops.{stop_on, stopped}
 use Rattle.captures.proofs.Checking.{forward}
-use Rattle.house.proofs.Stops.{goes_over_lem, stop_on, stopped}
+use Rattle.watch.proofs.Nexts.{over, over_none}
 use Rattle.watch.proofs.hearing.looked_at.Goals as goal
 
-pub loop-next-smaller-in-Ours : goal.loop-next-smaller-in-Ours
-loop-next-smaller-in-Ours c =
-    let o = forward _ _ _ _ (ap reached_of (sym c.in-Ours.is) ∙ c.step-reached.ensures) in
-    omega (arith, o.0, o.1)
-
-pub loop-next-preserved-in-Ours : goal.loop-next-preserved-in-Ours
-loop-next-preserved-in-Ours c = sym (stop_on _ _ _ _ (ap reached_of (sym c.in-Ours.is) ∙ c.step-reached.ensures)) ∙ c.loop-next.invariant
+pub returns-in_default : goal.returns-in_default
+returns-in_default c = stopped _ _ _ c.loop-next.invariant _ (over_none _ (sym c.next_in.ensures ∙ c.in_default.is)) c.step-reached.ensures
 
 pub loop-next-smaller : goal.loop-next-smaller
 loop-next-smaller c =
-    let o = forward _ _ _ _ (ap reached_of (sym c.in-Other.is) ∙ c.step-reached.ensures) in
-    omega (arith, o.0, o.1)
+    let o = over _ _ (sym c.next_in.ensures ∙ c.in-Some.is) in
+    let goes = forward _ _ o.0 _ (o.1 ∙ c.step-reached.ensures) in
+    omega (arith, goes.0, goes.1)
 
 pub loop-next-preserved : goal.loop-next-preserved
-loop-next-preserved c = sym (stop_on _ _ _ _ (ap reached_of (sym c.in-Other.is) ∙ c.step-reached.ensures)) ∙ c.loop-next.invariant
-
-pub returns-in-FileEnd : goal.returns-in-FileEnd
-returns-in-FileEnd c = stopped _ _ _ c.loop-next.invariant _ (ap (λ (r : Reached). goes_over_lem (reached_of r)) c.in-FileEnd.is) c.step-reached.ensures
-
-pub returns-in-Refused : goal.returns-in-Refused
-returns-in-Refused c = stopped _ _ _ c.loop-next.invariant _ (ap (λ (r : Reached). goes_over_lem (reached_of r)) c.in-Refused.is) c.step-reached.ensures
+loop-next-preserved c =
+    let o = over _ _ (sym c.next_in.ensures ∙ c.in-Some.is) in
+    sym (stop_on _ _ o.0 _ (o.1 ∙ c.step-reached.ensures)) ∙ c.loop-next.invariant
