@@ -1,5 +1,6 @@
 // What the calls of the station table answer (part P), as it crosses to C (rule C1): plain structs, in numbers. An
-// address crosses as it is: in C it is an array of its six bytes.
+// address crosses as it is: in C it is an array of its six bytes. C has no enum with values, so that a number or a flag
+// stands beside the fields. The public calls are no `From`: `Firmness` has them by their names.
 #![tactic(auto)]
 
 ghost use Rattle.std.specs.Prelude.{◌≡◌};

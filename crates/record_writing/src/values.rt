@@ -148,7 +148,7 @@ fn flags_of(c: Profile2ApCapability) -> u8
         + c.flags_reserved % 8
 }
 
-// The number of the units (rule K6).
+// The number of the units (rule K6). It is no `From`: `Firmness` has it by this name, with the bound.
 pub fn units_byte(units: ByteCounterUnits) -> u8
     ensures { (result ≡ units_code units) × (result < 4) }
 {

@@ -216,7 +216,8 @@ pub enum ByteCounterUnits {
 }
 
 impl ByteCounterUnits {
-    // The units that a number of two bits stands for. Whoever is given a greater one has to refuse it.
+    // The units that a number of two bits stands for. Whoever is given a greater one has to refuse it, so this is no
+    // `From`; and `Firmness` has it by this name.
     pub fn from_u8(input: u8) -> Self
         ensures { result ≡ units_of input }
     {
@@ -242,7 +243,7 @@ pub struct Profile2ApCapability {
     pub max_vids: u8,
 }
 
-// The codes of the record kinds (rule K2).
+// The codes of the record kinds (rule K2). They stay numbers: the wire and C give a kind by its code.
 pub const END_OF_MESSAGE: u8 = 0;
 
 pub const AL_MAC_ADDRESS: u8 = 1;
