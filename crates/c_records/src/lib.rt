@@ -1,7 +1,7 @@
 // The record kinds (rule K2) as they cross to C, by their fields (rule C6): plain structs of five shapes, as they are
 // read and as they are to be written. `refusal` is 0 where nothing is refused; otherwise every other field is 0 or
-// false. C has no enum with values, so that a flag stands beside a field. The public calls are no `From`: `Firmness` has
-// them by their names.
+// false. C has no enum with values, so that a flag stands beside a field. The public calls are no `From`: `Firmness`
+// has them by their names.
 #![tactic(auto)]
 
 use records::MacAddr;

@@ -50,7 +50,7 @@ pub fn write_value(item: Record, out: &mut [u8]) -> Result<usize, Refusal>
     Ok(bytes.len())
 }
 
-// Writes the TLV of a record at the start of `out` (rules O1 and O3). Refusal 8 never comes, because no value of a record
+// Writes the TLV of a record at the start of `out` (rules O1 and O3). Refusal 8 never comes, because no record's value
 // has more than 13 bytes.
 #[tactic(auto, unfolding(crate::specs::Writing::record_size_lem))]
 pub fn write_record(item: Record, out: &mut [u8]) -> Result<usize, Refusal>

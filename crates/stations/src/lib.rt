@@ -41,8 +41,8 @@ pub enum Heard {
     Stale,
 }
 
-// What an event did that was read from a value (rule P6), and how many bytes of the value it took. The bytes after these
-// are the rest.
+// What an event did that was read from a value (rule P6), and how many bytes of the value it took. The bytes after
+// these are the rest.
 #[derive(Clone, Copy)]
 pub struct Taken {
     pub heard: Heard,
