@@ -1,7 +1,0 @@
--- `ashlar_link_report_rx` meets its contract: the numbers of what `report` answers for kind 10.
-use mathlib.Core.Path.{ap, ◌∙◌}
-use Rattle.c_links.specs.Numbers.{report_numbers_lem}
-use Rattle.ashlar.proofs.ashlar_link_report_rx.Goals as goal
-
-pub returns : goal.returns
-returns c = c.report_numbers.ensures ∙ ap report_numbers_lem c.report.ensures

@@ -1,9 +1,0 @@
--- `ashlar_put_interface` meets its contract: the numbers of what `put_interface` answers, and its bytes.
-use mathlib.Core.Path.{ap, ◌∙◌}
-use Rattle.c_captures.specs.Numbers.{written_numbers_lem}
-use Rattle.ashlar.proofs.entry_writing.ashlar_put_interface.Goals as goal
-
-pub returns : goal.returns
-returns c =
-    let w = c.put_interface.ensures in
-    record { answer = c.written_numbers.ensures ∙ ap written_numbers_lem w.answer; bytes = w.bytes }

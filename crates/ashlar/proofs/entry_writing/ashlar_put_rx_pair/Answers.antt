@@ -1,9 +1,0 @@
--- `ashlar_put_rx_pair` meets its contract: the numbers of what `put_rx_pair` answers, and its bytes.
-use mathlib.Core.Path.{ap, ◌∙◌}
-use Rattle.c_captures.specs.Numbers.{written_numbers_lem}
-use Rattle.ashlar.proofs.entry_writing.ashlar_put_rx_pair.Goals as goal
-
-pub returns : goal.returns
-returns c =
-    let w = c.put_rx_pair.ensures in
-    record { answer = c.written_numbers.ensures ∙ ap written_numbers_lem w.answer; bytes = w.bytes }

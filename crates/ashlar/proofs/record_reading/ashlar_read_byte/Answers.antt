@@ -1,5 +1,0 @@
--- `ashlar_read_byte` meets its contract: the fields of what `read_record` answers.
-use Rattle.ashlar.proofs.record_reading.ashlar_read_byte.Goals as goal
-
-pub returns : goal.returns
-returns c = rw (c.byte_numbers.ensures, c.read_record.ensures)
