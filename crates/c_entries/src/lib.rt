@@ -25,7 +25,7 @@ pub struct AshlarBegun {
 // What going on gives (rule E9): 1 no entry is left, 2 an entry; 0 where it is refused. The entry starts at `start`,
 // its own list has `entries` entries, and its level counts from 1.
 #[repr(C)]
-#[derive(Clone, Copy)]
+#[derive(Clone, Copy, Default)]
 pub struct AshlarEntry {
     pub start: usize,
     pub entries: usize,
@@ -90,11 +90,9 @@ fn without_entry(answer: u8, refusal: u8) -> AshlarEntry
     ensures { result ≡ without_entry_lem answer refusal }
 {
     AshlarEntry {
-        start: 0,
-        entries: 0,
-        level: 0,
         answer,
         refusal,
+        ..AshlarEntry::default()
     }
 }
 
