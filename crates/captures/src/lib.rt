@@ -16,6 +16,7 @@ ghost use Rattle.captures.specs.PrivateReading.{Hands};
 use framing::CmduHeader;
 use numbers::Refusal;
 use pushing::{Arrival, Fragment};
+use reading::Ordered;
 use records::MacAddr;
 use table::PLACE_SIZE;
 
@@ -92,7 +93,7 @@ pub fn step(file: &[u8], at: usize) -> Result<Reached, Refusal>
     ensures { reached_of result ≡ file_step file.now at }
 {
     let high_first = reading::order_of(file)?;
-    reading::record_at(file, high_first, at)
+    Ordered { file, high_first }.record_at(at)
 }
 
 // Checks a whole capture, and counts its frames (rule G6). Where this refuses nothing, no step from 24 on does.

@@ -15,38 +15,73 @@ const MAGIC: usize = 0xA1B2C3D4;
 // The EtherType of IEEE 1905.1 (rule G4).
 const ETHER_TYPE: usize = 0x893A;
 
-// A number of the file's own in the two bytes from `at` on (rule G1).
-fn two_at(file: &[u8], at: usize, high_first: bool) -> usize
-    requires { at + 2 ≤ length file.now }
-    ensures { (result ≡ field_at high_first 2 at file.now) × (result < 65536) }
-{
-    if high_first {
-        return be16(file[at], file[at + 1]);
-    }
-    be16(file[at + 1], file[at])
+// A capture's bytes, and whether the numbers of its own stand with the highest byte first (rule G1).
+#[derive(Clone, Copy)]
+pub(crate) struct Ordered<'a> {
+    pub(crate) file: &'a [u8],
+    pub(crate) high_first: bool,
 }
 
-// The same in four bytes.
-fn four_at(file: &[u8], at: usize, high_first: bool) -> usize
-    requires { at + 4 ≤ length file.now }
-    ensures { (result ≡ field_at high_first 4 at file.now) × (result < 4294967296) }
-{
-    let first = two_at(file, at, high_first);
-    let second = two_at(file, at + 2, high_first);
-    if high_first {
-        return first * 65536 + second;
+impl<'a> Ordered<'a> {
+    // A number of the file's own in the two bytes from `at` on.
+    fn two_at(self, at: usize) -> usize
+        requires { at + 2 ≤ length self.file.now }
+        ensures { (result ≡ field_at self.entry.high_first 2 at self.entry.file.now) × (result < 65536) }
+    {
+        let file = self.file;
+        if self.high_first {
+            return be16(file[at], file[at + 1]);
+        }
+        be16(file[at + 1], file[at])
     }
-    second * 65536 + first
-}
 
-// Does the file header say version 2.4 and Ethernet (rule G6)?
-fn is_ours(file: &[u8], high_first: bool) -> bool
-    requires { 24 ≤ length file.now }
-    ensures { result ≡ is_ours_lem high_first file.now }
-{
-    two_at(file, 4, high_first) == 2
-        && two_at(file, 6, high_first) == 4
-        && four_at(file, 20, high_first) == 1
+    // The same in four bytes.
+    fn four_at(self, at: usize) -> usize
+        requires { at + 4 ≤ length self.file.now }
+        ensures { (result ≡ field_at self.entry.high_first 4 at self.entry.file.now) × (result < 4294967296) }
+    {
+        let first = self.two_at(at);
+        let second = self.two_at(at + 2);
+        if self.high_first {
+            return first * 65536 + second;
+        }
+        second * 65536 + first
+    }
+
+    // Does the file header say version 2.4 and Ethernet (rule G6)?
+    fn is_ours(self) -> bool
+        requires { 24 ≤ length self.file.now }
+        ensures { result ≡ is_ours_lem self.entry.high_first self.entry.file.now }
+    {
+        self.two_at(4) == 2 && self.two_at(6) == 4 && self.four_at(20) == 1
+    }
+
+    // The step over the record at `at` (rules G6 and G7).
+    pub(crate) fn record_at(self, at: usize) -> Result<Reached, Refusal>
+        ensures { reached_of result ≡ record_at_lem self.entry.high_first self.entry.file.now at }
+    {
+        let file = self.file;
+        if file.len() <= at {
+            return Ok(Reached::FileEnd);
+        }
+        let have = file.len() - at;
+        if have < 16 {
+            return Err(Refusal::RunsPastEnd(16 - have));
+        }
+        let stored = self.four_at(at + 8);
+        if stored != self.four_at(at + 12) {
+            return Err(Refusal::BadFrame);
+        }
+        let left = have - 16;
+        if left < stored {
+            return Err(Refusal::RunsPastEnd(stored - left));
+        }
+        let seconds = self.four_at(at) as u32;
+        let microseconds = self.four_at(at + 4) as u32;
+        let start = at + 16;
+        let end = start + stored;
+        Ok(captured(&file[start..end], seconds, microseconds, at))
+    }
 }
 
 // The file header (rule G6): whether numbers stand with the highest byte first.
@@ -56,14 +91,22 @@ pub(crate) fn order_of(file: &[u8]) -> Result<bool, Refusal>
     if file.len() < 24 {
         return Err(Refusal::RunsPastEnd(24 - file.len()));
     }
-    if four_at(file, 0, true) == MAGIC {
-        if is_ours(file, true) {
+    let high = Ordered {
+        file,
+        high_first: true,
+    };
+    if high.four_at(0) == MAGIC {
+        if high.is_ours() {
             return Ok(true);
         }
         return Err(Refusal::NotACapture);
     }
-    if four_at(file, 0, false) == MAGIC {
-        if is_ours(file, false) {
+    let low = Ordered {
+        file,
+        high_first: false,
+    };
+    if low.four_at(0) == MAGIC {
+        if low.is_ours() {
             return Ok(false);
         }
     }
@@ -105,30 +148,4 @@ fn captured(frame: &[u8], seconds: u32, microseconds: u32, at: usize) -> Reached
         length: frame.len() - 22,
     };
     Reached::Ours { frame: ours, next }
-}
-
-// The step over the record at `at` (rules G6 and G7).
-pub(crate) fn record_at(file: &[u8], high_first: bool, at: usize) -> Result<Reached, Refusal>
-    ensures { reached_of result ≡ record_at_lem high_first file.now at }
-{
-    if file.len() <= at {
-        return Ok(Reached::FileEnd);
-    }
-    let have = file.len() - at;
-    if have < 16 {
-        return Err(Refusal::RunsPastEnd(16 - have));
-    }
-    let stored = four_at(file, at + 8, high_first);
-    if stored != four_at(file, at + 12, high_first) {
-        return Err(Refusal::BadFrame);
-    }
-    let left = have - 16;
-    if left < stored {
-        return Err(Refusal::RunsPastEnd(stored - left));
-    }
-    let seconds = four_at(file, at, high_first) as u32;
-    let microseconds = four_at(file, at + 4, high_first) as u32;
-    let start = at + 16;
-    let end = start + stored;
-    Ok(captured(&file[start..end], seconds, microseconds, at))
 }

@@ -3,7 +3,7 @@ use mathlib.Core.Path.{refl, ap, ◌∙◌}
 use Rattle.numbers.specs.Numbers.{gives}
 use Rattle.captures.proofs.Records.{at_end_lem, headless, unlike, cut, seen}
 use borrow.Author.Rules.{rules}
-use Rattle.captures.proofs.reading.record_at.Goals as goal
+use Rattle.captures.proofs.reading.Ordered.record_at.Goals as goal
 
 pub returns-then-file-at : goal.returns-then-file-at
 returns-then-file-at c = at_end_lem _ _ _ (search rules)
