@@ -5,7 +5,7 @@ ghost use Rattle.std.specs.Prelude.{◌≤◌, IfSome};
 
 use answer_lines::Answers;
 use captures::Frame;
-use command_lines::Fields;
+use command_lines::Line;
 use numbers::Refusal;
 use pushing::Fragment;
 
@@ -24,7 +24,7 @@ pub fn field_of_bytes(letter: u8) -> Option<usize>
 }
 
 // H: a file header, into as much room as the line says (rule G5).
-fn put_header(line: &Fields, out: &mut [u8], text: &mut Answers) -> Result<(), Refusal> {
+fn put_header(line: &Line, out: &mut [u8], text: &mut Answers) -> Result<(), Refusal> {
     let room = line.size(1).min(out.len());
     let size = captures::write_file_header(&mut out[..room])?;
     text.put_ok_shown(command_lines::part(out, 0, size));
@@ -33,7 +33,7 @@ fn put_header(line: &Fields, out: &mut [u8], text: &mut Answers) -> Result<(), R
 
 // F: a frame, from what a push takes, into as much room as the line says (rule G5).
 fn put_frame(
-    line: &Fields,
+    line: &Line,
     payload: &[u8],
     out: &mut [u8],
     text: &mut Answers,
@@ -62,7 +62,7 @@ fn put_read(file: &[u8], f: Frame, text: &mut Answers) {
 }
 
 // R: the frames of a capture, in a list of so many elements (rule G8), and how many frames were passed over.
-fn put_capture(line: &Fields, file: &[u8], text: &mut Answers) -> Result<(), Refusal> {
+fn put_capture(line: &Line, file: &[u8], text: &mut Answers) -> Result<(), Refusal> {
     let mut list = [captures::no_frame(); LISTED];
     let room = line.size(1).min(LISTED);
     let count = captures::frames_into(&mut list[..room], file)?;
@@ -75,12 +75,7 @@ fn put_capture(line: &Fields, file: &[u8], text: &mut Answers) -> Result<(), Ref
     Ok(())
 }
 
-fn answered(
-    line: &Fields,
-    bytes: &[u8],
-    out: &mut [u8],
-    text: &mut Answers,
-) -> Result<(), Refusal> {
+fn answered(line: &Line, bytes: &[u8], out: &mut [u8], text: &mut Answers) -> Result<(), Refusal> {
     match line.letter() {
         b'R' => put_capture(line, bytes, text),
         b'H' => put_header(line, out, text),
@@ -89,7 +84,7 @@ fn answered(
 }
 
 // Answers one line about captures.
-pub fn answer(line: &Fields, bytes: &[u8], out: &mut [u8], text: &mut Answers) {
+pub fn answer(line: &Line, bytes: &[u8], out: &mut [u8], text: &mut Answers) {
     if let Err(refusal) = answered(line, bytes, out, text) {
         text.put_refused(refusal);
     }

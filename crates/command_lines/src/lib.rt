@@ -4,13 +4,13 @@
 #![tactic(auto)]
 
 mod decimal;
-mod fields;
+mod line;
 
 ghost use Rattle.std.specs.Prelude.{◌≡◌, ◌==◌, ◌<◌, ◌≤◌, length, slice_index, slice_range, MatchOption};
 ghost use Rattle.std.specs.List.{position_or_len, position};
 
 pub use decimal::{byte_of, number};
-pub use fields::Fields;
+pub use line::Line;
 
 // The longest line, without its end.
 const LONGEST: usize = 32768;

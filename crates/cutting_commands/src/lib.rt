@@ -7,7 +7,7 @@ mod proposals;
 ghost use Rattle.std.specs.Prelude.{◌≤◌, IfSome};
 
 use answer_lines::Answers;
-use command_lines::Fields;
+use command_lines::Line;
 use cutting::CuttingError;
 
 // Which field of a line has the command's bytes, for the letters of these commands.
@@ -21,7 +21,7 @@ pub fn field_of_bytes(letter: u8) -> Option<usize>
     }
 }
 
-fn answered(line: &Fields, bytes: &[u8], text: &mut Answers) -> Result<(), CuttingError> {
+fn answered(line: &Line, bytes: &[u8], text: &mut Answers) -> Result<(), CuttingError> {
     match line.letter() {
         b'q' => proposals::check(&line.pieces(2, b','), line.size(1), bytes, text),
         _ => cutter::cut(bytes, line.size(1), text),
@@ -29,7 +29,7 @@ fn answered(line: &Fields, bytes: &[u8], text: &mut Answers) -> Result<(), Cutti
 }
 
 // Answers one line from the bytes that it has.
-pub fn answer(line: &Fields, bytes: &[u8], text: &mut Answers) {
+pub fn answer(line: &Line, bytes: &[u8], text: &mut Answers) {
     match answered(line, bytes, text) {
         Ok(()) => {}
         Err(CuttingError::Unwalked(unwalked)) => {

@@ -1,6 +1,6 @@
 // The command q: whether the fragments that it proposes are a cutting of a message (rule M4).
 use answer_lines::Answers;
-use command_lines::Fields;
+use command_lines::Line;
 use cutting::{CuttingError, Proposed};
 use std::array;
 
@@ -8,7 +8,7 @@ use std::array;
 const MOST: usize = 12;
 
 // The fragment of `VERSION:TYPE:ID:NUMBER:LAST:LENGTH`, whose payload begins at `start`.
-fn fragment_of(piece: &Fields, start: usize) -> Proposed {
+fn fragment_of(piece: &Line, start: usize) -> Proposed {
     Proposed {
         version: piece.byte(0),
         message_type: piece.two_bytes(1),
@@ -22,7 +22,7 @@ fn fragment_of(piece: &Fields, start: usize) -> Proposed {
 
 // q: the first `size` bytes are the message. The fragments' payloads follow it, one after the other.
 pub(crate) fn check(
-    pieces: &Fields,
+    pieces: &Line,
     size: usize,
     bytes: &[u8],
     text: &mut Answers,

@@ -2,7 +2,7 @@
 ghost use Rattle.pushing.specs.Made.{Made};
 
 use answer_lines::Answers;
-use command_lines::Fields;
+use command_lines::Line;
 use stations::Stations;
 use table::{STORE_SIZE, Table};
 
@@ -69,7 +69,7 @@ impl Desk {
     }
 
     // Answers a line from the bytes that it has.
-    fn answer_as(&mut self, part: Part, line: &Fields, bytes: &[u8])
+    fn answer_as(&mut self, part: Part, line: &Line, bytes: &[u8])
         requires { Made self.old.table }
         ensures { Made self.new.table }
     {
@@ -97,11 +97,11 @@ impl Desk {
         requires { Made self.old.table }
         ensures { Made self.new.table }
     {
-        let fields = Fields::of_line(line);
-        let (part, field) = part_of(fields.letter())?;
-        let n = fields.decode(field, data);
+        let given = Line::of_command(line);
+        let (part, field) = part_of(given.letter())?;
+        let n = given.decode(field, data);
         let command = command_lines::command_of(line, n)?;
-        self.answer_as(part, &Fields::of_line(command), &data[..n]);
+        self.answer_as(part, &Line::of_command(command), &data[..n]);
         Some(())
     }
 }

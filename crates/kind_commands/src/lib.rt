@@ -8,7 +8,7 @@ mod written;
 ghost use Rattle.std.specs.Prelude.{◌≤◌, IfSome};
 
 use answer_lines::Answers;
-use command_lines::Fields;
+use command_lines::Line;
 use numbers::Refusal;
 
 // Which field of a line has the command's bytes, for the letters of these commands; 8 for f, which has none.
@@ -24,12 +24,7 @@ pub fn field_of_bytes(letter: u8) -> Option<usize>
     }
 }
 
-fn answered(
-    line: &Fields,
-    bytes: &[u8],
-    out: &mut [u8],
-    text: &mut Answers,
-) -> Result<(), Refusal> {
+fn answered(line: &Line, bytes: &[u8], out: &mut [u8], text: &mut Answers) -> Result<(), Refusal> {
     match line.letter() {
         b'w' | b's' | b'f' => written::answer(line, bytes, out, text),
         b't' => framed::read(bytes, text),
@@ -43,7 +38,7 @@ fn answered(
 }
 
 // Answers one line from the bytes that it has.
-pub fn answer(line: &Fields, bytes: &[u8], out: &mut [u8], text: &mut Answers) {
+pub fn answer(line: &Line, bytes: &[u8], out: &mut [u8], text: &mut Answers) {
     if let Err(refusal) = answered(line, bytes, out, text) {
         text.put_refused(refusal);
     }

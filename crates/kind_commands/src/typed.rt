@@ -1,6 +1,6 @@
 // The commands of the kinds that read: r, e, a, u and U.
 use answer_lines::{Answers, Tally};
-use command_lines::Fields;
+use command_lines::Line;
 use kinds::Contents;
 use layouts::Path;
 use numbers::Refusal;
@@ -55,7 +55,7 @@ pub(crate) fn read(code: u8, data: &[u8], text: &mut Answers) -> Result<(), Refu
 }
 
 // An entry's numbers, from the outer list in.
-fn path_of(numbers: &Fields) -> Path {
+fn path_of(numbers: &Line) -> Path {
     Path {
         depth: numbers.count(),
         i0: numbers.size(0),
@@ -73,7 +73,7 @@ fn put_part(part: &[u8], text: &mut Answers) {
 // e: an entry by its numbers (rule E1).
 pub(crate) fn entry(
     code: u8,
-    numbers: &Fields,
+    numbers: &Line,
     data: &[u8],
     text: &mut Answers,
 ) -> Result<(), Refusal> {

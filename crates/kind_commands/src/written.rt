@@ -1,6 +1,6 @@
 // The commands that write: w, s and f.
 use answer_lines::Answers;
-use command_lines::Fields;
+use command_lines::Line;
 use kinds::Contents;
 use numbers::Refusal;
 
@@ -14,13 +14,13 @@ fn rewrite(code: u8, bytes: &[u8], out: &mut [u8]) -> Result<usize, Refusal> {
 }
 
 // f: a record from its fields (rule O1). The kind that the line names has to be a record kind.
-fn write_record(code: u8, line: &Fields, out: &mut [u8]) -> Result<usize, Refusal> {
+fn write_record(code: u8, line: &Line, out: &mut [u8]) -> Result<usize, Refusal> {
     let record = record_lines::record_in(code, line).ok_or(Refusal::UnknownKind)?;
     record_writing::write_record(record, out)
 }
 
 // w: a TLV of this type and value (rule B5).
-fn write(line: &Fields, bytes: &[u8], out: &mut [u8]) -> Result<usize, Refusal> {
+fn write(line: &Line, bytes: &[u8], out: &mut [u8]) -> Result<usize, Refusal> {
     let code = line.byte(1);
     match line.letter() {
         b'w' => framing::write_tlv(code, bytes, out),
@@ -31,7 +31,7 @@ fn write(line: &Fields, bytes: &[u8], out: &mut [u8]) -> Result<usize, Refusal> 
 
 // Answers one line: the bytes that were written, into as much room as the line says.
 pub(crate) fn answer(
-    line: &Fields,
+    line: &Line,
     bytes: &[u8],
     out: &mut [u8],
     text: &mut Answers,

@@ -4,7 +4,7 @@
 ghost use Rattle.std.specs.Prelude.{◌≤◌, IfSome};
 
 use answer_lines::Answers;
-use command_lines::Fields;
+use command_lines::Line;
 use links::{LinkKind, LinkReport};
 use numbers::Refusal;
 
@@ -21,7 +21,7 @@ pub fn field_of_bytes(letter: u8) -> Option<usize>
 }
 
 // The kind in field n, 9 or 10.
-fn kind_in(line: &Fields, n: usize) -> Option<LinkKind> {
+fn kind_in(line: &Line, n: usize) -> Option<LinkKind> {
     match line.byte(n) {
         9 => Some(LinkKind::Tx),
         10 => Some(LinkKind::Rx),
@@ -30,7 +30,7 @@ fn kind_in(line: &Fields, n: usize) -> Option<LinkKind> {
 }
 
 // The lowest signal strength in field n. A `-` with nothing after it stands for none.
-fn lowest_in(line: &Fields, n: usize) -> Option<i8> {
+fn lowest_in(line: &Line, n: usize) -> Option<i8> {
     match line.field(n) {
         b"-" => None,
         _ => Some(line.signed_byte(n)),
@@ -38,7 +38,7 @@ fn lowest_in(line: &Fields, n: usize) -> Option<i8> {
 }
 
 // The report in the six fields from field n on. Its kind is 10 where it isn't 9.
-fn report_in(line: &Fields, n: usize) -> LinkReport
+fn report_in(line: &Line, n: usize) -> LinkReport
     requires { n ≤ 7 }
 {
     LinkReport {
@@ -69,13 +69,13 @@ fn put_report(report: LinkReport, text: &mut Answers) {
 }
 
 // m: the report over a value. A kind without pairs is refused by 16.
-fn report(line: &Fields, value: &[u8]) -> Result<LinkReport, Refusal> {
+fn report(line: &Line, value: &[u8]) -> Result<LinkReport, Refusal> {
     let kind = kind_in(line, 1).ok_or(Refusal::UnknownKind)?;
     links::report(kind, value)
 }
 
 // Answers one line about link quality.
-pub fn answer(line: &Fields, value: &[u8], text: &mut Answers) {
+pub fn answer(line: &Line, value: &[u8], text: &mut Answers) {
     let answer = match line.letter() {
         b'm' => report(line, value),
         _ => links::merge(report_in(line, 1), report_in(line, 7)),

@@ -1,7 +1,7 @@
 // The command l: finding over a TLV list that the command has (rule F1).
 use crate::found;
 use answer_lines::Answers;
-use command_lines::Fields;
+use command_lines::Line;
 use numbers::Refusal;
 use std::array;
 use walking::Tlv;
@@ -10,7 +10,7 @@ use walking::Tlv;
 const MOST: usize = 40;
 
 // The record of `TYPE:OFFSET:LENGTH`.
-fn tlv_of(record: &Fields) -> Tlv {
+fn tlv_of(record: &Line) -> Tlv {
     Tlv {
         tlv_type: record.byte(0),
         length: record.two_bytes(2),
@@ -20,7 +20,7 @@ fn tlv_of(record: &Fields) -> Tlv {
 
 // l: the first record that has the kind's code and reads.
 pub(crate) fn first(
-    records: &Fields,
+    records: &Line,
     payload: &[u8],
     code: u8,
     text: &mut Answers,

@@ -8,7 +8,7 @@ mod walked;
 ghost use Rattle.std.specs.Prelude.{◌≤◌, IfSome};
 
 use answer_lines::Answers;
-use command_lines::Fields;
+use command_lines::Line;
 use finding::SearchError;
 
 // Which field of a line has the payload, for the letters of these commands.
@@ -23,7 +23,7 @@ pub fn field_of_bytes(letter: u8) -> Option<usize>
     }
 }
 
-fn answered(line: &Fields, payload: &[u8], text: &mut Answers) -> Result<(), SearchError> {
+fn answered(line: &Line, payload: &[u8], text: &mut Answers) -> Result<(), SearchError> {
     match line.letter() {
         b'l' => given::first(&line.pieces(2, b','), payload, line.byte(1), text)?,
         b'd' => found::first(payload, line.byte(1), text)?,
@@ -35,7 +35,7 @@ fn answered(line: &Fields, payload: &[u8], text: &mut Answers) -> Result<(), Sea
 }
 
 // Answers one line from the payload that it has.
-pub fn answer(line: &Fields, payload: &[u8], text: &mut Answers) {
+pub fn answer(line: &Line, payload: &[u8], text: &mut Answers) {
     match answered(line, payload, text) {
         Ok(()) => {}
         Err(SearchError::Unwalked(unwalked)) => {

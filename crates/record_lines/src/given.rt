@@ -4,14 +4,14 @@ ghost use Rattle.records.specs.Kinds.{code_of, kind_of};
 ghost use Rattle.records.specs.Reading.{is_record_lem};
 
 use crate::Code;
-use command_lines::Fields;
+use command_lines::Line;
 use records::{
     AssociationState, ByteCounterUnits, ClientAssociation, Ieee1905ProfileVersion, LinkMetricQuery,
     LinkMetricResultCode, MacAddr, MultiApProfile, Profile2ApCapability, Record, SupportedFreqBand,
 };
 
 // The address in field n: six bytes.
-pub fn address_in(line: &Fields, n: usize) -> MacAddr
+pub fn address_in(line: &Line, n: usize) -> MacAddr
     ensures { (result.b0 < 256) × (result.b1 < 256) × (result.b2 < 256) × (result.b3 < 256) × (result.b4 < 256) × (result.b5 < 256) }
 {
     let s = line.field(n);
@@ -25,7 +25,7 @@ pub fn address_in(line: &Fields, n: usize) -> MacAddr
     }
 }
 
-fn code_in(line: &Fields, n: usize) -> Code {
+fn code_in(line: &Line, n: usize) -> Code {
     match line.field(n) {
         [b'r', digits @ ..] => {
             Code::Reserved(command_lines::byte_of(command_lines::number(digits)))
@@ -70,14 +70,14 @@ impl From<Code> for MultiApProfile {
     }
 }
 
-fn neighbor_in(line: &Fields, n: usize) -> Option<MacAddr> {
+fn neighbor_in(line: &Line, n: usize) -> Option<MacAddr> {
     match line.field(n) {
         [b'-', ..] => None,
         _ => Some(address_in(line, n)),
     }
 }
 
-fn query_in(line: &Fields) -> LinkMetricQuery {
+fn query_in(line: &Line) -> LinkMetricQuery {
     LinkMetricQuery {
         neighbor_type: line.byte(3),
         neighbor_mac: neighbor_in(line, 4),
@@ -85,14 +85,14 @@ fn query_in(line: &Fields) -> LinkMetricQuery {
     }
 }
 
-fn state_in(line: &Fields, n: usize) -> AssociationState {
+fn state_in(line: &Line, n: usize) -> AssociationState {
     match line.number(n) {
         1 => AssociationState::JoinedBss,
         _ => AssociationState::LeftBss,
     }
 }
 
-fn association_in(line: &Fields) -> ClientAssociation {
+fn association_in(line: &Line) -> ClientAssociation {
     ClientAssociation {
         sta_mac: address_in(line, 3),
         ap_mac: address_in(line, 4),
@@ -100,7 +100,7 @@ fn association_in(line: &Fields) -> ClientAssociation {
     }
 }
 
-fn capability_in(line: &Fields) -> Profile2ApCapability {
+fn capability_in(line: &Line) -> Profile2ApCapability {
     Profile2ApCapability {
         max_prioritization_rules: line.byte(3),
         reserved: line.byte(4),
@@ -115,7 +115,7 @@ fn capability_in(line: &Fields) -> Profile2ApCapability {
 
 // The record of a kind, whose fields are those of the line from the fourth on. There is none where no record kind has
 // the code.
-pub fn record_in(code: u8, line: &Fields) -> Option<Record>
+pub fn record_in(code: u8, line: &Line) -> Option<Record>
     ensures { MatchOption result (is_record_lem code ≡ false) (λ r. code_of (kind_of r) ≡ code) }
 {
     Some(match code {

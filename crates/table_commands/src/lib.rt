@@ -7,7 +7,7 @@ ghost use Rattle.std.specs.Prelude.{◌<◌, ◌≤◌, IfSome};
 ghost use Rattle.pushing.specs.Made.{Made};
 
 use answer_lines::Answers;
-use command_lines::Fields;
+use command_lines::Line;
 use numbers::Refusal;
 use pushing::{Arrival, Fragment, Pushed};
 use table::{PLACE_SIZE, STORE_SIZE, Table};
@@ -16,7 +16,7 @@ use table::{PLACE_SIZE, STORE_SIZE, Table};
 // (rule T9).
 const OUTPUT: usize = STORE_SIZE + PLACE_SIZE;
 
-fn key_in(line: &Fields) -> u64 {
+fn key_in(line: &Line) -> u64 {
     let s = line.field(1);
     keys::key_of(
         command_lines::pair(s, 0),
@@ -30,7 +30,7 @@ fn key_in(line: &Fields) -> u64 {
 }
 
 // The fragment of a line; bit 7 of the flags marks the last (rule B6).
-fn fragment_in(line: &Fields) -> Fragment
+fn fragment_in(line: &Line) -> Fragment
     ensures { result.number < 256 }
 {
     Fragment {
@@ -42,7 +42,7 @@ fn fragment_in(line: &Fields) -> Fragment
 }
 
 // What arrives with a line of p, or of F (crate capture_commands): all of a push but its payload.
-pub fn arrival_in(line: &Fields) -> Arrival
+pub fn arrival_in(line: &Line) -> Arrival
     ensures { result.fragment.number < 256 }
 {
     Arrival {
@@ -88,7 +88,7 @@ fn put_answer(answer: Result<Pushed, Refusal>, payload: &[u8], out: &[u8], text:
 }
 
 // How many bytes a push lends: what field n says, or `otherwise` where the line has no such field.
-fn lent(line: &Fields, n: usize, otherwise: usize) -> usize {
+fn lent(line: &Line, n: usize, otherwise: usize) -> usize {
     if line.field(n).is_empty() {
         otherwise
     } else {
@@ -99,7 +99,7 @@ fn lent(line: &Fields, n: usize, otherwise: usize) -> usize {
 // p: a push (rules T4 to T10). Two more fields say how many bytes of output and of store are lent.
 fn push(
     t: &mut Table,
-    line: &Fields,
+    line: &Line,
     payload: &[u8],
     out: &mut [u8],
     store: &mut [u8],
@@ -144,7 +144,7 @@ pub fn fresh() -> Table
 // Answers one line about the table.
 pub fn answer(
     t: &mut Table,
-    line: &Fields,
+    line: &Line,
     payload: &[u8],
     out: &mut [u8],
     store: &mut [u8],

@@ -1,4 +1,4 @@
-// The fields of a line, and the pieces of a field.
+// The fields of a line.
 ghost use Rattle.std.specs.Prelude.{◌≡◌, ◌==◌, ◌+◌, ◌%◌, ◌≤◌, length, slice_index};
 ghost use Rattle.command_lines.specs.Decimal.{number_of, signed_of, nearest};
 ghost use Rattle.command_lines.specs.Fields.{field_in, up_to, past_first};
@@ -20,27 +20,27 @@ fn after_first(s: &[u8], separator: u8) -> &[u8]
     crate::part(s, end + 1, s.len())
 }
 
-// A text, by the fields that stand between its separators.
+// A line of text, by the fields that stand between its separators. A field may be a line with separators of its own.
 #[derive(Clone, Copy)]
-pub struct Fields<'a> {
+pub struct Line<'a> {
     text: &'a [u8],
     separator: u8,
 }
 
-impl<'a> Fields<'a> {
-    ghost use Rattle.command_lines.specs.Texts.{field_of};
+impl<'a> Line<'a> {
+    ghost use Rattle.command_lines.specs.Lines.{field_of};
 
-    pub fn new(text: &'a [u8], separator: u8) -> Fields<'a>
+    pub fn new(text: &'a [u8], separator: u8) -> Line<'a>
         ensures { (result.text.now ≡ text.now) × (result.separator ≡ separator) }
     {
-        Fields { text, separator }
+        Line { text, separator }
     }
 
-    // The fields of a command's line.
-    pub fn of_line(line: &'a [u8]) -> Fields<'a>
-        ensures { (result.text.now ≡ line.now) × (result.separator ≡ 32) }
+    // The line of a command has blanks between its fields.
+    pub fn of_command(text: &'a [u8]) -> Line<'a>
+        ensures { (result.text.now ≡ text.now) × (result.separator ≡ 32) }
     {
-        Fields::new(line, b' ')
+        Line::new(text, b' ')
     }
 
     // The first byte, 0 where there is none.
@@ -61,11 +61,11 @@ impl<'a> Fields<'a> {
         first_of(rest, self.separator)
     }
 
-    // Field number n, by the pieces that stand between separators of its own.
-    pub fn pieces(&self, n: usize, separator: u8) -> Fields<'a>
+    // Field number n, as a line with separators of its own.
+    pub fn pieces(&self, n: usize, separator: u8) -> Line<'a>
         ensures { (result.text.now ≡ field_of self.now n) × (result.separator ≡ separator) }
     {
-        Fields::new(self.field(n), separator)
+        Line::new(self.field(n), separator)
     }
 
     // How many fields there are; `-` stands for none.

@@ -1,7 +1,7 @@
 -- What stands after the place of the first separator.
 use Rattle.std.proofs.Common.{ℕ, ◌+◌, drop, take_all, sym, ap, ◌∙◌, arith, length-drop}
 use Rattle.command_lines.proofs.Separators.{past_first_is}
-use Rattle.command_lines.proofs.fields.after_first.Goals as goal
+use Rattle.command_lines.proofs.line.after_first.Goals as goal
 
 pub returns : goal.returns
 returns c =

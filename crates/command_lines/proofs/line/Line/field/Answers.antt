@@ -2,7 +2,7 @@
 use Rattle.std.proofs.Common.{ℕ, ◌+◌, ◌-◌, List, ap, ◌∙◌}
 use Rattle.command_lines.specs.Fields.{field_in}
 use Rattle.command_lines.proofs.Separators.{field_next, field_last}
-use Rattle.command_lines.proofs.fields.Fields.field.Goals as goal
+use Rattle.command_lines.proofs.line.Line.field.Goals as goal
 
 pub loop-preserved : goal.loop-preserved
 loop-preserved c =
