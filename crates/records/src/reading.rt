@@ -5,39 +5,46 @@ ghost use Rattle.records.specs.Values.{address_at_lem};
 ghost use Rattle.records.specs.Reading.{fixed, of_kind_lem};
 
 use crate::{
-    AssociationState, ByteCounterUnits, ClientAssociation, Ieee1905ProfileVersion, LinkMetricQuery,
-    LinkMetricResultCode, MacAddr, MultiApProfile, Profile2ApCapability, Record, RecordKind,
-    RecordRead, SupportedFreqBand,
+    AssociationState, ByteCounterUnits, ClientAssociation, LinkMetricQuery, MacAddr,
+    Profile2ApCapability, Record, RecordKind, RecordRead,
 };
 use numbers::Refusal;
 
 // Reads a value by its kind (rule K1): the size of the kind's layout, whether its value is accepted, and the record.
+// Nothing stands before the match, so that it becomes one jump with the match on the code.
 pub(crate) fn read_as(kind: RecordKind, s: &[u8]) -> Result<RecordRead, Refusal>
     ensures { answered result ≡ of_kind_lem kind s.now }
 {
-    let first = byte_at(s, 0);
     match kind {
         RecordKind::EndOfMessage => read_end_of_message(s),
         RecordKind::AlMacAddress => fixed(6, true, Record::AlMacAddress(address_at(s, 0)), s),
         RecordKind::MacAddress => fixed(6, true, Record::MacAddress(address_at(s, 0)), s),
-        RecordKind::SearchedRole => fixed(1, first == 0, Record::SearchedRole(first), s),
-        RecordKind::SupportedRole => fixed(1, first == 0, Record::SupportedRole(first), s),
-        RecordKind::SupportedFreqBand => fixed(1, true, Record::SupportedFreqBand(first.into()), s),
-        RecordKind::Ieee1905ProfileVersion => fixed(
-            1,
-            true,
-            Record::Ieee1905ProfileVersion(first.into()),
-            s,
-        ),
-        RecordKind::LinkMetricResultCode => fixed(
-            1,
-            true,
-            Record::LinkMetricResultCode(first.into()),
-            s,
-        ),
+        RecordKind::SearchedRole => {
+            let role = byte_at(s, 0);
+            fixed(1, role == 0, Record::SearchedRole(role), s)
+        }
+        RecordKind::SupportedRole => {
+            let role = byte_at(s, 0);
+            fixed(1, role == 0, Record::SupportedRole(role), s)
+        }
+        RecordKind::SupportedFreqBand => {
+            let band = byte_at(s, 0).into();
+            fixed(1, true, Record::SupportedFreqBand(band), s)
+        }
+        RecordKind::Ieee1905ProfileVersion => {
+            let version = byte_at(s, 0).into();
+            fixed(1, true, Record::Ieee1905ProfileVersion(version), s)
+        }
+        RecordKind::LinkMetricResultCode => {
+            let result = byte_at(s, 0).into();
+            fixed(1, true, Record::LinkMetricResultCode(result), s)
+        }
         RecordKind::LinkMetricQuery => read_link_metric_query(s),
         RecordKind::ClientAssociation => read_client_association(s),
-        RecordKind::MultiApProfile => fixed(1, 0 < first, Record::MultiApProfile(first.into()), s),
+        RecordKind::MultiApProfile => {
+            let first = byte_at(s, 0);
+            fixed(1, 0 < first, Record::MultiApProfile(first.into()), s)
+        }
         RecordKind::Profile2ApCapability => read_profile2_ap_capability(s),
     }
 }
