@@ -6,6 +6,8 @@
 
 ghost use Rattle.std.specs.Prelude.{◌≤◌, ℕ, length};
 
+use std::fmt;
+use std::fmt::Write;
 use walking::{Stepped, Tlv, Unwalked};
 
 // The text goes out in pieces of at most this size.
@@ -20,6 +22,14 @@ struct Lines {
     text: [u8; SIZE],
     used: usize,
     ghost within: { used ≤ 4096 },
+}
+
+// What a format writes goes to the text piece by piece, and never fails.
+impl fmt::Write for Lines {
+    fn write_str(&mut self, s: &str) -> fmt::Result {
+        self.put(s.as_bytes());
+        Ok(())
+    }
 }
 
 impl Lines {
@@ -40,34 +50,16 @@ impl Lines {
         }
     }
 
-    // A format would do it too, in more than twice the time.
-    fn put_number(&mut self, n: usize) {
-        let mut digits = [0u8; 20];
-        let k = io::decimal(n as u64, &mut digits);
-        self.put(&digits[..k]);
-    }
-
     fn put_tlv(&mut self, tlv: Tlv) {
-        self.put_number(tlv.tlv_type as usize);
-        self.put(b" ");
-        self.put_number(tlv.length as usize);
-        self.put(b"\n");
+        let _ = writeln!(self, "{} {}", tlv.tlv_type, tlv.length);
     }
 
     fn put_end(&mut self, at: usize) {
-        self.put(b"end ");
-        self.put_number(at);
-        self.put(b"\n");
+        let _ = writeln!(self, "end {}", at);
     }
 
     fn put_bad(&mut self, number: u8, at: usize, missing: usize) {
-        self.put(b"bad ");
-        self.put_number(number as usize);
-        self.put(b" at ");
-        self.put_number(at);
-        self.put(b" ");
-        self.put_number(missing);
-        self.put(b"\n");
+        let _ = writeln!(self, "bad {} at {} {}", number, at, missing);
     }
 
     // Writes the text out, and begins a new one. What cannot be written is lost.
