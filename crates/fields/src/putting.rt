@@ -15,6 +15,7 @@ pub(crate) struct Shape {
 }
 
 // Copies the bytes to the start of `out`, if it has room for them.
+#[tactic(auto, unfolding(crate::specs::Writing::put_size))]
 pub fn put_bytes(own: &[u8], out: &mut [u8]) -> Result<usize, Refusal>
     ensures answer { answered result ≡ put_size (gives own.now) (length out.old) }
     ensures bytes { out.new ≡ leaves (put_size (gives own.now) (length out.old)) own.now out.old }

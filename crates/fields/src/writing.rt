@@ -13,6 +13,7 @@ use numbers::Refusal;
 use records::MacAddr;
 
 // Writes the count of a list, in one byte.
+#[tactic(auto, unfolding(crate::specs::Writing::count_made, crate::specs::Writing::put_size))]
 pub fn put_count(n: usize, out: &mut [u8]) -> Result<usize, Refusal>
     ensures answer { answered result ≡ put_size (count_made n) (length out.old) }
     ensures bytes { out.new ≡ leaves (put_size (count_made n) (length out.old)) (made_bytes (count_made n)) out.old }
