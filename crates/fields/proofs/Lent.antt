@@ -2,20 +2,20 @@
 use Rattle.std.specs.Prelude.{Option, Some}
 use mathlib.Core.Path.{◌≡◌, refl, sym, ap, ◌∙◌}
 use mathlib.Core.Bool.{Bool, true, false, cond, ◌&&◌}
-use mathlib.Core.List.{List, [], ◌∷◌, ◌++◌, append_assoc}
+use mathlib.Core.List.{List, [], ◌++◌, append_assoc, append-nil}
 use Prim.Native.Nat.{ℕ, ◌+◌, ◌-◌, ◌<◌, ◌≤◌}
 use native.Mathlib.Omega.{arith}
 use borrow.Author.Tests.{lt-ltb, le-ltb, leb-true}
 use borrow.Rule.Slice.PartMut.{mid_of, put_mid}
 use lib.Dec.{leb}
-use lib.ListN.{length, take, drop, length-append}
+use lib.ListN.{length, take, drop, length-append, drop_of_length-le}
 use lib.Seq.{take-length, take-append_seam, drop-append_seam, drop-drop}
 use Rattle.numbers.specs.Numbers.{Answer, gives, refuses, and_then}
 use Rattle.framing.specs.Tlv.{leaves}
 use Rattle.framing.proofs.Writing.{tail_put}
 use Rattle.layouts.specs.Layouts.{size_of}
 use Rattle.fields.specs.Fields.{Fielded, row_for}
-use Rattle.fields.specs.Writing.{only_zeros_lem, text_bytes, longest_text_lem, entry_of, entry_in, count_made, put_size, made_bytes}
+use Rattle.fields.specs.Writing.{only_zeros_lem, text_bytes, longest_text_lem, entry_of, entry_in, put_size, made_bytes}
 use Rattle.fields.specs.PrivateSteps.{size_in_lem, made_with}
 use Rattle.fields.proofs.Laws.{by_row}
 
@@ -57,6 +57,13 @@ both_put own v out between ys e e' =
     tail_put (length own) between v ys e' ∙ (λ i. start i ++ (v ++ rest i)) ∙
     ap (λ n. own ++ (v ++ drop n out)) (sym (length-append own v)) ∙ sym (append_assoc own v (drop (length (own ++ v)) out))
 
+-- what is put into the rest of an array, after what stands at its start
+pub put_last : (n m : ℕ) (o y z : List ℕ) → length o ≡ n → length z ≡ m → put_mid n m (o ++ z) y ≡ o ++ y
+put_last n m o y z long more =
+    let front : take n (o ++ z) ≡ o = ap (λ k. take k (o ++ z)) (sym long) ∙ take-append_seam o z in
+    let none : drop m (drop n (o ++ z)) ≡ [] = drop-drop m n (o ++ z) ∙ drop_of_length-le (o ++ z) {i = n + m} (omega (arith, length-append o z, long, more)) in
+    (λ i. front i ++ (y ++ none i)) ∙ ap (λ t. o ++ t) (append-nil y)
+
 and_right : (a b : Bool) → (a && b) ≡ true → b ≡ true
 and_right true b e = e
 and_right false b e = absurd (never_true e) where
@@ -84,11 +91,3 @@ pub in_code : (text : Bool) (fs : List Fielded) (code : ℕ) (n : Option ℕ) (b
 unfolding made_with entry_in
 in_code text fs code n bytes t sized =
     rw sized (by_row (λ x. made_with text (size_in_lem x) bytes t ≡ and_then x (λ g. entry_of text (size_of g.sizes) bytes t)) refl (λ g. refl) fs code)
-
-pub counted : (n : ℕ) → leb n 255 ≡ true → gives (n ∷ []) ≡ count_made n
-unfolding count_made
-counted n e = rw e
-
-pub not_counted : (n : ℕ) → leb n 255 ≡ false → refuses 9 [] ≡ count_made n
-unfolding count_made
-not_counted n e = rw e

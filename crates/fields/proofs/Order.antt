@@ -5,11 +5,10 @@ use Prim.Native.Nat.{ℕ, zero, suc, ◌+◌, ◌<◌, ◌≤◌}
 use native.Mathlib.Nat.{zero-add, suc-add, le_of_suc-le-suc}
 use native.Mathlib.Omega.{arith}
 use lib.ListN.{length, take, drop, get_or}
-use lib.Seq.{take-add, take_all, drop-drop}
+use lib.Seq.{take-add, drop-drop}
 use Rattle.layouts.specs.Layouts.{size_of, place}
 use Rattle.fields.specs.Answers.{zero_filled}
 use Rattle.fields.specs.Claims.{split}
-use Rattle.fields.proofs.Laws.{listed, by_bytes}
 
 pub joined : (ws p : List ℕ) → flatten (split ws p) ≡ take (size_of ws) p
 unfolding flatten
@@ -41,7 +40,3 @@ pub padded_take : (w : ℕ) (p : List ℕ) → w ≤ length p → zero_filled w 
 padded_take zero p h = refl
 padded_take (suc w) [] h = absurd (omega (arith, h))
 padded_take (suc w) (b ∷ p) h = ap (λ t. b ∷ t) (padded_take w p (le_of_suc-le-suc h))
-
--- each byte by itself
-pub all_listed : (w : ℕ) (s : List ℕ) → length s ≡ w → listed w 0 0 s ≡ s
-all_listed w s long = by_bytes w 0 s (listed w 0 0 s) refl ∙ padded_take w s (omega (arith, long)) ∙ take_all w s (omega (arith, long))

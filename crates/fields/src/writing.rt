@@ -5,12 +5,22 @@
 ghost use Rattle.std.specs.Prelude.{◌≡◌, length};
 ghost use Rattle.numbers.specs.Numbers.{answered};
 ghost use Rattle.framing.specs.Tlv.{leaves};
+ghost use Rattle.records.specs.Values.{octets};
 ghost use Rattle.fields.specs.Writing.{front_made, neighbour_made, interface_made, ipv4_made, ipv6_made, byte_made, radio_made, bss_made, count_made, put_size, made_bytes};
 
 use crate::putting::{Shape, put_bytes, put_entry, put_own};
 use crate::{AshlarBss, AshlarInterface, AshlarIpv4, AshlarIpv6, AshlarNeighbour, sizes};
 use numbers::Refusal;
 use records::MacAddr;
+
+// The six bytes of an address.
+fn octets_of(address: MacAddr) -> [u8; 6]
+    ensures { result ≡ octets address }
+{
+    [
+        address.b0, address.b1, address.b2, address.b3, address.b4, address.b5,
+    ]
+}
 
 // Writes the count of a list, in one byte.
 #[tactic(auto, unfolding(crate::specs::Writing::count_made, crate::specs::Writing::put_size))]
@@ -66,12 +76,9 @@ pub fn put_interface(code: u8, interface: AshlarInterface, out: &mut [u8]) -> Re
     ensures answer { answered result ≡ put_size (interface_made code interface) (length out.old) }
     ensures bytes { out.new ≡ leaves (put_size (interface_made code interface) (length out.old)) (made_bytes (interface_made code interface)) out.old }
 {
-    let a = interface.address;
-    let l = interface.link_local;
-    let own = [
-        a.b0, a.b1, a.b2, a.b3, a.b4, a.b5, l[0], l[1], l[2], l[3], l[4], l[5], l[6], l[7], l[8],
-        l[9], l[10], l[11], l[12], l[13], l[14], l[15],
-    ];
+    let mut own = [0; 22];
+    own[..6].copy_from_slice(&octets_of(interface.address));
+    own[6..].copy_from_slice(&interface.link_local);
     put_own(sizes::interface_size(code), &own, out)
 }
 
@@ -80,9 +87,10 @@ pub fn put_ipv4(ipv4: AshlarIpv4, out: &mut [u8]) -> Result<usize, Refusal>
     ensures answer { answered result ≡ put_size (ipv4_made ipv4) (length out.old) }
     ensures bytes { out.new ≡ leaves (put_size (ipv4_made ipv4) (length out.old)) (made_bytes (ipv4_made ipv4)) out.old }
 {
-    let a = ipv4.address;
-    let d = ipv4.dhcp_server;
-    let own = [ipv4.type_, a[0], a[1], a[2], a[3], d[0], d[1], d[2], d[3]];
+    let mut own = [0; 9];
+    own[0] = ipv4.type_;
+    own[1..5].copy_from_slice(&ipv4.address);
+    own[5..].copy_from_slice(&ipv4.dhcp_server);
     put_own(Some(9), &own, out)
 }
 
@@ -91,13 +99,10 @@ pub fn put_ipv6(ipv6: AshlarIpv6, out: &mut [u8]) -> Result<usize, Refusal>
     ensures answer { answered result ≡ put_size (ipv6_made ipv6) (length out.old) }
     ensures bytes { out.new ≡ leaves (put_size (ipv6_made ipv6) (length out.old)) (made_bytes (ipv6_made ipv6)) out.old }
 {
-    let a = ipv6.address;
-    let o = ipv6.origin;
-    let own = [
-        ipv6.type_, a[0], a[1], a[2], a[3], a[4], a[5], a[6], a[7], a[8], a[9], a[10], a[11],
-        a[12], a[13], a[14], a[15], o[0], o[1], o[2], o[3], o[4], o[5], o[6], o[7], o[8], o[9],
-        o[10], o[11], o[12], o[13], o[14], o[15],
-    ];
+    let mut own = [0; 33];
+    own[0] = ipv6.type_;
+    own[1..17].copy_from_slice(&ipv6.address);
+    own[17..].copy_from_slice(&ipv6.origin);
     put_own(Some(33), &own, out)
 }
 
@@ -115,12 +120,11 @@ pub fn put_radio(code: u8, id: MacAddr, text: &[u8], out: &mut [u8]) -> Result<u
     ensures answer { answered result ≡ put_size (radio_made code id text.now) (length out.old) }
     ensures bytes { out.new ≡ leaves (put_size (radio_made code id text.now) (length out.old)) (made_bytes (radio_made code id text.now)) out.old }
 {
-    let own = [id.b0, id.b1, id.b2, id.b3, id.b4, id.b5];
     let shape = Shape {
         size: sizes::radio_size(code),
         has_text: code == texts::DEVICE_INVENTORY,
     };
-    put_entry(shape, &own, text, out)
+    put_entry(shape, &octets_of(id), text, out)
 }
 
 // Writes a BSS with its name.
