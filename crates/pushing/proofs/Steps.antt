@@ -18,11 +18,10 @@ use Rattle.pushing.specs.declared.Arrival.{Arrival}
 use Rattle.pushing.specs.declared.Pushed.{Pushed}
 use Rattle.pushing.specs.declared.look.LookedUp.{LookedUp}
 use Rattle.pushing.specs.declared.Pushed.TheVariants.{WaitingForMoreFragments}
-use Rattle.pushing.specs.declared.choose.Step.TheVariants.{Keep}
 use Rattle.table.specs.Rows.{row_of, dropped_key_lem}
 use Rattle.pushing.specs.Joining.{held_of, held_in_lem, and_new}
 use Rattle.pushing.specs.Push.{PushAnswer, inconsistent, missing, missing_last, single, joined, Way, refuse, duplicate, keep_at, open_at, end, joined_with, looked_up, own_totals, way, table_by, store_by, answer_of, pushed_of, answer_by, Goes}
-use Rattle.pushing.specs.PrivateSteps.{step_way, under_row_lem, Ends, kept_by_lem}
+use Rattle.pushing.specs.PrivateSteps.{kept_way, under_row_lem, Ends, kept_by_lem}
 use Rattle.table.proofs.Sound.{Sound}
 use Rattle.pushing.proofs.Kept.{keeps_there, opens_new}
 use Rattle.pushing.proofs.Ways.{by_ends, Went, went, went_refuse, went_duplicate, went_keep, went_open, went_end}
@@ -53,17 +52,17 @@ module _ (t : Table) (store : List ℕ) (a : Arrival) (payload : List ℕ) (room
   abbrev pub Fits : LookedUp → Totals → Type 0
   Fits found held = (47744 ≤ length store) × (length payload ≤ 1492) × (found.free < 32) × (under_row_lem found < 16) × (held.places < 8) × (16 ≤ found.row → held.keys < 4)
 
-  pub keep_room : (joins : Way) → its ≡ step_way (looked_up t a) (Ok Keep) joins → Fits (looked_up t a) (own_totals t a)
-  keep_room joins e = by_row (ltb row 16) e
+  pub keep_room : its ≡ kept_way (looked_up t a) (Ok tt) → Fits (looked_up t a) (own_totals t a)
+  keep_room e = by_row (ltb row 16) e
     where
       by_row : (b : Bool) → its ≡ cond b (keep_at (looked_up t a).free) (open_at (looked_up t a).free (looked_up t a).spare)
           → (47744 ≤ length store) × (length payload ≤ 1492) × ((looked_up t a).free < 32) × (cond b row (looked_up t a).spare < 16) × ((own_totals t a).places < 8) × (16 ≤ row → (own_totals t a).keys < 4)
       by_row true q = subst Room q (has_room (went t store a payload room))
       by_row false q = subst Room q (has_room (went t store a payload room))
 
-  pub keep_goes : Sound t → (joins : Way) → its ≡ step_way (looked_up t a) (Ok Keep) joins → (out : List ℕ)
+  pub keep_goes : Sound t → its ≡ kept_way (looked_up t a) (Ok tt) → (out : List ℕ)
       → Goes its t store out a payload (Ok WaitingForMoreFragments) (kept_by_lem (looked_up t a) (own_totals t a) t a (length payload)) (paste store ((looked_up t a).free * 1492) payload (length payload)) out
-  keep_goes s joins e out = rw e (by_row (ltb row 16) refl (keep_room joins e).3)
+  keep_goes s e out = rw e (by_row (ltb row 16) refl (keep_room e).3)
     where
       by_row : (b : Bool) → ltb row 16 ≡ b → under_row_lem (looked_up t a) < 16
           → Goes (cond b (keep_at (looked_up t a).free) (open_at (looked_up t a).free (looked_up t a).spare)) t store out a payload (Ok WaitingForMoreFragments)

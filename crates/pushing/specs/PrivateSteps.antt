@@ -1,8 +1,7 @@
 -- What the private functions answer, in the words of the other files. No public contract cites this one.
-use Rattle.std.specs.Prelude.{◌≡◌, List, Bool, false, cond, not, ◌&&◌, ◌||◌, ℕ, zero, suc, ◌+◌, eqb, ltb, leb, get_or, Result, Ok, Err}
+use Rattle.std.specs.Prelude.{◌≡◌, List, Bool, cond, not, ◌&&◌, ◌||◌, ℕ, zero, suc, ◌+◌, eqb, ltb, leb, get_or, Result, Ok, Err}
 use Rattle.numbers.specs.Numbers.{number, values}
 use Rattle.numbers.specs.declared.Refusal.{Refusal}
-use Rattle.keys.specs.Keys.{sender_of_lem}
 use Rattle.table.specs.declared.Table.{Table}
 use Rattle.table.specs.declared.Totals.{Totals}
 use Rattle.pushing.specs.declared.Arrival.{Arrival}
@@ -11,23 +10,12 @@ use Rattle.pushing.specs.declared.join.Reach.{Reach}
 use Rattle.pushing.specs.declared.join.Compared.{Compared}
 use Rattle.pushing.specs.declared.Fragment.{Fragment}
 use Rattle.pushing.specs.declared.look.LookedUp.{LookedUp}
-use Rattle.pushing.specs.declared.choose.Step.{Step}
-use Rattle.pushing.specs.declared.choose.Step.TheVariants.{Duplicate, Keep, Join}
 use Rattle.searching.specs.Search.{lowest}
-use Rattle.table.specs.Rows.{keys, places, owner_of, bytes_at, with_key, with_place, first_row_in, lower_row_lem, no_totals, put_totals_lem}
+use Rattle.table.specs.Rows.{keys, places, owner_of, bytes_at, with_key, with_place, lower_row_lem, no_totals, put_totals_lem}
 use Rattle.pushing.specs.Joining.{in_order_lem}
-use Rattle.pushing.specs.Push.{Way, refuse, duplicate, keep_at, open_at, join_by, place_for, pushed_of, answer_by, output_by}
+use Rattle.pushing.specs.Push.{Way, refuse, keep_at, open_at, join_by, place_for, pushed_of, answer_by, output_by}
 
--- the look-ups, in the lists that they are lent
-abbrev pub row_in : List Bool → List ℕ → ℕ → ℕ
-row_in used row-keys key = lowest (λ row. get_or used row false && eqb (get_or row-keys row 0) key) keys
-
-abbrev pub spare_row_in : List Bool → ℕ
-spare_row_in used = lowest (λ row. not (get_or used row false)) keys
-
-abbrev pub lowest_free_in : List ℕ → ℕ
-lowest_free_in owners = lowest (λ i. eqb (get_or owners i 0) 0) places
-
+-- the look-ups of joining, in the lists that they need
 abbrev pub numbered_in : (owners numbers : List ℕ) → (owner number : ℕ) → ℕ
 numbered_in owners numbers owner number = lowest (λ i. eqb (get_or owners i 0) owner && eqb (get_or numbers i 0) number) places
 
@@ -36,16 +24,6 @@ unlike_in owners versions types owner version type = lowest (λ i. eqb (get_or o
 
 abbrev pub beyond_in : (owners numbers : List ℕ) → (owner number : ℕ) → ℕ
 beyond_in owners numbers owner number = lowest (λ i. eqb (get_or owners i 0) owner && ltb number (get_or numbers i 0)) places
-
--- all that a push looks up
-abbrev pub looked_in_lem : List Bool → (row-keys owners numbers : List ℕ) → (key number : ℕ) → LookedUp
-looked_in_lem used row-keys owners numbers key number = record {
-  row = row_in used row-keys key;
-  place = numbered_in owners numbers (owner_of (row_in used row-keys key)) number;
-  free = lowest_free_in owners;
-  spare = spare_row_in used;
-  first = first_row_in used row-keys (sender_of_lem key);
-}
 
 -- where the piece with number k lies: in a place, at `places` where there is none, and at the number after that where
 -- it is the new fragment
@@ -93,12 +71,10 @@ join_in sizes owners numbers store payload last room =
     (eqb (count_for owners numbers last.row last.number) (last.number + 1)) (count_for owners numbers last.row last.number)
     (pieces_to sizes owners numbers store last.row last.number payload (count_for owners numbers last.row last.number)) room
 
--- the way of a step, for a push by what was found; a last fragment's is that of joining
-abbrev pub step_way : LookedUp → Result Step Refusal → (joins : Way) → Way
-step_way found (Err r) joins = refuse (number r) (values r)
-step_way found (Ok Duplicate) joins = duplicate
-step_way found (Ok Keep) joins = cond (ltb found.row keys) (keep_at found.free) (open_at found.free found.spare)
-step_way found (Ok Join) joins = joins
+-- Rule T6: the way of a fragment that is kept, by what was found, or that is refused.
+abbrev pub kept_way : LookedUp → Result (Unit {0}) Refusal → Way
+kept_way found (Ok kept) = cond (ltb found.row keys) (keep_at found.free) (open_at found.free found.spare)
+kept_way found (Err r) = refuse (number r) (values r)
 
 -- Rule T6: the row under which a fragment is kept.
 abbrev pub under_row_lem : LookedUp → ℕ

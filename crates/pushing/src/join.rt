@@ -1,51 +1,39 @@
 // Rules T7 to T9, step 4 of push: a fragment marked last is joined with those that its key holds. Each number is
 // looked up when it is needed. The fragments are never copied to be sorted.
 ghost use Rattle.std.specs.Prelude.{◌≡◌, List, ℕ, ◌+◌, ◌≤◌, ◌<◌, length, get_or};
-ghost use Rattle.std.proofs.Math.Seq.{paste};
 ghost use Rattle.table.specs.Rows.{keys, place_size, store_size};
 ghost use Rattle.pushing.specs.Push.{over, join_by, pushed_of, answer_by};
 ghost use Rattle.pushing.specs.PrivateSteps.{fragment_at, size_at, piece_bytes, pieces_to, reach_for, gap_in, compared_in, join_in, Ends};
 
-use crate::look::{find_beyond, find_numbered, find_unlike};
+use crate::look::{find_numbered, is_beyond, is_unlike};
 use crate::rows::copy;
 use crate::{Fragment, Pushed};
 use numbers::Refusal;
-use table::{PLACE_SIZE, PLACES};
+use table::{PLACE_SIZE, PLACES, Table};
 
 // What stands for the new fragment among the places: the number after `PLACES`, which stands for none.
 const NEW_PIECE: usize = PLACES + 1;
 
 // Where the piece with number k lies: in a place, `PLACES` where there is none, `NEW_PIECE` for the new fragment.
-pub(crate) fn piece_at<'a>(
-    owners: &'a [u8; PLACES],
-    numbers: &'a [u8; PLACES],
-    row: usize,
-    number: u8,
-    k: u8,
-) -> usize
+fn piece_at(t: &Table, row: usize, number: u8, k: u8) -> usize
     requires { row ≤ keys }
-    ensures { result ≡ fragment_at owners.now numbers.now row number k }
+    ensures { result ≡ fragment_at t.now.owners t.now.numbers row number k }
 {
     if k == number {
         return NEW_PIECE;
     }
-    find_numbered(owners, numbers, row as u8 + 1, k)
-}
-
-fn wide(size: u16) -> usize
-    ensures { result ≡ size }
-{
-    size as usize
+    find_numbered(t, row as u8 + 1, k)
 }
 
 // How many bytes a piece has; `size` is the new fragment's.
-pub(crate) fn size_at(sizes: &[u16; PLACES], size: usize, piece: usize) -> usize
-    ensures { result ≡ size_at sizes.now size piece }
+fn size_at(t: &Table, size: usize, piece: usize) -> usize
+    ensures { result ≡ size_at t.now.sizes size piece }
 {
     if piece < PLACES {
-        return wide(sizes[piece]);
+        t.sizes[piece] as usize
+    } else {
+        size
     }
-    size
 }
 
 // How many numbers from 0 on are there without a gap, and how many bytes their payloads have.
@@ -55,45 +43,26 @@ pub(crate) struct Reach {
     pub total: usize,
 }
 
-pub(crate) fn reach_of<'a>(
-    sizes: &'a [u16; PLACES],
-    owners: &'a [u8; PLACES],
-    numbers: &'a [u8; PLACES],
-    row: usize,
-    number: u8,
-    size: usize,
-) -> Reach
-    requires { (row ≤ keys) × (size ≤ place_size) × ((i : ℕ) → get_or sizes.now i 0 ≤ place_size) }
-    ensures { (result ≡ reach_for sizes.now owners.now numbers.now row number size) × (result.count ≤ 256) }
+fn reach_of(t: &Table, row: usize, number: u8, size: usize) -> Reach
+    requires { (row ≤ keys) × (size ≤ place_size) × ((i : ℕ) → get_or t.now.sizes i 0 ≤ place_size) }
+    ensures { (result ≡ reach_for t.now.sizes t.now.owners t.now.numbers row number size) × (result.count ≤ 256) }
 {
     let mut total: usize = 0;
-    let mut k: usize = 0;
-    while k < 256 {
-        let piece = piece_at(owners, numbers, row, number, k as u8);
+    for k in 0..256 {
+        let piece = piece_at(t, row, number, k as u8);
         if piece == PLACES {
             return Reach { count: k, total };
         }
-        total += size_at(sizes, size, piece);
-        k += 1;
+        total += size_at(t, size, piece);
     }
-    Reach { count: k, total }
+    Reach { count: 256, total }
 }
 
 // Rule T8: whether a number is there above one that is not.
-pub(crate) fn is_gapped<'a>(
-    owners: &'a [u8; PLACES],
-    numbers: &'a [u8; PLACES],
-    owner: u8,
-    number: u8,
-    count: usize,
-) -> bool
-    ensures { result ≡ gap_in owners.now numbers.now owner number count }
+fn is_gapped(t: &Table, owner: u8, number: u8, count: usize) -> bool
+    ensures { result ≡ gap_in t.now.owners t.now.numbers owner number count }
 {
-    let own = number as usize;
-    if count < own {
-        return true;
-    }
-    find_beyond(owners, numbers, owner, count) < PLACES
+    count < number as usize || is_beyond(t, owner, count)
 }
 
 // What decides the joining: the three tests of rule T8, how many numbers from 0 on are there, and how many bytes their
@@ -130,26 +99,17 @@ pub(crate) fn judge(s: Seen, room: usize) -> Result<Pushed, Refusal>
     Ok(Pushed::Joined(s.total))
 }
 
-// Copies a piece's bytes to the output, and returns where they end.
-pub(crate) fn put_piece(
-    sizes: &[u16; PLACES],
-    store: &[u8],
-    payload: &[u8],
-    piece: usize,
-    out: &mut [u8],
-    at: usize,
-) -> usize
-    requires { ((i : ℕ) → get_or sizes.now i 0 ≤ place_size) × (store_size ≤ length store.now) × (at + length (piece_bytes sizes.now store.now payload.now piece) ≤ length out.old) }
-    ensures { (result ≡ at + length (piece_bytes sizes.now store.now payload.now piece))
-        × (out.new ≡ paste out.old at (piece_bytes sizes.now store.now payload.now piece) (length (piece_bytes sizes.now store.now payload.now piece))) }
+// The bytes of a piece: in the store, or the new fragment's payload.
+#[tactic(auto, unfolding(crate::specs::PrivateSteps::piece_bytes))]
+fn bytes_of<'a>(t: &Table, store: &'a [u8], payload: &'a [u8], piece: usize) -> &'a [u8]
+    requires { ((i : ℕ) → get_or t.now.sizes i 0 ≤ place_size) × (store_size ≤ length store.now) }
+    ensures { result.now ≡ piece_bytes t.now.sizes store.now payload.now piece }
 {
     if piece < PLACES {
-        let size = wide(sizes[piece]);
-        copy(store, piece * PLACE_SIZE, size, out, at);
-        return at + size;
+        let start = piece * PLACE_SIZE;
+        return &store[start..start + t.sizes[piece] as usize];
     }
-    copy(payload, 0, payload.len(), out, at);
-    at + payload.len()
+    payload
 }
 
 // Which pieces: those with numbers below `count`, of a row's fragments and the new one.
@@ -161,26 +121,17 @@ pub(crate) struct Pieces {
 }
 
 // Rule T9: the pieces go to the start of the output, in the order of their numbers.
-pub(crate) fn join_into<'a>(
-    sizes: &'a [u16; PLACES],
-    owners: &'a [u8; PLACES],
-    numbers: &'a [u8; PLACES],
-    store: &[u8],
-    payload: &[u8],
-    p: Pieces,
-    out: &mut [u8],
-)
-    requires { (p.row ≤ keys) × ((i : ℕ) → get_or sizes.now i 0 ≤ place_size) × (store_size ≤ length store.now) × (p.count ≤ 256)
-        × (length (pieces_to sizes.now owners.now numbers.now store.now p.row p.number payload.now p.count) ≤ length out.old) }
-    ensures { out.new ≡ over (pieces_to sizes.now owners.now numbers.now store.now p.row p.number payload.now p.count) out.old }
+fn join_into(t: &Table, store: &[u8], payload: &[u8], p: Pieces, out: &mut [u8])
+    requires { (p.row ≤ keys) × ((i : ℕ) → get_or t.now.sizes i 0 ≤ place_size) × (store_size ≤ length store.now) × (p.count ≤ 256)
+        × (length (pieces_to t.now.sizes t.now.owners t.now.numbers store.now p.row p.number payload.now p.count) ≤ length out.old) }
+    ensures { out.new ≡ over (pieces_to t.now.sizes t.now.owners t.now.numbers store.now p.row p.number payload.now p.count) out.old }
 {
-    let n = p.count;
     let mut at: usize = 0;
-    let mut k: usize = 0;
-    while k < n {
-        let piece = piece_at(owners, numbers, p.row, p.number, k as u8);
-        at = put_piece(sizes, store, payload, piece, out, at);
-        k += 1;
+    for k in 0..p.count {
+        let piece = piece_at(t, p.row, p.number, k as u8);
+        let bytes = bytes_of(t, store, payload, piece);
+        copy(bytes, out, at);
+        at += bytes.len();
     }
 }
 
@@ -193,43 +144,33 @@ pub(crate) struct Compared {
     pub unlike: bool,
 }
 
-pub(crate) fn compare<'a>(
-    owners: &'a [u8; PLACES],
-    versions: &'a [u8; PLACES],
-    types: &'a [u16; PLACES],
-    row: usize,
-    f: Fragment,
-) -> Compared
+pub(crate) fn compare(t: &Table, row: usize, f: Fragment) -> Compared
     requires { row ≤ keys }
-    ensures { result ≡ compared_in owners.now versions.now types.now row f }
+    ensures { result ≡ compared_in t.now.owners t.now.versions t.now.message_types row f }
 {
-    let owner = row as u8 + 1;
-    let other = find_unlike(owners, versions, types, owner, f.version, f.message_type);
     Compared {
         row,
         number: f.number,
-        unlike: other < PLACES,
+        unlike: is_unlike(t, row as u8 + 1, f),
     }
 }
 
-// Rules T7 to T9, step 4 of push: a fragment marked last ends its key's message, unless the output is too short.
-pub(crate) fn finish<'a>(
-    sizes: &'a [u16; PLACES],
-    owners: &'a [u8; PLACES],
-    numbers: &'a [u8; PLACES],
+// Rules T7 to T9, step 4 of push: what a fragment marked last is answered. A joined message goes to the output.
+pub(crate) fn finish(
+    t: &Table,
     store: &[u8],
     payload: &[u8],
     last: Compared,
     out: &mut [u8],
 ) -> Result<Pushed, Refusal>
-    requires { (last.row ≤ keys) × ((i : ℕ) → get_or sizes.now i 0 ≤ place_size) × (store_size ≤ length store.now) × (length payload.now ≤ place_size) }
-    ensures { Ends (join_in sizes.now owners.now numbers.now store.now payload.now last (length out.old)) result out.old out.new }
+    requires { (last.row ≤ keys) × ((i : ℕ) → get_or t.now.sizes i 0 ≤ place_size) × (store_size ≤ length store.now) × (length payload.now ≤ place_size) }
+    ensures { Ends (join_in t.now.sizes t.now.owners t.now.numbers store.now payload.now last (length out.old)) result out.old out.new }
 {
     let row = last.row;
     let number = last.number;
-    let reached = reach_of(sizes, owners, numbers, row, number, payload.len());
+    let reached = reach_of(t, row, number, payload.len());
     let count = reached.count;
-    let gapped = is_gapped(owners, numbers, row as u8 + 1, number, count);
+    let gapped = is_gapped(t, row as u8 + 1, number, count);
     let seen = Seen {
         unlike: last.unlike,
         gapped,
@@ -239,8 +180,7 @@ pub(crate) fn finish<'a>(
     };
     let answer = judge(seen, out.len())?;
     if let Pushed::Joined(_) = answer {
-        let pieces = Pieces { row, number, count };
-        join_into(sizes, owners, numbers, store, payload, pieces, out);
+        join_into(t, store, payload, Pieces { row, number, count }, out);
     }
     Ok(answer)
 }

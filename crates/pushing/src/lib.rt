@@ -11,12 +11,12 @@ ghost use Rattle.std.specs.Prelude.{length};
 ghost use Rattle.pushing.specs.Push.{way, Goes};
 ghost use Rattle.pushing.specs.Made.{Made};
 
-use choose::{Step, choose};
+use choose::check_room;
 use join::{compare, finish};
 use look::look_up;
 use numbers::Refusal;
 use rows::{copy, with_fragment};
-use table::{PLACE_SIZE, Table, drop_key, totals_at};
+use table::{PLACE_SIZE, PLACES, STORE_SIZE, Table, drop_key, totals_at};
 
 // Rule T3: a fragment without its payload.
 #[repr(C)]
@@ -68,37 +68,27 @@ pub fn push_in_place(
     requires { Made t.old }
     ensures { Goes (way t.old store.old a payload.now (length out.old)) t.old store.old out.old a payload.now result t.new store.new out.new }
 {
-    let found = look_up(
-        &t.used,
-        &t.row_keys,
-        &t.owners,
-        &t.numbers,
-        a.key,
-        a.fragment.number,
-    );
-    let held = totals_at(&t.sender_keys, &t.sender_places, found.first);
-    let step = choose(found, held, store.len(), payload.len(), a.fragment.last)?;
-    match step {
-        Step::Duplicate => Ok(Pushed::DuplicatedFragment),
-        Step::Keep => {
-            let size = payload.len();
-            copy(payload, 0, size, store, found.free * PLACE_SIZE);
-            with_fragment(t, found, held, a, size);
-            Ok(Pushed::WaitingForMoreFragments)
-        }
-        Step::Join => {
-            let last = compare(
-                &t.owners,
-                &t.versions,
-                &t.message_types,
-                found.row,
-                a.fragment,
-            );
-            let answer = finish(&t.sizes, &t.owners, &t.numbers, store, payload, last, out)?;
-            drop_key(t, found.row);
-            Ok(answer)
-        }
+    if store.len() < STORE_SIZE {
+        return Err(Refusal::StoreTooSmall);
     }
+    if PLACE_SIZE < payload.len() {
+        return Err(Refusal::PayloadTooLong);
+    }
+    let found = look_up(t, a);
+    if found.place < PLACES {
+        return Ok(Pushed::DuplicatedFragment);
+    }
+    if a.fragment.last {
+        let last = compare(t, found.row, a.fragment);
+        let answer = finish(t, store, payload, last, out)?;
+        drop_key(t, found.row);
+        return Ok(answer);
+    }
+    let held = totals_at(&t.sender_keys, &t.sender_places, found.first);
+    check_room(found, held)?;
+    copy(payload, store, found.free * PLACE_SIZE);
+    with_fragment(t, found, held, a, payload.len());
+    Ok(Pushed::WaitingForMoreFragments)
 }
 
 // The same step by value. Returns the table after it, and the answer.

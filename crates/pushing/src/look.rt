@@ -1,175 +1,77 @@
-// Looking up in the table: one pass for each question, over the lists that it needs, which are lent.
-ghost use Rattle.std.specs.Prelude.{◌≡◌, not, ◌&&◌, ◌≤◌, eqb, ltb};
+// Looking up in the table: one pass for each question.
+ghost use Rattle.std.specs.Prelude.{◌≡◌, ◌≤◌, ltb};
 ghost use Rattle.keys.specs.Keys.{sender_of_lem};
-ghost use Rattle.table.specs.Rows.{keys, places, owner_of, first_row_in};
-ghost use Rattle.pushing.specs.PrivateSteps.{row_in, spare_row_in, lowest_free_in, numbered_in, unlike_in, beyond_in, looked_in_lem};
+ghost use Rattle.table.specs.Rows.{keys, places, owner_of, first_row_lem, row_of, spare_row, place_of, lowest_free};
+ghost use Rattle.pushing.specs.Push.{looked_up};
+ghost use Rattle.pushing.specs.PrivateSteps.{numbered_in, unlike_in, beyond_in};
 
+use crate::{Arrival, Fragment};
 use keys::sender_of;
-use table::{KEYS, PLACES, first_row};
-
-pub(crate) fn is_key(used: bool, own: u64, key: u64) -> bool
-    ensures { result ≡ (used && eqb own key) }
-{
-    if used { own == key } else { false }
-}
+use table::{KEYS, PLACES, Table, first_row};
 
 // The row of a key, `KEYS` where there is none. The search starts at the lowest row of the key's sender.
-pub(crate) fn find_key<'a>(
-    used: &'a [bool; KEYS],
-    row_keys: &'a [u64; KEYS],
-    first: usize,
-    key: u64,
-) -> usize
-    requires { first ≡ first_row_in used.now row_keys.now (sender_of_lem key) }
-    ensures { (result ≡ row_in used.now row_keys.now key) × (result ≤ keys) }
+fn find_key(t: &Table, first: usize, key: u64) -> usize
+    requires { first ≡ first_row_lem t.now (sender_of_lem key) }
+    ensures { result ≡ row_of t.now key }
 {
-    let mut i = first;
-    while i < KEYS {
-        if is_key(used[i], row_keys[i], key) {
-            return i;
-        }
-        i += 1;
-    }
-    i
+    (first..KEYS)
+        .find(|row| t.used[*row] && t.row_keys[*row] == key)
+        .unwrap_or(KEYS)
 }
 
 // Rule T6: the lowest free row, `KEYS` where each row has a key.
-pub(crate) fn find_spare(used: &[bool; KEYS]) -> usize
-    ensures { (result ≡ spare_row_in used.now) × (result ≤ keys) }
+fn find_spare(t: &Table) -> usize
+    ensures { result ≡ spare_row t.now }
 {
-    let mut i: usize = 0;
-    while i < KEYS {
-        if !used[i] {
-            return i;
-        }
-        i += 1;
-    }
-    i
+    (0..KEYS).find(|row| !t.used[*row]).unwrap_or(KEYS)
 }
 
 // Rule T6: the lowest free place, `PLACES` where none is free.
-pub(crate) fn find_free(owners: &[u8; PLACES]) -> usize
-    ensures { (result ≡ lowest_free_in owners.now) × (result ≤ places) }
+fn find_free(t: &Table) -> usize
+    ensures { result ≡ lowest_free t.now }
 {
-    let mut i: usize = 0;
-    while i < PLACES {
-        if owners[i] == 0 {
-            return i;
-        }
-        i += 1;
-    }
-    i
-}
-
-pub(crate) fn is_numbered(of: u8, own: u8, owner: u8, number: u8) -> bool
-    ensures { result ≡ (eqb of owner && eqb own number) }
-{
-    if of == owner { own == number } else { false }
+    (0..PLACES)
+        .find(|place| t.owners[*place] == 0)
+        .unwrap_or(PLACES)
 }
 
 // The place of an owner's fragment with this number, `PLACES` where there is none.
-pub(crate) fn find_numbered<'a>(
-    owners: &'a [u8; PLACES],
-    numbers: &'a [u8; PLACES],
-    owner: u8,
-    number: u8,
-) -> usize
-    ensures { (result ≡ numbered_in owners.now numbers.now owner number) × (result ≤ places) }
+pub(crate) fn find_numbered(t: &Table, owner: u8, number: u8) -> usize
+    ensures { result ≡ numbered_in t.now.owners t.now.numbers owner number }
 {
-    let mut i: usize = 0;
-    while i < PLACES {
-        if is_numbered(owners[i], numbers[i], owner, number) {
-            return i;
-        }
-        i += 1;
-    }
-    i
+    (0..PLACES)
+        .find(|place| t.owners[*place] == owner && t.numbers[*place] == number)
+        .unwrap_or(PLACES)
 }
 
-// Rule T8: whether a fragment is the owner's and has another version or type.
-pub(crate) fn is_unlike(
-    of: u8,
-    own_version: u8,
-    own_type: u16,
-    owner: u8,
-    version: u8,
-    message_type: u16,
-) -> bool
-    ensures { result ≡ (eqb of owner && not (eqb own_version version && eqb own_type message_type)) }
+// Rule T8: whether an owner has a fragment with another version or type than this one.
+pub(crate) fn is_unlike(t: &Table, owner: u8, f: Fragment) -> bool
+    ensures { result ≡ ltb (unlike_in t.now.owners t.now.versions t.now.message_types owner f.version f.message_type) places }
 {
-    if of == owner {
-        if own_version == version {
-            return own_type != message_type;
-        }
-        return true;
-    }
-    false
+    (0..PLACES)
+        .find(|place| {
+            t.owners[*place] == owner
+                && (t.versions[*place] != f.version || t.message_types[*place] != f.message_type)
+        })
+        .is_some()
 }
 
-// Rule T8: the lowest place of an owner's fragment with another version or type, `PLACES` where there is none.
-pub(crate) fn find_unlike<'a>(
-    owners: &'a [u8; PLACES],
-    versions: &'a [u8; PLACES],
-    types: &'a [u16; PLACES],
-    owner: u8,
-    version: u8,
-    message_type: u16,
-) -> usize
-    ensures { (result ≡ unlike_in owners.now versions.now types.now owner version message_type) × (result ≤ places) }
+// Rule T8: whether an owner has a fragment with a number above this one.
+pub(crate) fn is_beyond(t: &Table, owner: u8, number: usize) -> bool
+    ensures { result ≡ ltb (beyond_in t.now.owners t.now.numbers owner number) places }
 {
-    let mut i: usize = 0;
-    while i < PLACES {
-        if is_unlike(
-            owners[i],
-            versions[i],
-            types[i],
-            owner,
-            version,
-            message_type,
-        ) {
-            return i;
-        }
-        i += 1;
-    }
-    i
-}
-
-pub(crate) fn is_beyond(of: u8, own: u8, owner: u8, number: usize) -> bool
-    ensures { result ≡ (eqb of owner && ltb number own) }
-{
-    if of == owner {
-        let wide = own as usize;
-        return number < wide;
-    }
-    false
-}
-
-// Rule T8: the lowest place of an owner's fragment with a number above this one, `PLACES` where there is none.
-pub(crate) fn find_beyond<'a>(
-    owners: &'a [u8; PLACES],
-    numbers: &'a [u8; PLACES],
-    owner: u8,
-    number: usize,
-) -> usize
-    ensures { (result ≡ beyond_in owners.now numbers.now owner number) × (result ≤ places) }
-{
-    let mut i: usize = 0;
-    while i < PLACES {
-        if is_beyond(owners[i], numbers[i], owner, number) {
-            return i;
-        }
-        i += 1;
-    }
-    i
+    (0..PLACES)
+        .find(|place| t.owners[*place] == owner && number < t.numbers[*place] as usize)
+        .is_some()
 }
 
 // Rule T5: the place in which a row holds a number, `PLACES` where there is none. `KEYS`, a new key's row, holds none.
-fn held_at<'a>(owners: &'a [u8; PLACES], numbers: &'a [u8; PLACES], row: usize, number: u8) -> usize
-    requires { keys ≤ row → places ≤ numbered_in owners.now numbers.now (owner_of row) number }
-    ensures { result ≡ numbered_in owners.now numbers.now (owner_of row) number }
+fn held_at(t: &Table, row: usize, number: u8) -> usize
+    requires { keys ≤ row → places ≤ place_of t.now row number }
+    ensures { result ≡ place_of t.now row number }
 {
     if row < KEYS {
-        return find_numbered(owners, numbers, row as u8 + 1, number);
+        return find_numbered(t, row as u8 + 1, number);
     }
     PLACES
 }
@@ -189,22 +91,15 @@ pub(crate) struct LookedUp {
     pub first: usize,
 }
 
-pub(crate) fn look_up<'a>(
-    used: &'a [bool; KEYS],
-    row_keys: &'a [u64; KEYS],
-    owners: &'a [u8; PLACES],
-    numbers: &'a [u8; PLACES],
-    key: u64,
-    number: u8,
-) -> LookedUp
-    requires { keys ≤ row_in used.now row_keys.now key → places ≤ numbered_in owners.now numbers.now (owner_of (row_in used.now row_keys.now key)) number }
-    ensures { result ≡ looked_in_lem used.now row_keys.now owners.now numbers.now key number }
+pub(crate) fn look_up(t: &Table, a: Arrival) -> LookedUp
+    requires { keys ≤ row_of t.now a.key → places ≤ place_of t.now (row_of t.now a.key) a.fragment.number }
+    ensures { result ≡ looked_up t.now a }
 {
-    let first = first_row(used, row_keys, sender_of(key));
-    let row = find_key(used, row_keys, first, key);
-    let place = held_at(owners, numbers, row, number);
-    let free = find_free(owners);
-    let spare = find_spare(used);
+    let first = first_row(&t.used, &t.row_keys, sender_of(a.key));
+    let row = find_key(t, first, a.key);
+    let place = held_at(t, row, a.fragment.number);
+    let free = find_free(t);
+    let spare = find_spare(t);
     LookedUp {
         row,
         place,

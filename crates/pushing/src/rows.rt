@@ -1,5 +1,5 @@
 // Changes to the table's rows and places, and to the bytes that belong to them.
-ghost use Rattle.std.specs.Prelude.{◌≡◌, ◌+◌, ◌≤◌, ◌<◌, length, drop, set};
+ghost use Rattle.std.specs.Prelude.{◌≡◌, ◌+◌, ◌≤◌, ◌<◌, length, set};
 ghost use Rattle.std.proofs.Math.Seq.{paste};
 ghost use Rattle.table.specs.Rows.{keys, places, place_size, most_keys, most_places};
 ghost use Rattle.pushing.specs.PrivateSteps.{under_row_lem, kept_by_lem};
@@ -9,16 +9,12 @@ use crate::choose::under_row;
 use crate::look::LookedUp;
 use table::{KEYS, Table, Totals, lower_row};
 
-// n bytes of src, from the byte `from` on, go to dst, from the byte `at` on.
-pub(crate) fn copy(src: &[u8], from: usize, n: usize, dst: &mut [u8], at: usize)
-    requires { (from + n ≤ length src.now) × (at + n ≤ length dst.old) }
-    ensures { dst.new ≡ paste dst.old at (drop from src.now) n }
+// The bytes of src go to dst, from the byte `at` on.
+pub(crate) fn copy(src: &[u8], dst: &mut [u8], at: usize)
+    requires { at + length src.now ≤ length dst.old }
+    ensures { dst.new ≡ paste dst.old at src.now (length src.now) }
 {
-    let mut j: usize = 0;
-    while j < n {
-        dst[at + j] = src[from + j];
-        j += 1;
-    }
+    dst[at..at + src.len()].copy_from_slice(src);
 }
 
 // Rule T15: a list of totals with 0 in a row. For a row that the table does not have, it stays.

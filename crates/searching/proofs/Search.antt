@@ -8,7 +8,7 @@ use native.Mathlib.Numerals.{add-one}
 use lib.Dec.{eqb, ltb}
 use borrow.Author.Tests.{eqb-true, eqb-false, ltb-true, ltb-false, lt-ltb, le-ltb}
 use Rattle.std.specs.Prelude.{Option, Some, None, MatchOption}
-use Rattle.std.specs.Option.{unwrap_or}
+use Rattle.std.specs.Option.{unwrap_or, is_some}
 use Rattle.std.specs.declared.ops.Range.{Range}
 use Rattle.std.specs.Bool.{⊤}
 use Rattle.std.specs.Fn.{CalledAt}
@@ -115,6 +115,19 @@ module _ (test : ℕ → Bool) where
       → s.start ≤ s.end → ((k : ℕ) → k < s.start → test k ≡ false) → unwrap_or r s.end ≡ lowest test s.end
   lowest_by_find {s = s} u f r ran passes fails h before =
       lowest_from s.start s.end r h before (first_from_Range s u f r (λ i. test i ≡ true) (λ i. test i ≡ false) ran passes fails)
+
+  -- whether there is one
+  pub some_by_find : {F : Type 0} {g : Mut F (Bor ℕ × Unit {0}) Bool} {s : Range ℕ} (u : Range ℕ) (f : F) (r : Option ℕ)
+      → (xs : List ℕ) × (j : F) × YieldsThen nat_range_steps s xs r u × FoldsTo (λ p x q. CalledAt g p x false q) f xs j × MatchOption r ⊤ (λ x. (h : F) × CalledAt g j x true h)
+      → ((x : ℕ) (q : F) → CalledAt g f x true q → test x ≡ true) → ((x : ℕ) (q : F) → CalledAt g f x false q → (q ≡ f) × (test x ≡ false))
+      → s.start ≤ s.end → ((k : ℕ) → k < s.start → test k ≡ false) → is_some r ≡ ltb (lowest test s.end) s.end
+  some_by_find {s = s} u f r ran passes fails h before =
+      by_answer r (first_from_Range s u f r (λ i. test i ≡ true) (λ i. test i ≡ false) ran passes fails) (lowest_by_find u f r ran passes fails h before)
+    where
+      by_answer : (o : Option ℕ) → MatchOption o ((k : ℕ) → s.start ≤ k → k < s.end → test k ≡ false) (λ i. (s.start ≤ i) × (i < s.end) × (test i ≡ true) × ((k : ℕ) → s.start ≤ k → k < i → test k ≡ false))
+          → unwrap_or o s.end ≡ lowest test s.end → is_some o ≡ ltb (lowest test s.end) s.end
+      by_answer None at e = sym (le-ltb _ _ (omega (arith, e)))
+      by_answer (Some i) at e = sym (lt-ltb _ _ (omega (arith, e, at.1)))
 
 -- tests that agree find the same
 pub lowest_same : (p q : ℕ → Bool) (n : ℕ) → ((i : ℕ) → i < n → p i ≡ q i) → lowest p n ≡ lowest q n

@@ -57,21 +57,21 @@ pub returns-in_err-answer : goal.returns-in_err-answer
 returns-in_err-answer c =
     let a = c.args in
     let p = err_from_is_err_and c.from_residual.result c.from_residual.ensures.1 in
-    rw (p.1, p.2) (record { answers = answered a.sizes.now a.owners.now a.numbers.now a.store.now a.payload.now a.last (length a.out.now) c.reach_of-reached.result c.is_gapped-gapped.result (Err c.in_err-answer.field-0.0) c.requires.1 c.requires.2 c.reach_of-reached.ensures.0 c.is_gapped-gapped.ensures c.in_err-answer.ensures; puts = wrote a.sizes.now a.owners.now a.numbers.now a.store.now a.payload.now a.last (length a.out.now) c.reach_of-reached.result c.is_gapped-gapped.result (Err c.in_err-answer.field-0.0) c.requires.1 c.requires.2 c.reach_of-reached.ensures.0 c.is_gapped-gapped.ensures c.in_err-answer.ensures a.out.now })
+    rw (p.1, p.2) (record { answers = answered a.t.now.sizes a.t.now.owners a.t.now.numbers a.store.now a.payload.now a.last (length a.out.now) c.reach_of-reached.result c.is_gapped-gapped.result (Err c.in_err-answer.field-0.0) c.requires.1 c.requires.2 c.reach_of-reached.ensures.0 c.is_gapped-gapped.ensures c.in_err-answer.ensures; puts = wrote a.t.now.sizes a.t.now.owners a.t.now.numbers a.store.now a.payload.now a.last (length a.out.now) c.reach_of-reached.result c.is_gapped-gapped.result (Err c.in_err-answer.field-0.0) c.requires.1 c.requires.2 c.reach_of-reached.ensures.0 c.is_gapped-gapped.ensures c.in_err-answer.ensures a.out.now })
 
 pub join_into-requires : goal.join_into-requires
 join_into-requires c =
     let a = c.args in
-    let joins = puts_joined _ _ _ _ c.in-Joined.field-0 c.in-Joined.is (wrote a.sizes.now a.owners.now a.numbers.now a.store.now a.payload.now a.last (length a.out.now) c.reach_of-reached.result c.is_gapped-gapped.result (Ok c.in_ok-answer.answer) c.requires.1 c.requires.2 c.reach_of-reached.ensures.0 c.is_gapped-gapped.ensures c.in_ok-answer.ensures) in
+    let joins = puts_joined _ _ _ _ c.in-Joined.field-0 c.in-Joined.is (wrote a.t.now.sizes a.t.now.owners a.t.now.numbers a.store.now a.payload.now a.last (length a.out.now) c.reach_of-reached.result c.is_gapped-gapped.result (Ok c.in_ok-answer.answer) c.requires.1 c.requires.2 c.reach_of-reached.ensures.0 c.is_gapped-gapped.ensures c.in_ok-answer.ensures) in
     (c.requires.0, c.requires.1, c.requires.2, c.reach_of-reached.ensures.1, joins.0)
 
 pub returns-in-Joined : goal.returns-in-Joined
 returns-in-Joined c =
     let a = c.args in
-    let joins = puts_joined _ _ _ _ c.in-Joined.field-0 c.in-Joined.is (wrote a.sizes.now a.owners.now a.numbers.now a.store.now a.payload.now a.last (length a.out.now) c.reach_of-reached.result c.is_gapped-gapped.result (Ok c.in_ok-answer.answer) c.requires.1 c.requires.2 c.reach_of-reached.ensures.0 c.is_gapped-gapped.ensures c.in_ok-answer.ensures) in
-    record { answers = answered a.sizes.now a.owners.now a.numbers.now a.store.now a.payload.now a.last (length a.out.now) c.reach_of-reached.result c.is_gapped-gapped.result (Ok c.in_ok-answer.answer) c.requires.1 c.requires.2 c.reach_of-reached.ensures.0 c.is_gapped-gapped.ensures c.in_ok-answer.ensures; puts = c.join_into.ensures ∙ joins.1 a.out.now }
+    let joins = puts_joined _ _ _ _ c.in-Joined.field-0 c.in-Joined.is (wrote a.t.now.sizes a.t.now.owners a.t.now.numbers a.store.now a.payload.now a.last (length a.out.now) c.reach_of-reached.result c.is_gapped-gapped.result (Ok c.in_ok-answer.answer) c.requires.1 c.requires.2 c.reach_of-reached.ensures.0 c.is_gapped-gapped.ensures c.in_ok-answer.ensures) in
+    record { answers = answered a.t.now.sizes a.t.now.owners a.t.now.numbers a.store.now a.payload.now a.last (length a.out.now) c.reach_of-reached.result c.is_gapped-gapped.result (Ok c.in_ok-answer.answer) c.requires.1 c.requires.2 c.reach_of-reached.ensures.0 c.is_gapped-gapped.ensures c.in_ok-answer.ensures; puts = c.join_into.ensures ∙ joins.1 a.out.now }
 
 pub returns-in_default : goal.returns-in_default
 returns-in_default c =
     let a = c.args in
-    record { answers = answered a.sizes.now a.owners.now a.numbers.now a.store.now a.payload.now a.last (length a.out.now) c.reach_of-reached.result c.is_gapped-gapped.result (Ok c.in_ok-answer.answer) c.requires.1 c.requires.2 c.reach_of-reached.ensures.0 c.is_gapped-gapped.ensures c.in_ok-answer.ensures; puts = puts_none _ _ _ c.in_ok-answer.answer c.in_default.not-Joined (wrote a.sizes.now a.owners.now a.numbers.now a.store.now a.payload.now a.last (length a.out.now) c.reach_of-reached.result c.is_gapped-gapped.result (Ok c.in_ok-answer.answer) c.requires.1 c.requires.2 c.reach_of-reached.ensures.0 c.is_gapped-gapped.ensures c.in_ok-answer.ensures) a.out.now }
+    record { answers = answered a.t.now.sizes a.t.now.owners a.t.now.numbers a.store.now a.payload.now a.last (length a.out.now) c.reach_of-reached.result c.is_gapped-gapped.result (Ok c.in_ok-answer.answer) c.requires.1 c.requires.2 c.reach_of-reached.ensures.0 c.is_gapped-gapped.ensures c.in_ok-answer.ensures; puts = puts_none _ _ _ c.in_ok-answer.answer c.in_default.not-Joined (wrote a.t.now.sizes a.t.now.owners a.t.now.numbers a.store.now a.payload.now a.last (length a.out.now) c.reach_of-reached.result c.is_gapped-gapped.result (Ok c.in_ok-answer.answer) c.requires.1 c.requires.2 c.reach_of-reached.ensures.0 c.is_gapped-gapped.ensures c.in_ok-answer.ensures) a.out.now }

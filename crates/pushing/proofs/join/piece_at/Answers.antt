@@ -9,4 +9,4 @@ returns-then-k-number c = rw (eq-eqb _ _ c.if-k-number.true)
 
 pub returns : goal.returns
 unfolding fragment_at
-returns c = rw (ne_eqb _ _ c.if-k-number.false) c.find_numbered.ensures.0
+returns c = rw (ne_eqb _ _ c.if-k-number.false) c.find_numbered.ensures
