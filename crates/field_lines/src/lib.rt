@@ -41,7 +41,8 @@ fn put_byte_count(text: &mut Answers, value: &[u8]) {
     let _ = write!(text, " {count}");
 }
 
-// A value that reads, if its type is a kind's; a list has so many entries.
+// A value that reads, if its type is a kind's; a list has so many entries. A type is a byte of the message, and calls ask
+// for a kind by it: no enum has them all.
 fn put_value(rt: &impl Print, text: &mut Answers, value: Value<'_>, entries: usize) {
     match value.code {
         1 | 2 => {

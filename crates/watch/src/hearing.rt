@@ -122,7 +122,8 @@ impl Watch {
     }
 }
 
-// The same, only looked at.
+// The same, only looked at. The two loops stay two: one over a closure would lend it the whole house, and what
+// `told_window` says of the house would have to be said of that closure.
 pub(crate) fn looked_at(window: &[u8], from: usize) -> Stopped
     ensures { (result.at ≡ stop_of window.now from) × (reached_of result.reached ≡ file_step window.now (stop_of window.now from)) }
 {

@@ -15,7 +15,8 @@ pub(crate) const WINDOW: usize = 131072;
 // The file's first byte, where its numbers stand highest byte first (rule G1).
 const HIGH_FIRST: u8 = 0xA1;
 
-// The window's bytes end at `have`, and byte 24 of the window is byte `base` of the file.
+// The window's bytes end at `have`, and byte 24 of the window is byte `base` of the file. It is an array, for memory
+// doesn't grow with the file.
 #[derive(Drop)]
 pub(crate) struct Window {
     bytes: [u8; WINDOW],
