@@ -16,8 +16,8 @@ use Rattle.layouts.specs.Access.{part_of}
 use Rattle.pushing.specs.declared.Pushed.{Pushed}
 use Rattle.pushing.specs.Push.{PushAnswer, pushed_of}
 use Rattle.pushing.specs.Show.{shown}
-use Rattle.cutting.specs.declared.CuttingError.{CuttingError}
-use Rattle.cutting.specs.Cuts.{cutting_answered}
+use Rattle.walking.specs.declared.PayloadError.{PayloadError}
+use Rattle.walking.specs.Walk.{payload_answered}
 use Rattle.c_answers.specs.declared.AshlarPart.{AshlarPart}
 use Rattle.c_answers.specs.declared.AshlarPushed.{AshlarPushed}
 use Rattle.c_answers.specs.declared.AshlarShown.{AshlarShown}
@@ -34,8 +34,8 @@ pub record Firmness : Type 0 where
   pub push_numbers : (pushed : Result Pushed Refusal) → Firm (λ r. r ≡ push_numbers_lem (pushed_of pushed))
   pub shown_in : (pushed : AshlarPushed) (payload-size out-size : ℕ)
       → Firm (λ r. r ≡ shown_in_lem pushed payload-size out-size)
-  pub check_numbers : (checked : Result Bool CuttingError) → Firm (λ r. r ≡ check_numbers_lem (cutting_answered checked))
-  pub cut_numbers : (cutting : Result ℕ CuttingError) → Firm (λ r. r ≡ cut_numbers_lem (cutting_answered cutting))
+  pub check_numbers : (checked : Result Bool PayloadError) → Firm (λ r. r ≡ check_numbers_lem (payload_answered checked))
+  pub cut_numbers : (cutting : Result ℕ PayloadError) → Firm (λ r. r ≡ cut_numbers_lem (payload_answered cutting))
 
 -- Rule C1: a value that was measured crosses as the value that was read does.
 abbrev pub MeasuredAsRead : Type 0

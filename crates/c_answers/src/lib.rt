@@ -6,16 +6,15 @@ ghost use Rattle.std.specs.Prelude.{◌≡◌, ◌∷◌, Err};
 ghost use Rattle.numbers.specs.Numbers.{refuses, told, number, values, answered};
 ghost use Rattle.walking.specs.Walk.{answered_at, stepped_of};
 ghost use Rattle.pushing.specs.Push.{pushed_of};
-ghost use Rattle.cutting.specs.Cuts.{cutting_answered};
+ghost use Rattle.walking.specs.Walk.{payload_answered};
 ghost use Rattle.c_answers.specs.Numbers.{header_numbers_lem, walk_numbers_lem, tlv_at_lem, step_numbers_lem, kind_numbers_lem, found_numbers_lem, part_numbers_lem, named_as, push_numbers_lem, within_of, shown_in_lem, check_numbers_lem, cut_numbers_lem};
 
-use cutting::CuttingError;
 use framing::CmduHeader;
 use kinds::{Contents, Typed};
 use layouts::Span;
 use numbers::{Refusal, carried_by, number_of};
 use pushing::Pushed;
-use walking::{Stepped, Tlv, Unwalked, WalkCount};
+use walking::{PayloadError, Stepped, Tlv, Unwalked, WalkCount};
 
 // The header of a CMDU (rule B6). Its fields stand in their order, after the shortfall: how many bytes are missing
 // where it is refused. `last` is bit 7 of `flags`.
@@ -359,12 +358,12 @@ pub fn shown_in(pushed: AshlarPushed, payload_size: usize, out_size: usize) -> A
 // Why a message is not cut, in a walk's numbers. What a refusal without an offset carried would cross as the offset: no
 // call gives one that carries anything.
 #[tactic(auto, using(crate::proofs::OneValue::one_value))]
-fn stopped_by(error: CuttingError) -> AshlarWalk
-    ensures { result ≡ walk_numbers_lem (cutting_answered (Err error)) }
+fn stopped_by(error: PayloadError) -> AshlarWalk
+    ensures { result ≡ walk_numbers_lem (payload_answered (Err error)) }
 {
     match error {
-        CuttingError::Unwalked(stopped) => unwalked(stopped),
-        CuttingError::Refused(refusal) => AshlarWalk {
+        PayloadError::Unwalked(stopped) => unwalked(stopped),
+        PayloadError::Refused(refusal) => AshlarWalk {
             count: 0,
             padding: 0,
             at: carried_by(refusal),
@@ -375,8 +374,8 @@ fn stopped_by(error: CuttingError) -> AshlarWalk
 }
 
 // Whether fragments are a cutting of a message. What a walk over the message refuses, the checker does.
-pub fn check_numbers(checked: Result<bool, CuttingError>) -> AshlarChecked
-    ensures { result ≡ check_numbers_lem (cutting_answered checked) }
+pub fn check_numbers(checked: Result<bool, PayloadError>) -> AshlarChecked
+    ensures { result ≡ check_numbers_lem (payload_answered checked) }
 {
     match checked {
         Ok(accepted) => AshlarChecked {
@@ -398,8 +397,8 @@ pub fn check_numbers(checked: Result<bool, CuttingError>) -> AshlarChecked
 }
 
 // Into how many fragments a message is cut. What a walk over the message refuses, the cutter does.
-pub fn cut_numbers(cutting: Result<usize, CuttingError>) -> AshlarCutting
-    ensures { result ≡ cut_numbers_lem (cutting_answered cutting) }
+pub fn cut_numbers(cutting: Result<usize, PayloadError>) -> AshlarCutting
+    ensures { result ≡ cut_numbers_lem (payload_answered cutting) }
 {
     match cutting {
         Ok(count) => AshlarCutting {

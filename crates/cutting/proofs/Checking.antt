@@ -8,9 +8,10 @@ use native.Mathlib.Numerals.{add-one}
 use lib.ListN.{length, get_or, drop, drop_of_length-le}
 use lib.Seq.{drop-cons}
 use Rattle.numbers.specs.Numbers.{gives}
-use Rattle.cutting.specs.Cuts.{cutting_answered, tlvs_of, no_fragment, is_cutting_lem, check_of}
+use Rattle.cutting.specs.Cuts.{tlvs_of, no_fragment, is_cutting_lem, check_of}
+use Rattle.walking.specs.Walk.{payload_answered}
 use Rattle.cutting.specs.PrivateFollowing.{alone, before, taken_by, is_whole, follows_from}
-use Rattle.cutting.specs.declared.CuttingError.{CuttingError}
+use Rattle.walking.specs.declared.PayloadError.{PayloadError}
 use Rattle.cutting.specs.declared.Proposed.{Proposed}
 use Rattle.cutting.specs.declared.following.Reached.{Reached}
 use Rattle.cutting.proofs.Followed.{all_follow}
@@ -35,7 +36,7 @@ module _ (m : List ℕ) (fs : List Proposed) (ps : List ℕ) where
         ap gives all ∙ with_tlvs (tlvs_of m) (is_cutting_lem m ps fs) whole
 
   -- the message's own refusal
-  pub refused : (error : CuttingError) → cutting_answered {A = Unit {0}} (Err error) ≡ alone m → cutting_answered (Err error) ≡ check_of m fs ps
+  pub refused : (error : PayloadError) → payload_answered {A = Unit {0}} (Err error) ≡ alone m → payload_answered (Err error) ≡ check_of m fs ps
   unfolding check_of
-  refused (CuttingError.Unwalked u) e = without_tlvs (tlvs_of m) (is_cutting_lem m ps fs) _ _ e
-  refused (CuttingError.Refused r) e = without_tlvs (tlvs_of m) (is_cutting_lem m ps fs) _ _ e
+  refused (PayloadError.Unwalked u) e = without_tlvs (tlvs_of m) (is_cutting_lem m ps fs) _ _ e
+  refused (PayloadError.Refused r) e = without_tlvs (tlvs_of m) (is_cutting_lem m ps fs) _ _ e

@@ -6,12 +6,12 @@ use Rattle.cutting.specs.Cuts.{check_of}
 use Rattle.cutting.specs.Greedy.{cut_into, with_ends}
 use Rattle.cutting.specs.Claims.{Firmness, Claims}
 use Rattle.cutting.proofs.Exactly.{always_passes, none_exactly, fewest_of_all, none_cut}
-use Rattle.cutting.proofs.Firm.{by_cutting}
+use Rattle.walking.proofs.Firm.{by_payload_answer}
 
 firmness : Firmness
 firmness = record {
-  check = λ message fragments payloads. by_cutting (check_of message fragments payloads);
-  cut = λ message list. both _ _ (by_cutting (mapped length (cut_into message (length list)))) (by_equation (with_ends (cut_into message (length list)) list));
+  check = λ message fragments payloads. by_payload_answer (check_of message fragments payloads);
+  cut = λ message list. both _ _ (by_payload_answer (mapped length (cut_into message (length list)))) (by_equation (with_ends (cut_into message (length list)) list));
 }
 
 pub claims : Claims

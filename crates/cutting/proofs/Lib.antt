@@ -5,7 +5,6 @@ pub mod Claims
 pub mod Exactly
 pub mod Fewest
 pub mod Filled
-pub mod Firm
 pub mod Followed
 pub mod Headed
 pub mod Opened

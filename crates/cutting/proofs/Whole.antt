@@ -14,8 +14,9 @@ use Rattle.walking.specs.declared.WalkCount.{WalkCount}
 use Rattle.walking.specs.Walk.{walk_of, counted}
 use Rattle.walking.specs.Pieces.{pieces}
 use Rattle.walking.proofs.Listed.{ended_with, ended_by}
-use Rattle.cutting.specs.Cuts.{cutting_answered, tlvs_of, is_tlvs_lem}
-use Rattle.cutting.specs.declared.CuttingError.{CuttingError}
+use Rattle.cutting.specs.Cuts.{tlvs_of, is_tlvs_lem}
+use Rattle.walking.specs.Walk.{payload_answered}
+use Rattle.walking.specs.declared.PayloadError.{PayloadError}
 use Rattle.cutting.specs.PrivateFollowing.{alone}
 
 module _ (m : List ℕ) where
@@ -67,13 +68,13 @@ module _ (m : List ℕ) where
       by_given (gives ts) e = refl
       by_given (refuses n vs) e = never _ _ _ e
 
-  pub no_tlvs : (error : CuttingError) → cutting_answered {A = Unit {0}} (Err error) ≡ alone m → false ≡ is_tlvs_lem m
+  pub no_tlvs : (error : PayloadError) → payload_answered {A = Unit {0}} (Err error) ≡ alone m → false ≡ is_tlvs_lem m
   unfolding is_tlvs_lem
   no_tlvs error e = by_case error (tlvs_of m) e
     where
-      by_case : (error : CuttingError) (a : Answer (List (List ℕ))) → cutting_answered {A = Unit {0}} (Err error) ≡ mapped (λ tlvs. tt {0}) a → false ≡ (is_given a && ltb 0 (length m))
-      by_case (CuttingError.Unwalked u) (gives ts) e = never _ _ _ (sym e)
-      by_case (CuttingError.Refused r) (gives ts) e = never _ _ _ (sym e)
+      by_case : (error : PayloadError) (a : Answer (List (List ℕ))) → payload_answered {A = Unit {0}} (Err error) ≡ mapped (λ tlvs. tt {0}) a → false ≡ (is_given a && ltb 0 (length m))
+      by_case (PayloadError.Unwalked u) (gives ts) e = never _ _ _ (sym e)
+      by_case (PayloadError.Refused r) (gives ts) e = never _ _ _ (sym e)
       by_case error (refuses n vs) e = refl
 
 -- what is said of the message alone is said of what is asked of it besides

@@ -4,18 +4,19 @@ use mathlib.Core.List.{List, [], ◌∷◌, map, flatten}
 use Rattle.numbers.specs.Numbers.{gives, refuses, mapped}
 use Rattle.numbers.specs.Firmness.{Firm}
 use Rattle.walking.specs.Pieces.{pieces}
-use Rattle.cutting.specs.Cuts.{tlvs_of, payload_in, cutting_answered, check_of}
+use Rattle.cutting.specs.Cuts.{tlvs_of, payload_in, check_of}
+use Rattle.walking.specs.Walk.{payload_answered}
 use Rattle.cutting.specs.Greedy.{cut_into, with_ends}
 use Rattle.cutting.specs.declared.Proposed.{Proposed}
-use Rattle.cutting.specs.declared.CuttingError.{CuttingError}
+use Rattle.walking.specs.declared.PayloadError.{PayloadError}
 
 -- Rule A4, for each public call by its name: any two outcomes that its contract allows are one.
 pub record Firmness : Type 0 where
   pub check : (message : List ℕ) (fragments : List Proposed) (payloads : List ℕ)
-      → Firm (λ r. cutting_answered r ≡ check_of message fragments payloads)
+      → Firm (λ r. payload_answered r ≡ check_of message fragments payloads)
   -- the answer, and what the list holds
   pub cut : (message list : List ℕ)
-      → Firm {A = Result ℕ CuttingError × List ℕ} (λ o. (cutting_answered o.0 ≡ mapped length (cut_into message (length list))) × (o.1 ≡ with_ends (cut_into message (length list)) list))
+      → Firm {A = Result ℕ PayloadError × List ℕ} (λ o. (payload_answered o.0 ≡ mapped length (cut_into message (length list))) × (o.1 ≡ with_ends (cut_into message (length list)) list))
 
 -- Rule M5: how ends become fragments, from this number and this offset on. Each begins where the one before it ends,
 -- and only the final one is marked last. Their payloads are parts of the message itself.

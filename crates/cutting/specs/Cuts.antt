@@ -1,13 +1,12 @@
 -- What fragments cut a message (rules M1 to M4).
-use Rattle.std.specs.Prelude.{Bool, true, false, cond, ◌&&◌, ◌||◌, ℕ, ◌+◌, eqb, leb, ltb, length, take, drop, get_or, Result, Ok, Err}
+use Rattle.std.specs.Prelude.{Bool, true, false, cond, ◌&&◌, ◌||◌, ℕ, ◌+◌, eqb, leb, ltb, length, take, drop, get_or}
 use Rattle.std.specs.Bool.{beq}
 use mathlib.Core.List.{List, [], ◌∷◌, map, flatten}
-use Rattle.numbers.specs.Numbers.{Answer, gives, refuses, told, number, values, and_then, mapped, is_given}
+use Rattle.numbers.specs.Numbers.{Answer, gives, refuses, and_then, mapped, is_given}
 use Rattle.numbers.specs.Bytes.{is_same_lem}
 use Rattle.walking.specs.Walk.{walk_of}
 use Rattle.walking.specs.Pieces.{pieces}
 use Rattle.cutting.specs.declared.Proposed.{Proposed}
-use Rattle.cutting.specs.declared.CuttingError.{CuttingError}
 
 -- Rule M1: the TLVs of a message, each as its bytes. Where the walk refuses the message, so it is refused here, with
 -- the offset of the TLV that failed. Bytes after the marker: 4.
@@ -66,12 +65,6 @@ is_cutting_lem message payloads fs =
     && leb (length fs) most_fragments
     && each_from (is_fragment message payloads (length fs) (get_or fs 0 no_fragment)) 0 fs
     && is_same_lem (flatten (map (payload_in payloads) fs)) message
-
--- What each answer of `check` and `cut` says. A walk's refusal carries an offset in front of its values.
-abbrev pub cutting_answered : {A : Type 0} → Result A CuttingError → Answer A
-cutting_answered (Ok a) = gives a
-cutting_answered (Err (CuttingError.Unwalked u)) = refuses (number u.refusal) (u.at ∷ values u.refusal)
-cutting_answered (Err (CuttingError.Refused r)) = told r
 
 -- Rule M4: the message's own refusals come first, whatever the fragments are. Then the answer is whether they are a
 -- cutting of it.

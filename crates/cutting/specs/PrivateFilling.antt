@@ -1,8 +1,9 @@
 -- What the cutter's private steps promise each other. No contract of a public call cites these.
 use Rattle.std.specs.Prelude.{cond, List, [], ℕ, ◌+◌, ◌-◌, eqb, leb, ltb, take, slice_set, Option, Some, None, Result, Ok, Err}
 use Rattle.numbers.specs.Numbers.{Answer, gives, refuses}
-use Rattle.cutting.specs.Cuts.{cutting_answered, longest_payload}
-use Rattle.cutting.specs.declared.CuttingError.{CuttingError}
+use Rattle.cutting.specs.Cuts.{longest_payload}
+use Rattle.walking.specs.Walk.{payload_answered}
+use Rattle.walking.specs.declared.PayloadError.{PayloadError}
 use Rattle.cutting.specs.declared.filling.Planned.{Planned}
 use Rattle.cutting.specs.declared.filling.Open.{Open}
 
@@ -28,6 +29,6 @@ unfoldable pub answer_for_lem : Option Open → (padding room : ℕ) → Answer 
 answer_for_lem o padding room = cond (eqb padding 0) (places_for o room) (refuses 4 [])
 
 -- the ends that go into the list
-abbrev pub planned_of : Result Planned CuttingError → Answer (List ℕ)
+abbrev pub planned_of : Result Planned PayloadError → Answer (List ℕ)
 planned_of (Ok p) = gives (take p.count p.ends)
-planned_of (Err e) = cutting_answered (Err e)
+planned_of (Err e) = payload_answered (Err e)

@@ -5,9 +5,8 @@ ghost use Rattle.cutting.specs.Cuts.{most_fragments};
 ghost use Rattle.cutting.specs.Greedy.{cut_into};
 ghost use Rattle.cutting.specs.PrivateFilling.{with_tlv_lem, ends_with, answer_for_lem, planned_of};
 
-use crate::CuttingError;
 use numbers::Refusal;
-use walking::Stepped;
+use walking::{PayloadError, Stepped};
 
 // Rule M3: the longest payload of a fragment, and the most fragments of a message.
 pub(crate) const LONGEST_PAYLOAD: usize = 1492;
@@ -86,7 +85,7 @@ pub(crate) struct Planned {
 
 // Walks the message once. At every step `ends` has the ends of the fragments that are full, and then where the open one
 // ends so far.
-pub(crate) fn plan(message: &[u8], room: usize) -> Result<Planned, CuttingError>
+pub(crate) fn plan(message: &[u8], room: usize) -> Result<Planned, PayloadError>
     ensures ends { planned_of result ≡ cut_into message.now room }
     ensures few { IfOk result (λ p. (p.count ≤ most_fragments) × (p.count ≤ room)) }
 {

@@ -1,19 +1,21 @@
 // Following fragments through a message, one after the other (rules M3 and M4).
 ghost use Rattle.std.specs.Prelude.{◌≡◌, Bool, ◌&&◌, ◌||◌, ◌+◌, eqb, leb};
 ghost use Rattle.std.specs.Bool.{beq};
-ghost use Rattle.cutting.specs.Cuts.{most_fragments, cutting_answered, is_tlvs_lem, is_alike_lem};
+ghost use Rattle.cutting.specs.Cuts.{most_fragments, is_tlvs_lem, is_alike_lem};
+ghost use Rattle.walking.specs.Walk.{payload_answered};
 ghost use Rattle.cutting.specs.PrivateFollowing.{alone, goes_on_lem, is_headed_lem, is_carried_lem, before, taken_by, is_whole};
 
+use crate::Proposed;
 use crate::filling::{LONGEST_PAYLOAD, MOST_FRAGMENTS};
-use crate::{CuttingError, Proposed};
 use numbers::Refusal;
+use walking::PayloadError;
 
 // Is the message whole TLVs and nothing else (rule M1)? The walk may refuse it, or bytes follow the marker.
-pub(crate) fn whole(message: &[u8]) -> Result<(), CuttingError>
-    ensures { cutting_answered result ≡ alone message.now }
+pub(crate) fn whole(message: &[u8]) -> Result<(), PayloadError>
+    ensures { payload_answered result ≡ alone message.now }
 {
     if walking::walk(message)?.padding != 0 {
-        return Err(CuttingError::Refused(Refusal::LeftOver));
+        return Err(PayloadError::Refused(Refusal::LeftOver));
     }
     Ok(())
 }

@@ -6,14 +6,14 @@ mod following;
 
 ghost use Rattle.std.specs.Prelude.{◌≡◌, length};
 ghost use Rattle.numbers.specs.Numbers.{mapped};
-ghost use Rattle.cutting.specs.Cuts.{cutting_answered, check_of};
+ghost use Rattle.cutting.specs.Cuts.{check_of};
+ghost use Rattle.walking.specs.Walk.{payload_answered};
 ghost use Rattle.cutting.specs.Greedy.{cut_into, with_ends};
-ghost use Rattle.cutting.specs.declared.CuttingError.{CuttingError};
 
 use filling::plan;
 use following::{Lent, begin, follow, is_whole, whole};
 use numbers::Refusal;
-use walking::Unwalked;
+use walking::PayloadError;
 
 // A fragment that is proposed (rule M2). Its payload is the part of the lent payloads that begins at `start` and has
 // `length` bytes.
@@ -29,35 +29,11 @@ pub struct Proposed {
     pub length: usize,
 }
 
-// Why a message is not cut and no cutting of it is checked: the walk refuses it, at the offset of the TLV that failed,
-// or the refusal has no offset.
-#[derive(Clone, Copy)]
-pub enum CuttingError {
-    Unwalked(Unwalked),
-    Refused(Refusal),
-}
-
-impl From<Unwalked> for CuttingError {
-    ghost from_gives = { λ u e. e ≡ CuttingError.Unwalked u };
-
-    fn from(unwalked: Unwalked) -> CuttingError {
-        CuttingError::Unwalked(unwalked)
-    }
-}
-
-impl From<Refusal> for CuttingError {
-    ghost from_gives = { λ r e. e ≡ CuttingError.Refused r };
-
-    fn from(refusal: Refusal) -> CuttingError {
-        CuttingError::Refused(refusal)
-    }
-}
-
 // Checks how others cut a message (rule M4): whether these fragments, of any number, are a cutting of it, or why the
 // message itself is refused. Each payload is a part of the lent payloads, so that nothing is copied. One that lies
 // outside them is not accepted.
-pub fn check(message: &[u8], fragments: &[Proposed], payloads: &[u8]) -> Result<bool, CuttingError>
-    ensures { cutting_answered result ≡ check_of message.now fragments.now payloads.now }
+pub fn check(message: &[u8], fragments: &[Proposed], payloads: &[u8]) -> Result<bool, PayloadError>
+    ensures { payload_answered result ≡ check_of message.now fragments.now payloads.now }
 {
     whole(message)?;
     let lent = Lent { message, payloads };
@@ -71,8 +47,8 @@ pub fn check(message: &[u8], fragments: &[Proposed], payloads: &[u8]) -> Result<
 // Cuts a message (rule M5): fills each fragment as far as whole TLVs go, and writes to the list where each one ends,
 // offsets in the message that rise. Nothing is written before the whole message has been walked, so that a refusal
 // changes nothing in the list (rule A3).
-pub fn cut(message: &[u8], ends: &mut [usize]) -> Result<usize, CuttingError>
-    ensures { (cutting_answered result ≡ mapped length (cut_into message.now (length ends.old)))
+pub fn cut(message: &[u8], ends: &mut [usize]) -> Result<usize, PayloadError>
+    ensures { (payload_answered result ≡ mapped length (cut_into message.now (length ends.old)))
         × (ends.new ≡ with_ends (cut_into message.now (length ends.old)) ends.old) }
 {
     let planned = plan(message, ends.len())?;

@@ -8,7 +8,7 @@ ghost use Rattle.std.specs.Prelude.{◌≤◌, IfSome};
 
 use answer_lines::Answers;
 use command_lines::Line;
-use cutting::CuttingError;
+use walking::PayloadError;
 
 // Which field of a line has the command's bytes, for the letters of these commands.
 pub fn field_of_bytes(letter: u8) -> Option<usize>
@@ -21,7 +21,7 @@ pub fn field_of_bytes(letter: u8) -> Option<usize>
     }
 }
 
-fn answered(line: &Line, bytes: &[u8], text: &mut Answers) -> Result<(), CuttingError> {
+fn answered(line: &Line, bytes: &[u8], text: &mut Answers) -> Result<(), PayloadError> {
     match line.letter() {
         b'q' => proposals::check(&line.pieces(2, b','), line.size(1), bytes, text),
         _ => cutter::cut(bytes, line.size(1), text),
@@ -32,9 +32,9 @@ fn answered(line: &Line, bytes: &[u8], text: &mut Answers) -> Result<(), Cutting
 pub fn answer(line: &Line, bytes: &[u8], text: &mut Answers) {
     match answered(line, bytes, text) {
         Ok(()) => {}
-        Err(CuttingError::Unwalked(unwalked)) => {
+        Err(PayloadError::Unwalked(unwalked)) => {
             text.put_refused_at(unwalked.refusal, unwalked.at);
         }
-        Err(CuttingError::Refused(refusal)) => text.put_refused(refusal),
+        Err(PayloadError::Refused(refusal)) => text.put_refused(refusal),
     }
 }

@@ -1,8 +1,9 @@
 // The command q: whether the fragments that it proposes are a cutting of a message (rule M4).
 use answer_lines::Answers;
 use command_lines::Line;
-use cutting::{CuttingError, Proposed};
+use cutting::Proposed;
 use std::array;
+use walking::PayloadError;
 
 // The most fragments that a command proposes.
 const MOST: usize = 12;
@@ -26,7 +27,7 @@ pub(crate) fn check(
     size: usize,
     bytes: &[u8],
     text: &mut Answers,
-) -> Result<(), CuttingError> {
+) -> Result<(), PayloadError> {
     let mut start: usize = 0;
     let fragments: [Proposed; MOST] = array::from_fn(|i| {
         let fragment = fragment_of(&pieces.pieces(i, b':'), start);

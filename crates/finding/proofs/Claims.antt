@@ -1,8 +1,7 @@
 -- The claims of specs/Claims.antt, proved.
-use Rattle.numbers.proofs.Firm.{by_answer, by_telling}
-use Rattle.finding.specs.Finding.{searched_of}
+use Rattle.numbers.proofs.Firm.{by_answer}
 use Rattle.finding.specs.Claims.{Firmness, OverAWalk, Claims}
-use Rattle.finding.proofs.Firm.{searched_one}
+use Rattle.walking.proofs.Firm.{by_payload_answer}
 use Rattle.finding.proofs.First.{is_first, none_there}
 use Rattle.finding.proofs.All.{every_one}
 use Rattle.finding.proofs.OfWalk as walk
@@ -13,8 +12,8 @@ firmness : Firmness
 firmness = record {
   find = λ list payload code from. by_answer _;
   find_place = λ list payload code from. by_answer _;
-  find_in_payload = λ payload code from. by_telling searched_of searched_one _;
-  find_onward = λ payload code offset looked. by_telling searched_of searched_one _;
+  find_in_payload = λ payload code from. by_payload_answer _;
+  find_onward = λ payload code offset looked. by_payload_answer _;
 }
 
 over_a_walk : OverAWalk

@@ -1,6 +1,5 @@
 pub mod All
 pub mod Claims
-pub mod Firm
 pub mod First
 pub mod Looking
 pub mod OfWalk

@@ -13,14 +13,15 @@ use Rattle.walking.specs.declared.WalkCount.{WalkCount}
 use Rattle.walking.specs.Walk.{is_marker_lem, walk_of, filled, no_tlv, offset_at}
 use Rattle.finding.specs.declared.Hit.{Hit}
 use Rattle.finding.specs.declared.Sought.{Sought}
-use Rattle.finding.specs.Finding.{searched_of, if_given, is_there_lem, reads_as_lem, with_next, find_from, find_in_payload_lem, find_onward_lem}
+use Rattle.finding.specs.Finding.{if_given, is_there_lem, reads_as_lem, with_next, find_from, find_in_payload_lem, find_onward_lem}
+use Rattle.walking.specs.Walk.{payload_answered}
 
 -- Rule A4: for each public call, by its name, any two answers that its contract allows are one.
 pub record Firmness : Type 0 where
   pub find : (list : List Tlv) (payload : List ℕ) (code from : ℕ) → Firm (λ r. answered r ≡ find_from code list payload from)
   pub find_place : (list : List Tlv) (payload : List ℕ) (code from : ℕ) → Firm (λ r. answered r ≡ mapped (λ h. h.looked) (find_from code list payload from))
-  pub find_in_payload : (payload : List ℕ) (code from : ℕ) → Firm (λ r. searched_of r ≡ find_in_payload_lem code payload from)
-  pub find_onward : (payload : List ℕ) (code offset looked : ℕ) → Firm (λ r. searched_of r ≡ find_onward_lem code payload offset looked)
+  pub find_in_payload : (payload : List ℕ) (code from : ℕ) → Firm (λ r. payload_answered r ≡ find_in_payload_lem code payload from)
+  pub find_onward : (payload : List ℕ) (code offset looked : ℕ) → Firm (λ r. payload_answered r ≡ find_onward_lem code payload offset looked)
 
 -- Rule F1: what is found is the first that reads, and where none is found none reads. This is said by places from 0,
 -- without the definition's recursion: the place is one less than the number of those that were looked at.

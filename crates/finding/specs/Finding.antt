@@ -1,8 +1,8 @@
 -- Finding (rules F1 to F5): the first TLV record that has the code of the kind, lies inside the payload, and whose
 -- value reads.
-use Rattle.std.specs.Prelude.{Bool, true, false, cond, List, [], ◌∷◌, ℕ, ◌+◌, eqb, leb, ltb, length, take, drop, Result, Ok, Err}
+use Rattle.std.specs.Prelude.{Bool, true, false, cond, List, [], ◌∷◌, ℕ, ◌+◌, eqb, leb, ltb, length, take, drop}
 use Rattle.std.proofs.Math.Option.{Option, none, some}
-use Rattle.numbers.specs.Numbers.{Answer, gives, refuses, told, number, values, and_then, mapped}
+use Rattle.numbers.specs.Numbers.{Answer, gives, refuses, and_then, mapped}
 use Rattle.records.specs.declared.Record.{Record}
 use Rattle.kinds.specs.declared.Typed.{Typed}
 use Rattle.kinds.specs.Kinds.{is_kind_lem, read_kind_lem}
@@ -11,7 +11,6 @@ use Rattle.walking.specs.Steps.{Walk}
 use Rattle.walking.specs.Walk.{is_marker_lem, walk_of, walk_on}
 use Rattle.finding.specs.declared.Hit.{Hit}
 use Rattle.finding.specs.declared.Sought.{Sought}
-use Rattle.finding.specs.declared.SearchError.{SearchError}
 
 -- Rule F2: a record that has the code and lies inside a payload of this size. The sum is one of whole numbers.
 abbrev pub is_candidate_lem : ℕ → ℕ → Tlv → Bool
@@ -54,12 +53,6 @@ found_or none other = other
 unfoldable pub find_from : ℕ → List Tlv → List ℕ → ℕ → Answer Hit
 find_from code tlvs payload from =
     cond (is_kind_lem code) (found_or (first_of code payload from (drop from tlvs)) (refuses 15 (length tlvs ∷ []))) (refuses 16 [])
-
--- What each answer of `find_in_payload` and of `find_onward` says. A walk's refusal comes with its offset.
-abbrev pub searched_of : {A : Type 0} → Result A SearchError → Answer A
-searched_of (Ok a) = gives a
-searched_of (Err (SearchError.Unwalked u)) = refuses (number u.refusal) (u.at ∷ values u.refusal)
-searched_of (Err (SearchError.Refused r)) = told r
 
 -- Rule F5: the offset after a TLV. After the marker the message has no TLV: it is the payload's end.
 abbrev pub offset_after : List ℕ → Tlv → ℕ

@@ -8,10 +8,11 @@ use Rattle.kinds.specs.Kinds.{is_kind_lem}
 use Rattle.walking.specs.declared.Tlv.{Tlv}
 use Rattle.walking.specs.Steps.{Walk}
 use Rattle.finding.specs.declared.Spot.{Spot}
-use Rattle.finding.specs.declared.SearchError.{SearchError}
+use Rattle.walking.specs.declared.PayloadError.{PayloadError}
 use Rattle.finding.specs.declared.Hit.{Hit}
 use Rattle.finding.specs.declared.Sought.{Sought}
-use Rattle.finding.specs.Finding.{searched_of, reads_as_lem, there_or, first_of, found_or, with_next}
+use Rattle.finding.specs.Finding.{reads_as_lem, there_or, first_of, found_or, with_next}
+use Rattle.walking.specs.Walk.{payload_answered}
 
 -- what is refused where nothing was found among so many records
 abbrev pub none_of_lem : {A : Type 0} → ℕ → ℕ → Answer A
@@ -26,9 +27,9 @@ abbrev pub going_on_lem : ℕ → Hit → Sought
 going_on_lem next h = record { hit = h; next = next }
 
 -- what the end of a search is answered by
-abbrev pub spot_as : ℕ → List ℕ → Result Spot SearchError → Answer Sought
+abbrev pub spot_as : ℕ → List ℕ → Result Spot PayloadError → Answer Sought
 spot_as code payload (Ok s) = mapped (going_on_lem s.next) (looked_as (reads_as_lem code payload s.tlv) s.looked s.tlv)
-spot_as code payload (Err e) = searched_of (Err e)
+spot_as code payload (Err e) = payload_answered (Err e)
 
 -- the first of these TLVs that reads, from the place `from` on; as many stand in front of them as `before` says
 abbrev pub rest_of : ℕ → List ℕ → ℕ → ℕ → List Tlv → Option Hit

@@ -4,14 +4,14 @@
 ghost use Rattle.std.specs.Prelude.{◌≡◌, cond, false, ltb, ℕ, ◌+◌, ◌≤◌, length};
 ghost use Rattle.numbers.specs.Numbers.{told, answered, mapped};
 ghost use Rattle.walking.specs.Walk.{walk_on};
-ghost use Rattle.finding.specs.declared.SearchError.{SearchError};
-ghost use Rattle.finding.specs.Finding.{searched_of, is_candidate_lem, value_of, reads_as_lem, is_there_lem, find_from, find_in_payload_lem, find_onward_lem};
+ghost use Rattle.finding.specs.Finding.{is_candidate_lem, value_of, reads_as_lem, is_there_lem, find_from, find_in_payload_lem, find_onward_lem};
+ghost use Rattle.walking.specs.Walk.{payload_answered};
 ghost use Rattle.finding.specs.Private.{none_of_lem, looked_as, spot_as, sought_in};
 
 use kinds::Typed;
 use numbers::Refusal;
 use records::Record;
-use walking::{Stepped, Tlv, Unwalked};
+use walking::{PayloadError, Stepped, Tlv};
 
 // How many records were looked at, the one that was found included: that is its place in the list counted from 1, and
 // where a search for the next one starts. Then the record, and what its value reads as (rule F1).
@@ -28,30 +28,6 @@ pub struct Hit {
 pub struct Sought {
     pub hit: Hit,
     pub next: usize,
-}
-
-// Why a search through a payload finds nothing. Where the walk or a step refuses the payload, its refusal is returned
-// with the offset of the TLV that failed.
-#[derive(Clone, Copy)]
-pub enum SearchError {
-    Unwalked(Unwalked),
-    Refused(Refusal),
-}
-
-impl From<Unwalked> for SearchError {
-    ghost from_gives = { λ stopped error. error ≡ SearchError.Unwalked stopped };
-
-    fn from(stopped: Unwalked) -> SearchError {
-        SearchError::Unwalked(stopped)
-    }
-}
-
-impl From<Refusal> for SearchError {
-    ghost from_gives = { λ refusal error. error ≡ SearchError.Refused refusal };
-
-    fn from(refusal: Refusal) -> SearchError {
-        SearchError::Refused(refusal)
-    }
 }
 
 // A readable TLV of the kind that a search through a payload came to: how many TLVs were looked at, it included, and
@@ -167,7 +143,7 @@ fn search(
     offset: usize,
     before: usize,
     from: usize,
-) -> Result<Spot, SearchError>
+) -> Result<Spot, PayloadError>
     requires { before ≤ offset }
     ensures { spot_as code payload.now result ≡ sought_in code payload.now from before (walk_on payload.now offset) }
 {
@@ -176,7 +152,7 @@ fn search(
     loop {
         match walking::step(payload, at)? {
             Stepped::End => {
-                return Err(SearchError::Refused(Refusal::NotFound(looked)));
+                return Err(PayloadError::Refused(Refusal::NotFound(looked)));
             }
             Stepped::Tlv { tlv, next } => {
                 let sought = is_sought(tlv, payload, code, looked, from);
@@ -193,7 +169,7 @@ fn search(
                     let next = payload.len();
                     return Ok(Spot { looked, tlv, next });
                 }
-                return Err(SearchError::Refused(Refusal::NotFound(looked)));
+                return Err(PayloadError::Refused(Refusal::NotFound(looked)));
             }
         }
     }
@@ -206,9 +182,9 @@ fn search_on(
     offset: usize,
     before: usize,
     from: usize,
-) -> Result<Sought, SearchError>
+) -> Result<Sought, PayloadError>
     requires { before ≤ offset }
-    ensures { searched_of result ≡ sought_in code payload.now from before (walk_on payload.now offset) }
+    ensures { payload_answered result ≡ sought_in code payload.now from before (walk_on payload.now offset) }
 {
     let spot = search(payload, code, offset, before, from)?;
     let hit = look(spot.tlv, payload, code, spot.looked)?;
@@ -220,11 +196,11 @@ fn search_on(
 
 // The same without a list (rule F4): the first readable TLV of the kind in a payload, after its first `from` TLVs. The
 // whole payload is walked first.
-pub fn find_in_payload(payload: &[u8], code: u8, from: usize) -> Result<Sought, SearchError>
-    ensures { searched_of result ≡ find_in_payload_lem code payload.now from }
+pub fn find_in_payload(payload: &[u8], code: u8, from: usize) -> Result<Sought, PayloadError>
+    ensures { payload_answered result ≡ find_in_payload_lem code payload.now from }
 {
     if !kinds::is_kind(code) {
-        return Err(SearchError::Refused(Refusal::UnknownKind));
+        return Err(PayloadError::Refused(Refusal::UnknownKind));
     }
     walking::walk(payload)?;
     search_on(payload, code, 0, 0, from)
@@ -239,11 +215,11 @@ pub fn find_onward(
     code: u8,
     offset: usize,
     looked: usize,
-) -> Result<Sought, SearchError>
-    ensures { searched_of result ≡ find_onward_lem code payload.now offset looked }
+) -> Result<Sought, PayloadError>
+    ensures { payload_answered result ≡ find_onward_lem code payload.now offset looked }
 {
     if !kinds::is_kind(code) {
-        return Err(SearchError::Refused(Refusal::UnknownKind));
+        return Err(PayloadError::Refused(Refusal::UnknownKind));
     }
     search_on(payload, code, offset, looked.min(offset), 0)
 }

@@ -1,7 +1,8 @@
 // The commands of finding in a payload (rules F4 and F5): d and D.
 use answer_lines::{Answers, Tally};
-use finding::{Hit, SearchError, Sought};
+use finding::{Hit, Sought};
 use numbers::Refusal;
+use walking::PayloadError;
 
 // No payload has as many TLVs.
 const TURNS: usize = 30000;
@@ -21,7 +22,7 @@ pub(crate) fn put_hit(hit: Hit, payload: &[u8], text: &mut Answers) {
 }
 
 // d: the first readable one. An unknown kind comes before a walk's refusal (rule F4).
-pub(crate) fn first(payload: &[u8], code: u8, text: &mut Answers) -> Result<(), SearchError> {
+pub(crate) fn first(payload: &[u8], code: u8, text: &mut Answers) -> Result<(), PayloadError> {
     let sought = finding::find_in_payload(payload, code, 0)?;
     put_hit(sought.hit, payload, text);
     Ok(())
@@ -42,10 +43,10 @@ fn all_hits(payload: &[u8], code: u8, first: Sought) -> Tally {
 }
 
 // D: every readable one. Where nothing is found, the search is not refused.
-pub(crate) fn every(payload: &[u8], code: u8, text: &mut Answers) -> Result<(), SearchError> {
+pub(crate) fn every(payload: &[u8], code: u8, text: &mut Answers) -> Result<(), PayloadError> {
     let all = match finding::find_in_payload(payload, code, 0) {
         Ok(first) => all_hits(payload, code, first),
-        Err(SearchError::Refused(Refusal::NotFound(_))) => Tally::new(),
+        Err(PayloadError::Refused(Refusal::NotFound(_))) => Tally::new(),
         Err(error) => return Err(error),
     };
     text.put_tally(all);

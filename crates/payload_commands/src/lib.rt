@@ -9,7 +9,7 @@ ghost use Rattle.std.specs.Prelude.{◌≤◌, IfSome};
 
 use answer_lines::Answers;
 use command_lines::Line;
-use finding::SearchError;
+use walking::PayloadError;
 
 // Which field of a line has the payload, for the letters of these commands.
 pub fn field_of_bytes(letter: u8) -> Option<usize>
@@ -23,7 +23,7 @@ pub fn field_of_bytes(letter: u8) -> Option<usize>
     }
 }
 
-fn answered(line: &Line, payload: &[u8], text: &mut Answers) -> Result<(), SearchError> {
+fn answered(line: &Line, payload: &[u8], text: &mut Answers) -> Result<(), PayloadError> {
     match line.letter() {
         b'l' => given::first(&line.pieces(2, b','), payload, line.byte(1), text)?,
         b'd' => found::first(payload, line.byte(1), text)?,
@@ -38,9 +38,9 @@ fn answered(line: &Line, payload: &[u8], text: &mut Answers) -> Result<(), Searc
 pub fn answer(line: &Line, payload: &[u8], text: &mut Answers) {
     match answered(line, payload, text) {
         Ok(()) => {}
-        Err(SearchError::Unwalked(unwalked)) => {
+        Err(PayloadError::Unwalked(unwalked)) => {
             text.put_refused_at(unwalked.refusal, unwalked.at);
         }
-        Err(SearchError::Refused(refusal)) => text.put_refused(refusal),
+        Err(PayloadError::Refused(refusal)) => text.put_refused(refusal),
     }
 }

@@ -8,12 +8,13 @@ use native.Mathlib.Omega.{arith}
 use lib.ListN.{length}
 use Rattle.numbers.specs.Numbers.{Answer, refuses, told, number, values}
 use Rattle.numbers.specs.declared.Refusal.{Refusal}
-use Rattle.numbers.proofs.Firm.{firm_numbered, so_many, never}
+use Rattle.numbers.proofs.Firm.{firm, firm_numbered, so_many, never}
 use Rattle.walking.specs.Steps.{Ahead}
-use Rattle.walking.specs.Walk.{answered_at, ahead_of, stepped_of}
+use Rattle.walking.specs.Walk.{answered_at, payload_answered, ahead_of, stepped_of}
 use Rattle.walking.specs.declared.Stepped.{Stepped}
 use Rattle.walking.specs.declared.Tlv.{Tlv}
 use Rattle.walking.specs.declared.Unwalked.{Unwalked}
+use Rattle.walking.specs.declared.PayloadError.{PayloadError}
 
 -- a refusal with an offset, and one without: the first has a value more
 pub with_offset : {A : Type 0} (r r' : Refusal) (at at' : ℕ) → ◌≡◌ {A = Answer A} (refuses (number r) (at ∷ values r)) (refuses (number r') (at' ∷ values r')) → (r ≡ r') × (at ≡ at')
@@ -34,6 +35,20 @@ answered_at_one {A = A} (Err u) (Err v) e = let o = with_offset {A = A} u.refusa
 -- a result that is said by what it answers
 pub by_answer_at : {A : Type 0} (defined : Answer A) → Firm (λ r. answered_at r ≡ defined)
 by_answer_at defined a b p q = answered_at_one a b (p ∙ sym q)
+
+payload_one : {A : Type 0} (a b : Result A PayloadError) → payload_answered a ≡ payload_answered b → a ≡ b
+payload_one (Ok a) (Ok b) e = ap Ok (cc)
+payload_one (Ok a) (Err (PayloadError.Unwalked u)) e = never _ _ _ e
+payload_one (Ok a) (Err (PayloadError.Refused r)) e = never _ _ _ e
+payload_one (Err (PayloadError.Unwalked u)) (Ok b) e = never _ _ _ (sym e)
+payload_one (Err (PayloadError.Refused r)) (Ok b) e = never _ _ _ (sym e)
+payload_one {A = A} (Err (PayloadError.Unwalked u)) (Err (PayloadError.Unwalked v)) e = let o = with_offset {A = A} u.refusal v.refusal u.at v.at e in ap (λ x. Err (PayloadError.Unwalked x)) (rw (o.0, o.1))
+payload_one {A = A} (Err (PayloadError.Unwalked u)) (Err (PayloadError.Refused r)) e = offset_apart {A = A} u.refusal r u.at e
+payload_one {A = A} (Err (PayloadError.Refused r)) (Err (PayloadError.Unwalked u)) e = offset_apart {A = A} u.refusal r u.at (sym e)
+payload_one {A = A} (Err (PayloadError.Refused r)) (Err (PayloadError.Refused r')) e = ap (λ x. Err (PayloadError.Refused x)) (firm A r r' e)
+
+pub by_payload_answer : {A : Type 0} (defined : Answer A) → Firm (λ r. payload_answered r ≡ defined)
+by_payload_answer defined a b p q = payload_one a b (p ∙ sym q)
 
 ahead_one : (a b : Stepped) → ahead_of a ≡ ahead_of b → a ≡ b
 ahead_one Stepped.End Stepped.End e = refl

@@ -1,6 +1,6 @@
 -- The walk over a payload's TLVs and where a message ends (rules W1 to W6; IEEE 1905.1, clause 6.4.1, for the marker).
 use Rattle.std.specs.Prelude.{Bool, false, cond, List, [], ◌∷◌, ◌++◌, ℕ, ◌+◌, eqb, ltb, length, drop, get_or, Result, Ok, Err}
-use Rattle.numbers.specs.Numbers.{Answer, gives, refuses, and_then, mapped, number, values}
+use Rattle.numbers.specs.Numbers.{Answer, gives, refuses, and_then, mapped, number, values, told}
 use Rattle.framing.specs.declared.TlvRead.{TlvRead}
 use Rattle.framing.specs.Tlv.{read_tlv_lem}
 use Rattle.walking.specs.Steps.{Ahead, ended, passed, last, Walk, walk_from}
@@ -8,6 +8,7 @@ use Rattle.walking.specs.declared.Tlv.{Tlv}
 use Rattle.walking.specs.declared.Stepped.{Stepped}
 use Rattle.walking.specs.declared.Unwalked.{Unwalked}
 use Rattle.walking.specs.declared.WalkCount.{WalkCount}
+use Rattle.walking.specs.declared.PayloadError.{PayloadError}
 
 -- Rule W2: the end marker is a TLV of type 0 with an empty value.
 abbrev pub is_marker_lem : Tlv → Bool
@@ -17,6 +18,12 @@ is_marker_lem t = cond (eqb t.tlv_type 0) (eqb t.length 0) false
 abbrev pub answered_at : {A : Type 0} → Result A Unwalked → Answer A
 answered_at (Ok a) = gives a
 answered_at (Err u) = refuses (number u.refusal) (u.at ∷ values u.refusal)
+
+-- The same where a refusal may have no offset.
+abbrev pub payload_answered : {A : Type 0} → Result A PayloadError → Answer A
+payload_answered (Ok a) = gives a
+payload_answered (Err (PayloadError.Unwalked u)) = answered_at (Err u)
+payload_answered (Err (PayloadError.Refused r)) = told r
 
 abbrev pub ahead_of : Stepped → Ahead Tlv
 ahead_of Stepped.End = ended

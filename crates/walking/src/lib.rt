@@ -3,6 +3,7 @@
 #![tactic(auto)]
 
 ghost use Rattle.std.specs.Prelude.{◌≡◌, ◌<◌, length};
+ghost use Rattle.walking.specs.declared.PayloadError.{PayloadError};
 ghost use Rattle.walking.specs.Walk.{is_marker_lem, answered_at, stepped_of, step_at, walk_of, counted, listed, filled, offset_at};
 ghost use Rattle.walking.specs.PrivateSteps.{passed_by};
 
@@ -30,6 +31,30 @@ pub struct WalkCount {
 pub struct Unwalked {
     pub refusal: Refusal,
     pub at: usize,
+}
+
+// Why a call over a whole payload gives nothing: the walk refuses it, at the offset of the TLV that failed, or a refusal
+// has no offset.
+#[derive(Clone, Copy)]
+pub enum PayloadError {
+    Unwalked(Unwalked),
+    Refused(Refusal),
+}
+
+impl From<Unwalked> for PayloadError {
+    ghost from_gives = { λ stopped error. error ≡ PayloadError.Unwalked stopped };
+
+    fn from(stopped: Unwalked) -> PayloadError {
+        PayloadError::Unwalked(stopped)
+    }
+}
+
+impl From<Refusal> for PayloadError {
+    ghost from_gives = { λ refusal error. error ≡ PayloadError.Refused refusal };
+
+    fn from(refusal: Refusal) -> PayloadError {
+        PayloadError::Refused(refusal)
+    }
 }
 
 // What a step of the walk finds (rule W6): that no byte is left; a TLV and where the next step starts; or the marker,
