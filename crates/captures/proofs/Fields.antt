@@ -4,18 +4,11 @@ use mathlib.Core.Bool.{Bool, true, false}
 use mathlib.Core.List.{List, [], ◌∷◌, ◌++◌, reverse, reverse-append}
 use Prim.Native.Nat.{ℕ, ◌+◌, ◌*◌, ◌≤◌}
 use native.Mathlib.Omega.{arith}
-use lib.ListN.{length, take, drop, get_or, length-drop, length-reverse}
+use lib.ListN.{length, take, drop, length-drop, length-reverse}
 use lib.Seq.{take-add, drop-drop, length-take-le}
 use Rattle.numbers.specs.Bytes.{big_endian_after, big_endian}
-use Rattle.numbers.proofs.Bytes.{after_append, number_at_lem, digits_at}
+use Rattle.numbers.proofs.Bytes.{after_append}
 use Rattle.captures.specs.Form.{field_at}
-
-module _ (s : List ℕ) (at : ℕ) (inside : at + 2 ≤ length s) (highFirst : Bool) where
-  pub two_high : highFirst ≡ true → big_endian (get_or s at 0 ∷ get_or s (at + 1) 0 ∷ []) ≡ field_at highFirst 2 at s
-  two_high h = rw h (number_at_lem 2 at s inside)
-
-  pub two_low : highFirst ≡ false → big_endian (get_or s (at + 1) 0 ∷ get_or s at 0 ∷ []) ≡ field_at highFirst 2 at s
-  two_low h = rw h (ap (λ (l : List ℕ). big_endian (reverse l)) (digits_at 2 at s inside))
 
 -- two bytes after a number
 after_two : (n : ℕ) (b : List ℕ) → length b ≡ 2 → big_endian_after n b ≡ n * 65536 + big_endian b

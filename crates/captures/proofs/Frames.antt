@@ -2,12 +2,12 @@
 use Rattle.std.specs.Prelude.{Result, Ok, Err, IsOk}
 use mathlib.Core.Path.{◌≡◌, refl, sym, ◌∙◌}
 use mathlib.Core.Bool.{Bool, true, false, cond}
-use mathlib.Core.List.{List, []}
-use Prim.Native.Nat.{ℕ, ◌+◌, ◌-◌, ◌<◌, ◌≤◌}
+use mathlib.Core.List.{List}
+use Prim.Native.Nat.{ℕ, ◌+◌, ◌-◌, ◌≤◌}
 use native.Mathlib.Omega.{arith}
 use lib.Dec.{eqb, ltb}
 use lib.ListN.{length, take, drop, length-drop}
-use borrow.Author.Tests.{ltb-false, le-leb, lt-leb}
+use borrow.Author.Tests.{ltb-false}
 use Rattle.numbers.specs.Numbers.{gives, answered}
 use Rattle.numbers.specs.declared.Refusal.{Refusal}
 use Rattle.numbers.specs.Bytes.{number_at}
@@ -19,8 +19,7 @@ use Rattle.framing.proofs.Heading as cmdu
 use Rattle.records.specs.Values.{address_at_lem}
 use Rattle.walking.proofs.Stepping.{whole_rest}
 use Rattle.captures.specs.Form.{Stored, ether_type, is1905}
-use Rattle.captures.specs.declared.Frame.{Frame}
-use Rattle.captures.specs.Reading.{ours, captured_at, frame_payload, payload_from}
+use Rattle.captures.specs.Reading.{ours, captured_at}
 
 module _ (frame : List ℕ) where
   pub long : is1905 frame ≡ true → 22 ≤ length frame
@@ -46,14 +45,3 @@ module _ (at : ℕ) (r : Stored) where
   pub as_ours : is1905 r.frame ≡ true → (h : CmduHeader) → h ≡ header_in (drop 14 r.frame)
       → ours (record { seconds = r.seconds; microseconds = r.microseconds; sender = address_at_lem r.frame 6; cmdu = h; offset = at + 38; length = length r.frame - 22 }) ≡ captured_at at r
   as_ours is h e = rw (is, e)
-
--- the part that holds a payload, its bytes and where it starts
-module _ (s : List ℕ) (f : Frame) where
-  pub outside : length s < f.offset + f.length → ([] ≡ frame_payload s f) × (0 ≡ payload_from s f)
-  outside h = let e = lt-leb (f.offset + f.length) (length s) h in (rw e, rw e)
-
-  pub inside : f.offset + f.length ≤ length s → (take (f.offset + f.length - f.offset) (drop f.offset s) ≡ frame_payload s f) × (f.offset ≡ payload_from s f)
-  inside h =
-      let e = le-leb (f.offset + f.length) (length s) h in
-      let size : f.offset + f.length - f.offset ≡ f.length = omega arith in
-      (rw (e, size), rw e)
