@@ -149,6 +149,7 @@ fn search(
 {
     let mut at = offset;
     let mut looked = before;
+    // No range counts the turns: a step of the walk says where the next one starts, and when to stop.
     loop {
         match walking::step(payload, at)? {
             Stepped::End => {

@@ -22,6 +22,7 @@ pub fn read_full<R: Read>(input: &mut R, room: &mut [u8]) -> usize
     ensures bytes { Consumes (R.remaining input.old) (R.remaining input.new) (take result room.new) }
 {
     let mut have = 0;
+    // No range counts the turns: each goes on by as many bytes as came.
     while have < room.len() {
         let more = read_some(input, &mut room[have..]);
         if more == 0 {

@@ -123,7 +123,8 @@ pub fn merge(one: LinkReport, other: LinkReport) -> Result<LinkReport, Refusal>
     Ok(totals::add(one, other))
 }
 
-// Pair `number` of a value of LinkMetricTx, from 0 (rule Q3).
+// Pair `number` of a value of LinkMetricTx, from 0 (rule Q3). The two kinds keep a call each, as they have in C: each has
+// its own definition in specs/, and all the work is done once, in `pairs`.
 pub fn tx_pair(value: &[u8], number: usize) -> Result<TxPair, Refusal>
     ensures { answered result ≡ tx_pair_of value.now number }
 {

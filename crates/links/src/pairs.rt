@@ -107,6 +107,7 @@ pub(crate) fn size_of(kind: LinkKind) -> usize
     }
 }
 
+// A report asks for the errors and the packets alone: reading whole pairs for it would take longer.
 pub(crate) fn errors(kind: LinkKind, pair: &[u8]) -> u32
     requires { pair_bytes kind ≤ length pair.now }
     ensures { result ≡ errors_of kind pair.now }
