@@ -1,6 +1,6 @@
 // Times, addresses and counts as words.
 ghost use Rattle.std.specs.Prelude.{◌≡◌, Some};
-ghost use Rattle.field_lines.specs.Words.{counted, missing, time_of_day, address_text};
+ghost use Rattle.field_lines.specs.Words.{counted_text, missing_text, time_of_day, address_text};
 ghost use Rattle.records.specs.Values.{address_at_lem};
 
 use records::MacAddr;
@@ -51,7 +51,7 @@ pub struct Counted<'a> {
 }
 
 impl fmt::Display for Counted<'_> {
-    ghost output = { λ c. Some (counted c.count c.what.now) };
+    ghost output = { λ c. Some (counted_text c.count c.what.now) };
 
     fn fmt<W: fmt::Write>(&self, f: &mut fmt::Formatter<W>) -> fmt::Result {
         let Counted { count, what } = *self;
@@ -68,7 +68,7 @@ impl fmt::Display for Counted<'_> {
 pub struct Missing(pub u64);
 
 impl fmt::Display for Missing {
-    ghost output = { λ m. Some (missing m.0) };
+    ghost output = { λ m. Some (missing_text m.0) };
 
     fn fmt<W: fmt::Write>(&self, f: &mut fmt::Formatter<W>) -> fmt::Result {
         let bytes = Counted {

@@ -99,7 +99,7 @@ impl Counts {
 
 // What came of a frame: push's answer to it, the message that this made whole, and the stations as they were before.
 #[derive(Clone, Copy)]
-pub struct Outcome<'a> {
+pub struct AnsweredFrame<'a> {
     pub frame: Frame,
     pub answer: Result<Pushed, Refusal>,
     pub message: &'a [u8],
@@ -207,7 +207,7 @@ fn put_message(rt: &impl Print, text: &mut Answers, h: Heading, fragments: u64, 
 fn put_whole(
     rt: &impl Print,
     text: &mut Answers,
-    outcome: Outcome<'_>,
+    outcome: AnsweredFrame<'_>,
     fragments: u64,
     verbose: bool,
 ) -> Said
@@ -226,7 +226,7 @@ fn put_whole(
 }
 
 // What push answered to a frame (rule H7): at most one message is whole or lost.
-pub fn put_answer(rt: &impl Print, text: &mut Answers, outcome: Outcome<'_>, verbose: bool) -> Said
+pub fn put_answer(rt: &impl Print, text: &mut Answers, outcome: AnsweredFrame<'_>, verbose: bool) -> Said
     ensures { result.messages + result.losses ≤ 1 }
 {
     let h = heading_of(outcome.frame);

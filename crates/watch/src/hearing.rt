@@ -12,7 +12,7 @@ use answer_lines::Answers;
 use captures::Reached;
 use numbers::Refusal;
 use stations::Stations;
-use story_lines::{Counts, Outcome};
+use story_lines::{Counts, AnsweredFrame};
 use table::{STORE_SIZE, Table};
 
 // The longest message has nine fragments of 1,492 bytes (rule T9).
@@ -86,7 +86,7 @@ impl Watch {
             Ok(Reached::Ours { frame, next: _ }) => {
                 let swept = story_lines::put_swept(rt, &mut self.text, &before, frame);
                 let payload = captures::payload(window, frame);
-                let outcome = Outcome {
+                let outcome = AnsweredFrame {
                     frame,
                     answer: after.answer,
                     message: reassembler::show(after.answer, payload, &self.out),
