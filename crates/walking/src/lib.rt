@@ -81,6 +81,7 @@ pub fn step(payload: &[u8], at: usize) -> Result<Stepped, Unwalked>
     if payload.len() <= at {
         return Ok(Stepped::End);
     }
+    // A match, and not `map_err`: its closure's refusal can't be followed through `?` in a proof (tried; not proved).
     let read = match framing::read_tlv(&payload[at..]) {
         Ok(read) => read,
         Err(refusal) => return Err(Unwalked { refusal, at }),
