@@ -44,7 +44,8 @@ fn part_of(letter: u8) -> Option<(Part, usize)> {
     None
 }
 
-// The tables, the buffers that are lent to the library's calls, and the answers.
+// The tables, the buffers that are lent to the library's calls, and the answers. Its methods say `Made` of the table,
+// which has cases, and so can't be a ghost field.
 #[derive(Drop)]
 pub(crate) struct Desk {
     pub(crate) table: Table,

@@ -8,8 +8,8 @@ use command_lines::Line;
 use links::{LinkKind, LinkReport};
 use numbers::Refusal;
 
-// Which field of a line has the command's bytes, for the letters of these commands: that of m; for M, which has none, one
-// after its two reports.
+// Which field of a line has the command's bytes, for the letters of these commands: that of m; for M, which has none,
+// the one after its two reports.
 pub fn field_of_bytes(letter: u8) -> Option<usize>
     ensures { IfSome result (λ n. n ≤ 13) }
 {

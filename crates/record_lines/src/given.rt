@@ -34,6 +34,7 @@ fn code_in(line: &Line, n: usize) -> Code {
     }
 }
 
+// An impl for each type, since a macro of our own may write none.
 impl From<Code> for SupportedFreqBand {
     fn from(code: Code) -> Self {
         match code {

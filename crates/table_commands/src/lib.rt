@@ -141,7 +141,7 @@ pub fn fresh() -> Table
     table::fresh()
 }
 
-// Answers one line about the table.
+// Answers one line about the table. `Made` has cases, and a push asks for it whole, so it is no ghost field of a type.
 pub fn answer(
     t: &mut Table,
     line: &Line,
