@@ -32,7 +32,8 @@ fn by_shape(answer: Result<RecordRead, Refusal>, length: usize) -> Result<Shaped
     })
 }
 
-// An address, from what was read of a value of this length.
+// An address, from what was read of a value of this length. This and the calls below are alike, and stay apart: each
+// fills a C struct of its own.
 pub fn address_numbers(answer: Result<RecordRead, Refusal>, length: usize) -> AshlarAddressRead
     ensures { result ≡ address_numbers_lem (read_in_shape address_fields «length» (answered answer)) }
 {

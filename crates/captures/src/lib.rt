@@ -196,6 +196,7 @@ fn plan(file: &[u8], room: usize) -> Result<FrameCount, Refusal>
 
 // Checks a whole capture, and lists its 1905 frames (rule G8). Nothing is listed before the whole file has been
 // checked, so that a fault in its last record leaves the list as it was (rule A3).
+// `walking::walk_into` has the same form, over its own steps and items: the loop that they share has four lines.
 pub fn frames_into(list: &mut [Frame], file: &[u8]) -> Result<FrameCount, Refusal>
     ensures { (answered result ≡ frames_counted (with_room_lem (length list.old) (capture_in file.now)))
         × (list.new ≡ frames_left (with_room_lem (length list.old) (capture_in file.now)) list.old) }

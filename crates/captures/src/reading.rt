@@ -23,7 +23,8 @@ pub(crate) struct Ordered<'a> {
 }
 
 impl<'a> Ordered<'a> {
-    // A number of the file's own in the two bytes from `at` on.
+    // A number of the file's own in the two bytes from `at` on: by `be16`, which alone says how two bytes are a number
+    // (rule B1). The other order swaps them.
     fn two_at(self, at: usize) -> usize
         requires { at + 2 ≤ length self.file.now }
         ensures { (result ≡ field_at self.entry.high_first 2 at self.entry.file.now) × (result < 65536) }

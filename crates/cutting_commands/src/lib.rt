@@ -28,7 +28,8 @@ fn answered(line: &Line, bytes: &[u8], text: &mut Answers) -> Result<(), Payload
     }
 }
 
-// Answers one line from the bytes that it has.
+// Answers one line from the bytes that it has. payload_commands has the same match: a method of `Answers` for it would
+// make `answer_lines` know of walks.
 pub fn answer(line: &Line, bytes: &[u8], text: &mut Answers) {
     match answered(line, bytes, text) {
         Ok(()) => {}

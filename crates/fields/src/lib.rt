@@ -163,7 +163,7 @@ pub fn interface(code: u8, s: &[u8], at: usize) -> AshlarInterface
     }
 }
 
-// The IPv4 address of an interface at `at`.
+// The IPv4 address of an interface at `at`. This and `ipv6` are two calls, since each fills a C struct of its own.
 pub fn ipv4(s: &[u8], at: usize) -> AshlarIpv4
     ensures { result ≡ ipv4_at s.now at }
 {

@@ -1,4 +1,5 @@
 // How many bytes the fields of an entry have, by the code of its kind (rule K8). None for a kind without such entries.
+// Each is a table of its own: one function that is lent a table would say the same rows in another place.
 ghost use Rattle.std.specs.Prelude.{◌≡◌};
 ghost use Rattle.fields.specs.Fields.{front_rows, neighbour_rows, interface_rows, byte_rows, radio_rows, bss_rows, row_for};
 ghost use Rattle.fields.specs.PrivateSteps.{size_in_lem};

@@ -82,7 +82,7 @@ pub fn put_interface(code: u8, interface: AshlarInterface, out: &mut [u8]) -> Re
     put_own(sizes::interface_size(code), &own, out)
 }
 
-// Writes an IPv4 address of an interface.
+// Writes an IPv4 address of an interface. This and `put_ipv6` are two calls: each is given a C struct of its own.
 pub fn put_ipv4(ipv4: AshlarIpv4, out: &mut [u8]) -> Result<usize, Refusal>
     ensures answer { answered result ≡ put_size (ipv4_made ipv4) (length out.old) }
     ensures bytes { out.new ≡ leaves (put_size (ipv4_made ipv4) (length out.old)) (made_bytes (ipv4_made ipv4)) out.old }

@@ -96,7 +96,8 @@ fn frame_in(reached: Result<Reached, Refusal>) -> Option<Frame>
 }
 
 // Rule H4: the record at the offset `at` of a capture. A 1905 frame is a fragment that comes in, at its time; a frame
-// that is passed over does nothing.
+// that is passed over does nothing. The store and the output are lent at any length: a struct of all that is lent here
+// would be made anew for each call.
 pub fn hear(
     t: &mut Table,
     store: &mut [u8],

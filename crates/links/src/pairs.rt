@@ -107,7 +107,8 @@ pub(crate) fn size_of(kind: LinkKind) -> usize
     }
 }
 
-// A report asks for the errors and the packets alone: reading whole pairs for it would take longer.
+// A report asks for the errors and the packets alone: reading whole pairs for it would take longer. They are two
+// calls, since where each stands is the kind's own.
 pub(crate) fn errors(kind: LinkKind, pair: &[u8]) -> u32
     requires { pair_bytes kind ≤ length pair.now }
     ensures { result ≡ errors_of kind pair.now }

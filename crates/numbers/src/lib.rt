@@ -120,7 +120,7 @@ pub fn carried_by(refusal: Refusal) -> usize
     }
 }
 
-// A byte as a count or a length.
+// A byte as a count or a length. It is no cast in place: `Firmness` has it by this name, with the bound.
 pub fn wide(byte: u8) -> usize
     ensures { (result ≡ byte) × (result < 256) }
 {

@@ -226,7 +226,12 @@ fn put_whole(
 }
 
 // What push answered to a frame (rule H7): at most one message is whole or lost.
-pub fn put_answer(rt: &impl Print, text: &mut Answers, outcome: AnsweredFrame<'_>, verbose: bool) -> Said
+pub fn put_answer(
+    rt: &impl Print,
+    text: &mut Answers,
+    outcome: AnsweredFrame<'_>,
+    verbose: bool,
+) -> Said
     ensures { result.messages + result.losses ≤ 1 }
 {
     let h = heading_of(outcome.frame);

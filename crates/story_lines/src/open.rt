@@ -45,7 +45,7 @@ fn sender_in(key: u64) -> MacAddr {
     }
 }
 
-// The line of a row's key.
+// The line of a row's key. A struct of what it is given would be made for this call alone.
 fn put_row(rt: &impl Print, text: &mut Answers, t: &Table, row: usize, time: u64, why: &str) {
     if let Some(key) = t.row_keys.get(row) {
         let kept = kept_in(t, row);

@@ -95,7 +95,7 @@ pub fn totals_at<'a>(
     Totals { keys: 0, places: 0 }
 }
 
-// Rule T15: the lower of two rows, of which one may be `KEYS`.
+// Rule T15: the lower of two rows, of which one may be `KEYS`. `Firmness` has it by this name.
 pub fn lower_row(a: usize, b: usize) -> usize
     ensures { result ≡ lower_row_lem a b }
 {

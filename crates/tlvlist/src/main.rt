@@ -16,7 +16,8 @@ const SIZE: usize = 4096;
 // A line is at most 70 bytes long: "bad ", three numbers of at most 20 digits, " at ", a space and the line's end.
 const LINE: usize = 80;
 
-// Lines that are written and not yet out, in fixed memory.
+// Lines that are written and not yet out, in fixed memory. They are no `Answers`, which hold 65,536 bytes: tlvlist stands
+// alone, and takes little of the stack.
 #[derive(Drop)]
 struct Lines {
     text: [u8; SIZE],
