@@ -12,7 +12,7 @@ use answer_lines::Answers;
 use captures::Reached;
 use numbers::Refusal;
 use stations::Stations;
-use story_lines::{Counts, AnsweredFrame};
+use story_lines::{AnsweredFrame, Counts};
 use table::{STORE_SIZE, Table};
 
 // The longest message has nine fragments of 1,492 bytes (rule T9).
