@@ -9,7 +9,7 @@ use native.Mathlib.Nat.{add-zero, add-suc}
 use native.Mathlib.Numerals.{add-one}
 use lib.Dec.{eqb, ltb}
 use lib.ListN.{length, get_or, take, drop, length-append, length-drop}
-use lib.Seq.{paste, length-take-le, take-take, take-length, take_at, drop-append-add, drop-drop}
+use lib.Seq.{paste, length-take-le, take-length, take_at, drop-append-add, drop-drop}
 use borrow.Author.Tests.{eqb-true, eqb-false, eq-eqb, ne_eqb, ltb-true, ltb-false, lt-ltb, le-ltb}
 use Rattle.table.specs.declared.Table.{Table}
 use Rattle.pushing.specs.declared.Fragment.{Fragment}
@@ -121,17 +121,6 @@ module _ (sizes store payload : List ℕ) where
         by_place : (b : Bool) → ltb piece 32 ≡ b → length (piece_bytes sizes store payload piece) ≡ cond b (get_or sizes piece 0) (length payload)
         by_place true e = size_in piece (ltb-true _ _ e)
         by_place false e = ap length (piece_out piece (ltb-false _ _ e))
-
-    -- copied from the store, or from the payload
-    pub pasted_in : (piece at : ℕ) (d : List ℕ) → piece < 32 → paste d at (drop (piece * 1492) store) (get_or sizes piece 0) ≡ paste d at (piece_bytes sizes store payload piece) (length (piece_bytes sizes store payload piece))
-    pasted_in piece at d h =
-        let n = get_or sizes piece 0 in
-        let from = drop (piece * 1492) store in
-        ap (λ (l : List ℕ). take at d ++ l ++ drop (at + n) d) (sym (take-take n n from (omega arith)))
-        ∙ ap (λ (l : List ℕ). paste d at l n) (sym (piece_in piece h)) ∙ ap (paste d at (piece_bytes sizes store payload piece)) (sym (size_in piece h))
-
-  pub pasted_out : (piece at : ℕ) (d : List ℕ) → 32 ≤ piece → paste d at payload (length payload) ≡ paste d at (piece_bytes sizes store payload piece) (length (piece_bytes sizes store payload piece))
-  pasted_out piece at d h = ap (λ (l : List ℕ). paste d at l (length l)) (sym (piece_out piece h))
 
 -- the pieces, one after the other
 module _ (sizes owners numbers store : List ℕ) (row number : ℕ) (payload : List ℕ) where

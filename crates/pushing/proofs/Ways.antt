@@ -135,32 +135,6 @@ module _ (stored size place : ℕ) (last : Bool) (keeps joins : Way) where
         unfolding way_by
         by_keep h = rw (le-ltb _ _ h₁, le-ltb _ _ h₂, le-ltb _ _ h₃, h)
 
--- step 4 is reached by these tests alone
-abbrev is_end : Way → Bool
-is_end (refuse n values) = false
-is_end duplicate = false
-is_end (keep_at i) = false
-is_end (open_at i row) = false
-is_end (end h bytes) = true
-
-pub reached : (stored size : ℕ) (found : LookedUp) (held : Totals) (last : Bool) → way_by stored size found.place last (keep_way found held) (end missing []) ≡ end missing [] → (47744 ≤ stored) × (size ≤ 1492) × (32 ≤ found.place) × (last ≡ true)
-unfolding way_by keep_way
-reached stored size found held last e =
-    by_tests (ltb stored 47744) refl (ltb 1492 size) refl (ltb found.place 32) refl last refl (has_share_lem found held) (leb 32 found.free) (ltb found.row 16) (leb 16 found.spare) (ap is_end e)
-  where
-    by_tests : (a : Bool) → ltb stored 47744 ≡ a → (b : Bool) → ltb 1492 size ≡ b → (c : Bool) → ltb found.place 32 ≡ c → (d : Bool) → last ≡ d → (w x y z : Bool)
-        → is_end (cond a (refuse 11 []) (cond b (refuse 12 []) (cond c duplicate (cond (not d) (cond w (refuse 20 []) (cond x (refuse 10 []) (cond y (keep_at found.free) (cond z (refuse 10 []) (open_at found.free found.spare))))) (end missing []))))) ≡ true
-        → (47744 ≤ stored) × (size ≤ 1492) × (32 ≤ found.place) × (last ≡ true)
-    by_tests true p b q c r d l w x y z g = absurd (false≢true g)
-    by_tests false p true q c r d l w x y z g = absurd (false≢true g)
-    by_tests false p false q true r d l w x y z g = absurd (false≢true g)
-    by_tests false p false q false r true l w x y z g = (ltb-false _ _ p, ltb-false _ _ q, ltb-false _ _ r, l)
-    by_tests false p false q false r false l true x y z g = absurd (false≢true g)
-    by_tests false p false q false r false l false true y z g = absurd (false≢true g)
-    by_tests false p false q false r false l false false true z g = absurd (false≢true g)
-    by_tests false p false q false r false l false false false true g = absurd (false≢true g)
-    by_tests false p false q false r false l false false false false g = absurd (false≢true g)
-
 -- what holds where a push is refused by 10: its sender has less than its share, and a place is wanted, or a row
 pub record Full (t : Table) (a : Arrival) : Type 0 where
   pub few_places : (own_totals t a).places < 8
