@@ -76,7 +76,8 @@ fn held_at(t: &Table, row: usize, number: u8) -> usize
     PLACES
 }
 
-// What decides a push, one number for each question.
+// What decides a push, one number for each question. `KEYS` and `PLACES` stand for none, and not an Option: the
+// definitions of rules T5 and T6, and the claims over them, speak of these numbers.
 #[derive(Clone, Copy)]
 pub(crate) struct LookedUp {
     // the row of its key

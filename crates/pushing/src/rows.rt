@@ -17,7 +17,7 @@ pub(crate) fn copy(src: &[u8], dst: &mut [u8], at: usize)
     dst[at..at + src.len()].copy_from_slice(src);
 }
 
-// Rule T15: a list of totals with 0 in a row. For a row that the table does not have, it stays.
+// Rule T15: a list of totals with 0 in a row. For a row that the table does not have, it stays. The list is 16 bytes.
 fn without_total(totals: [u8; KEYS], row: usize) -> [u8; KEYS]
     ensures { result ≡ set totals row 0 }
 {

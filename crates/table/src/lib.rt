@@ -69,7 +69,7 @@ pub fn fresh() -> Table
     }
 }
 
-// Rule T15: the lowest row with a key of this sender, `KEYS` where there is none.
+// Rule T15: the lowest row with a key of this sender, `KEYS` where there is none: `first_row_in` is this number, too.
 pub fn first_row<'a>(used: &'a [bool; KEYS], row_keys: &'a [u64; KEYS], sender: u64) -> usize
     ensures { (result ≡ first_row_in used.now row_keys.now sender) × (result ≤ keys) }
 {
