@@ -1,4 +1,4 @@
-// Reading each kind of rule K2: its size, what it refuses and its fields.
+// Reading: a function for each kind of rule K2, with its size, what it refuses and its fields.
 ghost use Rattle.std.specs.Prelude.{◌≡◌, ◌≤◌, get_or};
 ghost use Rattle.numbers.specs.Numbers.{answered};
 ghost use Rattle.records.specs.Values.{address_at_lem};
@@ -10,41 +10,23 @@ use crate::{
 };
 use numbers::Refusal;
 
-// Reads a value by its kind (rule K1): the size of the kind's layout, whether its value is accepted, and the record.
-// Nothing stands before the match, so that it becomes one jump with the match on the code.
+// Reads a value by its kind (rule K1). Each kind has a function of its own, also where two differ in the record alone:
+// the kinds are a table that is read line by line, beside that of rule K2.
 pub(crate) fn read_as(kind: RecordKind, s: &[u8]) -> Result<RecordRead, Refusal>
     ensures { answered result ≡ of_kind_lem kind s.now }
 {
     match kind {
         RecordKind::EndOfMessage => read_end_of_message(s),
-        RecordKind::AlMacAddress => fixed(6, true, Record::AlMacAddress(address_at(s, 0)), s),
-        RecordKind::MacAddress => fixed(6, true, Record::MacAddress(address_at(s, 0)), s),
-        RecordKind::SearchedRole => {
-            let role = byte_at(s, 0);
-            fixed(1, role == 0, Record::SearchedRole(role), s)
-        }
-        RecordKind::SupportedRole => {
-            let role = byte_at(s, 0);
-            fixed(1, role == 0, Record::SupportedRole(role), s)
-        }
-        RecordKind::SupportedFreqBand => {
-            let band = byte_at(s, 0).into();
-            fixed(1, true, Record::SupportedFreqBand(band), s)
-        }
-        RecordKind::Ieee1905ProfileVersion => {
-            let version = byte_at(s, 0).into();
-            fixed(1, true, Record::Ieee1905ProfileVersion(version), s)
-        }
-        RecordKind::LinkMetricResultCode => {
-            let result = byte_at(s, 0).into();
-            fixed(1, true, Record::LinkMetricResultCode(result), s)
-        }
+        RecordKind::AlMacAddress => read_al_mac_address(s),
+        RecordKind::MacAddress => read_mac_address(s),
+        RecordKind::SearchedRole => read_searched_role(s),
+        RecordKind::SupportedRole => read_supported_role(s),
+        RecordKind::SupportedFreqBand => read_supported_freq_band(s),
+        RecordKind::Ieee1905ProfileVersion => read_ieee1905_profile_version(s),
+        RecordKind::LinkMetricResultCode => read_link_metric_result_code(s),
         RecordKind::LinkMetricQuery => read_link_metric_query(s),
         RecordKind::ClientAssociation => read_client_association(s),
-        RecordKind::MultiApProfile => {
-            let first = byte_at(s, 0);
-            fixed(1, 0 < first, Record::MultiApProfile(first.into()), s)
-        }
+        RecordKind::MultiApProfile => read_multi_ap_profile(s),
         RecordKind::Profile2ApCapability => read_profile2_ap_capability(s),
     }
 }
@@ -60,6 +42,53 @@ fn read_end_of_message(s: &[u8]) -> Result<RecordRead, Refusal>
         value: Record::EndOfMessage,
         consumed: 0,
     })
+}
+
+fn read_al_mac_address(s: &[u8]) -> Result<RecordRead, Refusal>
+    ensures { answered result ≡ of_kind_lem RecordKind.AlMacAddress s.now }
+{
+    fixed(6, true, Record::AlMacAddress(address_at(s, 0)), s)
+}
+
+fn read_mac_address(s: &[u8]) -> Result<RecordRead, Refusal>
+    ensures { answered result ≡ of_kind_lem RecordKind.MacAddress s.now }
+{
+    fixed(6, true, Record::MacAddress(address_at(s, 0)), s)
+}
+
+fn read_searched_role(s: &[u8]) -> Result<RecordRead, Refusal>
+    ensures { answered result ≡ of_kind_lem RecordKind.SearchedRole s.now }
+{
+    let role = byte_at(s, 0);
+    fixed(1, role == 0, Record::SearchedRole(role), s)
+}
+
+fn read_supported_role(s: &[u8]) -> Result<RecordRead, Refusal>
+    ensures { answered result ≡ of_kind_lem RecordKind.SupportedRole s.now }
+{
+    let role = byte_at(s, 0);
+    fixed(1, role == 0, Record::SupportedRole(role), s)
+}
+
+fn read_supported_freq_band(s: &[u8]) -> Result<RecordRead, Refusal>
+    ensures { answered result ≡ of_kind_lem RecordKind.SupportedFreqBand s.now }
+{
+    let band = byte_at(s, 0).into();
+    fixed(1, true, Record::SupportedFreqBand(band), s)
+}
+
+fn read_ieee1905_profile_version(s: &[u8]) -> Result<RecordRead, Refusal>
+    ensures { answered result ≡ of_kind_lem RecordKind.Ieee1905ProfileVersion s.now }
+{
+    let version = byte_at(s, 0).into();
+    fixed(1, true, Record::Ieee1905ProfileVersion(version), s)
+}
+
+fn read_link_metric_result_code(s: &[u8]) -> Result<RecordRead, Refusal>
+    ensures { answered result ≡ of_kind_lem RecordKind.LinkMetricResultCode s.now }
+{
+    let code = byte_at(s, 0).into();
+    fixed(1, true, Record::LinkMetricResultCode(code), s)
 }
 
 // Only a query about one neighbour, whose first byte is 1, has an address (rule K2).
@@ -98,6 +127,13 @@ pub fn read_client_association(s: &[u8]) -> Result<RecordRead, Refusal>
         Record::ClientAssociation(association),
         s,
     )
+}
+
+fn read_multi_ap_profile(s: &[u8]) -> Result<RecordRead, Refusal>
+    ensures { answered result ≡ of_kind_lem RecordKind.MultiApProfile s.now }
+{
+    let first = byte_at(s, 0);
+    fixed(1, 0 < first, Record::MultiApProfile(first.into()), s)
 }
 
 // Byte 2 holds the units, three flags and three reserved bits (rule K6). The reserved bits are kept.
