@@ -1,7 +1,6 @@
 -- Laws of the tests that a fragment has to pass, by what the code looks at.
-use Rattle.std.specs.Prelude.{Some}
-use mathlib.Core.Path.{◌≡◌, refl, sym, ◌∙◌}
-use mathlib.Core.Bool.{Bool, true, false, ◌&&◌, ◌||◌}
+use mathlib.Core.Path.{◌≡◌, refl}
+use mathlib.Core.Bool.{Bool, true, false, ◌||◌}
 use mathlib.Core.List.{List, [], ◌∷◌}
 use Prim.Native.Nat.{ℕ, ◌+◌, ◌-◌, ◌≤◌, ◌<◌}
 use native.Mathlib.Omega.{arith}
@@ -13,7 +12,7 @@ use borrow.Author.Tests.{le-leb, lt-leb, leb-true}
 use Rattle.numbers.specs.Bytes.{is_same_lem}
 use Rattle.numbers.proofs.Bytes.{both_true}
 use Rattle.cutting.specs.Cuts.{longest_payload, payload_in, is_tlvs_lem, is_empty_one}
-use Rattle.cutting.specs.PrivateFollowing.{goes_on_lem, first_by_lem, is_headed_lem, is_carried_lem, after_bad, taken_by}
+use Rattle.cutting.specs.PrivateFollowing.{goes_on_lem, is_carried_lem}
 use Rattle.cutting.specs.declared.Proposed.{Proposed}
 use Rattle.cutting.specs.declared.following.Reached.{Reached}
 
@@ -65,19 +64,3 @@ module _ (m ps : List ℕ) (s : Reached) (f : Proposed) where
       let o = both_true _ _ e in
       let inside = leb-true (f.start + f.length) (length ps) (both_true _ _ (both_true _ _ o.0).0).0 in
       omega (arith, leb-true (s.at + length (payload_in ps f)) (length m) (both_true _ _ o.1).0, length-take-le f.length (drop f.start ps) (omega (arith, length-drop f.start ps)))
-
--- one fragment more
-module _ (m ps : List ℕ) (s : Reached) (f first : Proposed) (is_first : first ≡ first_by_lem s f) (sound : Bool) (is-sound : sound ≡ (s.sound && is_headed_lem s first f && is_carried_lem m ps s f)) where
-  pub sound_before : sound ≡ true → s.sound ≡ true
-  sound_before e = (both_true s.sound (is_headed_lem s first f) (both_true (s.sound && is_headed_lem s first f) (is_carried_lem m ps s f) (sym is-sound ∙ e)).0).0
-
-  pub sound_carried : sound ≡ true → is_carried_lem m ps s f ≡ true
-  sound_carried e = (both_true (s.sound && is_headed_lem s first f) (is_carried_lem m ps s f) (sym is-sound ∙ e)).1
-
-  pub good : sound ≡ true → (n : ℕ) → n ≡ f.number → record { count = s.count; number = n + 1; at = s.at + f.length; first = Some first; sound = s.sound } ≡ taken_by m ps s f
-  unfolding taken_by
-  good e n is = rw (← is_first, ← is-sound, e, is, sound_before e)
-
-  pub bad : sound ≡ false → after_bad s ≡ taken_by m ps s f
-  unfolding taken_by
-  bad e = rw (← is_first, ← is-sound, e)

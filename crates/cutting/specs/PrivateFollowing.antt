@@ -1,5 +1,5 @@
 -- What the checker's private steps promise each other. No contract of a public call cites these.
-use Rattle.std.specs.Prelude.{Bool, true, false, cond, Some, None, unwrap_or, ◌&&◌, ◌||◌, List, [], ◌∷◌, ℕ, ◌+◌, eqb, leb, length, take, drop}
+use Rattle.std.specs.Prelude.{Bool, false, cond, Option, Some, None, unwrap_or, option_and_then, ◌&&◌, ◌||◌, List, [], ◌∷◌, ℕ, ◌+◌, eqb, leb, length, take, drop}
 use Rattle.std.specs.Bool.{beq}
 use Rattle.numbers.specs.Numbers.{Answer, mapped}
 use Rattle.numbers.specs.Bytes.{is_same_lem}
@@ -31,27 +31,31 @@ is_carried_lem message payloads s f =
     && (is_tlvs_lem (payload_in payloads f) || is_empty_one message s.count)
     && goes_on_lem message s.at (payload_in payloads f)
 
--- before the first of `count` fragments
-abbrev pub before : (count : ℕ) → Reached
+-- before the first of `count` fragments, where a message can have so many
+abbrev pub before : (count : ℕ) → Option Reached
 before count =
-    record { count = count; number = 0; at = 0; first = None; sound = leb 1 count && leb count most_fragments }
+    cond (leb 1 count && leb count most_fragments) (Some (record { count = count; number = 0; at = 0; first = None })) None
 
-abbrev pub after_good : Reached → Proposed → Reached
-after_good s f = record { count = s.count; number = f.number + 1; at = s.at + f.length; first = Some (first_by_lem s f); sound = true }
+-- past a fragment that is as asked
+abbrev pub past_fragment : Reached → Proposed → Reached
+past_fragment s f = record { count = s.count; number = f.number + 1; at = s.at + f.length; first = Some (first_by_lem s f) }
 
-abbrev pub after_bad : Reached → Reached
-after_bad s = record { count = s.count; number = s.number; at = s.at; first = s.first; sound = false }
-
--- one fragment more
-unfoldable pub taken_by : (message payloads : List ℕ) → Reached → Proposed → Reached
+-- one fragment more, where it is as asked
+unfoldable pub taken_by : (message payloads : List ℕ) → Reached → Proposed → Option Reached
 taken_by message payloads s f =
-    cond (s.sound && is_headed_lem s (first_by_lem s f) f && is_carried_lem message payloads s f) (after_good s f) (after_bad s)
-
--- after the last one, for a message of this size
-abbrev pub is_whole : Reached → (size : ℕ) → Bool
-is_whole s size = s.sound && eqb s.at size
+    cond (is_headed_lem s (first_by_lem s f) f && is_carried_lem message payloads s f) (Some (past_fragment s f)) None
 
 -- all fragments from here on
-unfoldable pub follows_from : (message payloads : List ℕ) → Reached → List Proposed → Bool
-follows_from message payloads s [] = is_whole s (length message)
-follows_from message payloads s (f ∷ fs) = follows_from message payloads (taken_by message payloads s f) fs
+unfoldable pub followed_from : (message payloads : List ℕ) → Reached → List Proposed → Option Reached
+followed_from message payloads s [] = Some s
+followed_from message payloads s (f ∷ fs) =
+    option_and_then (λ t. followed_from message payloads t fs) (taken_by message payloads s f)
+
+-- all of them
+abbrev pub all_followed : (message payloads : List ℕ) → List Proposed → Option Reached
+all_followed message payloads fs = option_and_then (λ s. followed_from message payloads s fs) (before (length fs))
+
+-- they end where a message of this size does
+abbrev pub is_whole : (size : ℕ) → Option Reached → Bool
+is_whole size None = false
+is_whole size (Some s) = eqb s.at size

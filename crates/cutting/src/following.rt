@@ -1,9 +1,9 @@
 // Following fragments through a message, one after the other (rules M3 and M4).
 ghost use Rattle.std.specs.Prelude.{◌≡◌, Bool, ◌&&◌, ◌||◌, ◌+◌, eqb, leb};
 ghost use Rattle.std.specs.Bool.{beq};
-ghost use Rattle.cutting.specs.Cuts.{most_fragments, is_tlvs_lem, is_alike_lem};
+ghost use Rattle.cutting.specs.Cuts.{most_fragments, is_tlvs_lem, is_alike_lem, is_cutting_lem};
 ghost use Rattle.walking.specs.Walk.{payload_answered};
-ghost use Rattle.cutting.specs.PrivateFollowing.{alone, goes_on_lem, is_headed_lem, is_carried_lem, before, taken_by, is_whole};
+ghost use Rattle.cutting.specs.PrivateFollowing.{alone, goes_on_lem, is_headed_lem, is_carried_lem, before, taken_by, all_followed};
 
 use crate::Proposed;
 use crate::filling::{LONGEST_PAYLOAD, MOST_FRAGMENTS};
@@ -105,13 +105,6 @@ fn is_carried(s: Reached, f: Proposed, lent: Lent) -> bool
     goes_on(lent.message, s.at, &payloads[start..end])
 }
 
-// Is all as asked, with this fragment?
-fn is_sound(s: Reached, first: Proposed, f: Proposed, lent: Lent) -> bool
-    ensures { result ≡ (s.sound && is_headed_lem s first f && is_carried_lem lent.entry.message.now lent.entry.payloads.now s f) }
-{
-    s.sound && is_headed(s, first, f) && is_carried(s, f, lent)
-}
-
 // Can a message have so many fragments?
 fn is_count(count: usize) -> bool
     ensures { result ≡ (leb 1 count && leb count most_fragments) }
@@ -119,49 +112,62 @@ fn is_count(count: usize) -> bool
     0 < count && count <= MOST_FRAGMENTS
 }
 
-// How far the fragments go so far: how many there are, how many were followed, where the next one begins in the message,
-// the first of them, and whether all were sound.
+// How far the fragments go so far, each as asked: how many there are, how many were followed, where the next one begins
+// in the message, and the first of them.
 #[derive(Clone, Copy)]
-pub(crate) struct Reached {
+struct Reached {
     count: usize,
     number: usize,
     at: usize,
     first: Option<Proposed>,
-    sound: bool,
 }
 
-// Before the first of `count` fragments.
-pub(crate) fn begin(count: usize) -> Reached
+// Before the first of `count` fragments, where a message can have so many.
+fn begin(count: usize) -> Option<Reached>
     ensures { result ≡ before count }
 {
-    Reached {
+    if !is_count(count) {
+        return None;
+    }
+    Some(Reached {
         count,
         number: 0,
         at: 0,
         first: None,
-        sound: is_count(count),
-    }
+    })
 }
 
-// One fragment more.
-pub(crate) fn follow(s: Reached, f: Proposed, lent: Lent) -> Reached
+// One fragment more, where it is as asked.
+#[tactic(auto, unfolding(crate::specs::PrivateFollowing::taken_by))]
+fn follow(s: Reached, f: Proposed, lent: Lent) -> Option<Reached>
     ensures { result ≡ taken_by lent.entry.message.now lent.entry.payloads.now s f }
 {
     let first = s.first.unwrap_or(f);
-    let mut next = s;
-    if is_sound(s, first, f, lent) {
-        next.number = numbers::wide(f.number) + 1;
-        next.at = s.at + f.length;
-        next.first = Some(first);
-        return next;
+    if !is_headed(s, first, f) || !is_carried(s, f, lent) {
+        return None;
     }
-    next.sound = false;
-    next
+    Some(Reached {
+        number: numbers::wide(f.number) + 1,
+        at: s.at + f.length,
+        first: Some(first),
+        ..s
+    })
 }
 
-// Do the fragments end where a message of this size does?
-pub(crate) fn is_whole(s: Reached, size: usize) -> bool
-    ensures { result ≡ is_whole s size }
+// How far all of them go. One that isn't as asked ends it.
+fn followed(fragments: &[Proposed], lent: Lent) -> Option<Reached>
+    ensures { result ≡ all_followed lent.entry.message.now lent.entry.payloads.now fragments.now }
 {
-    s.sound && s.at == size
+    let mut reached = begin(fragments.len())?;
+    for fragment in fragments {
+        reached = follow(reached, *fragment, lent)?;
+    }
+    Some(reached)
+}
+
+// Are the fragments a cutting of the message (rule M3)? They end where it does.
+pub(crate) fn is_cutting(fragments: &[Proposed], lent: Lent) -> bool
+    ensures { result ≡ is_cutting_lem lent.entry.message.now lent.entry.payloads.now fragments.now }
+{
+    followed(fragments, lent).is_some_and(|reached| reached.at == lent.message.len())
 }

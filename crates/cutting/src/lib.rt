@@ -11,7 +11,7 @@ ghost use Rattle.walking.specs.Walk.{payload_answered};
 ghost use Rattle.cutting.specs.Greedy.{cut_into, with_ends};
 
 use filling::plan;
-use following::{Lent, begin, follow, is_whole, whole};
+use following::{Lent, is_cutting, whole};
 use numbers::Refusal;
 use walking::PayloadError;
 
@@ -36,12 +36,7 @@ pub fn check(message: &[u8], fragments: &[Proposed], payloads: &[u8]) -> Result<
     ensures { payload_answered result ≡ check_of message.now fragments.now payloads.now }
 {
     whole(message)?;
-    let lent = Lent { message, payloads };
-    let mut reached = begin(fragments.len());
-    for fragment in fragments {
-        reached = follow(reached, *fragment, lent);
-    }
-    Ok(is_whole(reached, message.len()))
+    Ok(is_cutting(fragments, Lent { message, payloads }))
 }
 
 // Cuts a message (rule M5): fills each fragment as far as whole TLVs go, and writes to the list where each one ends,
