@@ -41,17 +41,16 @@ pub fn write_value(item: Record, out: &mut [u8]) -> Result<usize, Refusal>
     if !values::is_readable(item) {
         return Err(Refusal::NeverRead);
     }
-    let value = values::value_of(item);
-    let bytes = value.as_slice();
-    if out.len() < bytes.len() {
+    let size = size_of(item);
+    if out.len() < size {
         return Err(Refusal::NoRoom);
     }
-    out[..bytes.len()].copy_from_slice(bytes);
-    Ok(bytes.len())
+    values::put_value(item, out);
+    Ok(size)
 }
 
-// Writes the TLV of a record at the start of `out` (rules O1 and O3). Refusal 8 never comes, because no record's value
-// has more than 13 bytes.
+// Writes the TLV of a record at the start of `out` (rules O1 and O3). The value goes into the room after the first
+// three bytes. Refusal 8 never comes, because no value of a record has more than 13 bytes.
 #[tactic(auto, unfolding(crate::specs::Writing::record_size_lem))]
 pub fn write_record(item: Record, out: &mut [u8]) -> Result<usize, Refusal>
     ensures answer { answered result ≡ record_size_lem item (length out.old) }
@@ -60,6 +59,7 @@ pub fn write_record(item: Record, out: &mut [u8]) -> Result<usize, Refusal>
     if !values::is_readable(item) {
         return Err(Refusal::NeverRead);
     }
-    let value = values::value_of(item);
-    framing::write_tlv(records::code_of(item), value.as_slice(), out)
+    let size = framing::write_header(records::code_of(item), size_of(item), out)?;
+    values::put_value(item, &mut out[3..]);
+    Ok(size)
 }

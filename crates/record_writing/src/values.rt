@@ -79,6 +79,16 @@ impl Value {
     }
 }
 
+// Copies the value of a record to the start of `out`, which has room for it.
+pub(crate) fn put_value(item: Record, out: &mut [u8])
+    requires { length (bytes_of item) ≤ length out.old }
+    ensures { out.new ≡ bytes_of item ++ drop (length (bytes_of item)) out.old }
+{
+    let value = value_of(item);
+    let bytes = value.as_slice();
+    out[..bytes.len()].copy_from_slice(bytes);
+}
+
 pub(crate) fn value_of(item: Record) -> Value
     ensures { result ≡ bytes_of item }
 {
