@@ -6,7 +6,7 @@
 mod decimal;
 mod line;
 
-ghost use Rattle.std.specs.Prelude.{◌≡◌, ◌==◌, ◌<◌, ◌≤◌, length, slice_index, slice_range, MatchOption};
+ghost use Rattle.std.specs.Prelude.{◌≡◌, ◌==◌, ◌<◌, ◌≤◌, length, slice_index, slice_range};
 ghost use Rattle.std.specs.List.{position_or_len, position};
 
 pub use decimal::{byte_of, number};
@@ -123,11 +123,15 @@ pub fn line_in(input: &[u8], a: usize, e: usize) -> &[u8]
     line
 }
 
-// A line that has n bytes, where those are not too many.
-pub fn command_of(line: &[u8], n: usize) -> Option<&[u8]>
-    ensures { MatchOption result (66000 < n) (λ command. command.now ≡ line.now) }
+// A line that has n bytes, or an empty one where those are too many.
+pub fn command_of(line: &[u8], n: usize) -> &[u8]
+    ensures within { length result.now ≤ length line.now }
+    ensures whole { n ≤ 66000 → result.now ≡ line.now }
 {
-    if n <= MOST { Some(line) } else { None }
+    if MOST < n {
+        return &line[..0];
+    }
+    line
 }
 
 // Where the line that starts at `at` ends among the first `have` bytes, or `have` where its end is not among them.

@@ -101,7 +101,10 @@ impl Desk {
         let given = Line::of_command(line);
         let (part, field) = part_of(given.letter())?;
         let n = given.decode(field, data);
-        let command = command_lines::command_of(line, n)?;
+        let command = command_lines::command_of(line, n);
+        if command.is_empty() {
+            return None;
+        }
         self.answer_as(part, &Line::of_command(command), &data[..n]);
         Some(())
     }
