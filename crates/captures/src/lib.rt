@@ -104,7 +104,10 @@ pub fn check(file: &[u8]) -> Result<FrameCount, Refusal>
     let mut frames = 0;
     let mut others = 0;
     loop {
-        let found = step(file, at)?;
+        let found = match step(file, at) {
+            Ok(found) => found,
+            Err(refusal) => return Err(refusal),
+        };
         match found {
             Reached::FileEnd => {
                 return Ok(FrameCount {

@@ -26,7 +26,8 @@ fn is_tlvs(payload: &[u8]) -> bool
 {
     match whole(payload) {
         Ok(()) => 0 < payload.len(),
-        Err(_) => false,
+        Err(PayloadError::Unwalked(_)) => false,
+        Err(PayloadError::Refused(_)) => false,
     }
 }
 

@@ -203,8 +203,10 @@ pub fn find_in_payload(payload: &[u8], code: u8, from: usize) -> Result<Sought, 
     if !kinds::is_kind(code) {
         return Err(PayloadError::Refused(Refusal::UnknownKind));
     }
-    walking::walk(payload)?;
-    search_on(payload, code, 0, 0, from)
+    match walking::walk(payload) {
+        Ok(_) => search_on(payload, code, 0, 0, from),
+        Err(stopped) => Err(PayloadError::Unwalked(stopped)),
+    }
 }
 
 // Goes on from an answer, by its `next` and its `looked` (rule F5): the next readable TLV of the kind. It steps on from

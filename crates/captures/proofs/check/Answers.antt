@@ -1,5 +1,4 @@
 -- `check` meets its contract: what the loop keeps is `Counting`, and what is left of the file falls.
-use Rattle.std.proofs.lemmas.Result.{err_from_is_err_and}
 use mathlib.Core.Path.{sym, ap, ◌∙◌}
 use native.Mathlib.Omega.{arith}
 use Rattle.numbers.specs.Numbers.{gives}
@@ -11,36 +10,34 @@ use Rattle.captures.proofs.check.Goals as goal
 pub loop-found-init : goal.loop-found-init
 loop-found-init c = begins _
 
-pub returns-in_err-found : goal.returns-in_err-found
-returns-in_err-found c =
-    let p = err_from_is_err_and c.from_residual.result c.from_residual.ensures.1 in
-    rw (p.1, p.2) (refused _ _ _ _ c.loop-found.invariant _ _ c.in_err-found.ensures)
+pub returns-in-Err : goal.returns-in-Err
+returns-in-Err c = refused _ _ _ _ c.loop-found.invariant _ _ c.in-Err.ensures
 
 pub returns-in-FileEnd : goal.returns-in-FileEnd
-returns-in-FileEnd c = ends _ _ _ _ c.loop-found.invariant (ap (λ (r : Reached). gives (found_of r)) (sym c.in-FileEnd.is) ∙ c.in_ok-found.ensures)
+returns-in-FileEnd c = ends _ _ _ _ c.loop-found.invariant (ap (λ (r : Reached). gives (found_of r)) (sym c.in-FileEnd.is) ∙ c.in-Ok.ensures)
 
 pub overflow_add-frames : goal.overflow_add-frames
 overflow_add-frames c =
-    let o = forward _ _ _ _ (ap (λ (r : Reached). gives (found_of r)) (sym c.in-Ours.is) ∙ c.in_ok-found.ensures) in
+    let o = forward _ _ _ _ (ap (λ (r : Reached). gives (found_of r)) (sym c.in-Ours.is) ∙ c.in-Ok.ensures) in
     omega (arith, o.0, o.1, c.loop-found.invariant.slow)
 
 pub loop-found-smaller-in-Ours : goal.loop-found-smaller-in-Ours
 loop-found-smaller-in-Ours c =
-    let o = forward _ _ _ _ (ap (λ (r : Reached). gives (found_of r)) (sym c.in-Ours.is) ∙ c.in_ok-found.ensures) in
+    let o = forward _ _ _ _ (ap (λ (r : Reached). gives (found_of r)) (sym c.in-Ours.is) ∙ c.in-Ok.ensures) in
     omega (arith, o.0, o.1)
 
 pub loop-found-preserved-in-Ours : goal.loop-found-preserved-in-Ours
-loop-found-preserved-in-Ours c = ours_next _ _ _ _ c.loop-found.invariant _ _ (ap (λ (r : Reached). gives (found_of r)) (sym c.in-Ours.is) ∙ c.in_ok-found.ensures)
+loop-found-preserved-in-Ours c = ours_next _ _ _ _ c.loop-found.invariant _ _ (ap (λ (r : Reached). gives (found_of r)) (sym c.in-Ours.is) ∙ c.in-Ok.ensures)
 
 pub overflow_add-others : goal.overflow_add-others
 overflow_add-others c =
-    let o = forward _ _ _ _ (ap (λ (r : Reached). gives (found_of r)) (sym c.in-Other.is) ∙ c.in_ok-found.ensures) in
+    let o = forward _ _ _ _ (ap (λ (r : Reached). gives (found_of r)) (sym c.in-Other.is) ∙ c.in-Ok.ensures) in
     omega (arith, o.0, o.1, c.loop-found.invariant.slow)
 
 pub loop-found-smaller : goal.loop-found-smaller
 loop-found-smaller c =
-    let o = forward _ _ _ _ (ap (λ (r : Reached). gives (found_of r)) (sym c.in-Other.is) ∙ c.in_ok-found.ensures) in
+    let o = forward _ _ _ _ (ap (λ (r : Reached). gives (found_of r)) (sym c.in-Other.is) ∙ c.in-Ok.ensures) in
     omega (arith, o.0, o.1)
 
 pub loop-found-preserved : goal.loop-found-preserved
-loop-found-preserved c = other_next _ _ _ _ c.loop-found.invariant _ (ap (λ (r : Reached). gives (found_of r)) (sym c.in-Other.is) ∙ c.in_ok-found.ensures)
+loop-found-preserved c = other_next _ _ _ _ c.loop-found.invariant _ (ap (λ (r : Reached). gives (found_of r)) (sym c.in-Other.is) ∙ c.in-Ok.ensures)
