@@ -180,6 +180,35 @@ def public_functions(crate):
     return found
 
 
+def in_words(kind):
+    """A type as part of a name: of a Result what it gives."""
+    kind = re.sub(r"^Result<(\w+),.*$", r"\1", kind)
+    return re.sub(r"(?<!^)(?=[A-Z])", "_", kind).lower()
+
+
+def conversions(crate):
+    """The public conversions, `impl From`, each as a function under the name of its two types; by name. Its contract is
+    the law that it gives. What a type that is not public is made of, or made into, no caller sees."""
+    found = {}
+    own = {}
+    for path in sorted(glob.glob("crates/*/src/**/*.rt", recursive=True)):
+        for seen, name in re.findall(r"(?m)^(pub(?:\(crate\))? |)(?:struct|enum) (\w+)", text(path)):
+            if path.startswith(f"crates/{crate}/") or name not in own:
+                own[name] = seen == "pub "
+    for path in sorted(glob.glob(f"crates/{crate}/src/**/*.rt", recursive=True)):
+        source = text(path)
+        for m in re.finditer(r"(?m)^impl From<(.+)> for (\w+) \{$", source):
+            if not all(own.get(kind, True) for kind in re.findall(r"\w+", f"{m.group(1)} {m.group(2)}")):
+                continue
+            name = f"{in_words(m.group(2))}_from_{in_words(m.group(1))}"
+            law = re.compile(r"\s*ghost from_gives = \{ λ (\w+) (\w+)\. (.*) \};\n").match(source, m.end())
+            if not law:
+                raise ValueError(f"{path}: the law of {name} can't be read")
+            given, made, says = law.groups()
+            found[name] = Function(name, path, [(given, "value")], "value", [re.sub(rf"\b{made}\b", "result", says)])
+    return found
+
+
 def tokens(term):
     """A term's words: brackets and commas stand alone, and so do the dot after what a λ binds and each `.field` that
     follows a variable or a bracket. A name with its module in front, as `Way.Waits`, is a word."""

@@ -17,6 +17,9 @@ firmness = record {
   association_record = λ association. by_answer _;
   capability_record = λ capability. by_answer _;
   write_meant = λ meant out. both _ _ (by_answer _) (by_equation _);
+  ashlar_query_from_link_metric_query = λ query. by_equation _;
+  ashlar_association_from_client_association = λ association. by_equation _;
+  ashlar_capability_from_profile2_ap_capability = λ capability. by_equation _;
 }
 
 pub claims : Claims

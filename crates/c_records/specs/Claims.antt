@@ -6,6 +6,9 @@ use Rattle.numbers.specs.Firmness.{Firm}
 use Rattle.numbers.specs.declared.Refusal.{Refusal}
 use Rattle.framing.specs.Tlv.{read_tlv_lem, value_in_lem, write_size, tlv_bytes, leaves}
 use Rattle.records.specs.declared.MacAddr.{MacAddr}
+use Rattle.records.specs.declared.LinkMetricQuery.{LinkMetricQuery}
+use Rattle.records.specs.declared.ClientAssociation.{ClientAssociation}
+use Rattle.records.specs.declared.Profile2ApCapability.{Profile2ApCapability}
 use Rattle.records.specs.declared.RecordRead.{RecordRead}
 use Rattle.records.specs.declared.RecordKind.{RecordKind}
 use Rattle.records.specs.declared.Record.{Record}
@@ -15,11 +18,11 @@ use Rattle.c_records.specs.declared.AshlarQuery.{AshlarQuery}
 use Rattle.c_records.specs.declared.AshlarAssociation.{AshlarAssociation}
 use Rattle.c_records.specs.declared.AshlarCapability.{AshlarCapability}
 use Rattle.c_records.specs.declared.Shape.{Shape}
-use Rattle.c_records.specs.Shapes.{address_fields, byte_fields, query_fields, association_fields, capability_fields}
+use Rattle.c_records.specs.Shapes.{crossed_query, crossed_association, crossed_capability, address_fields, byte_fields, query_fields, association_fields, capability_fields}
 use Rattle.c_records.specs.Reading.{ShapeRead, read_in_shape, address_numbers_lem, byte_numbers_lem, query_numbers_lem, association_numbers_lem, capability_numbers_lem}
 use Rattle.c_records.specs.Writing.{address_record_lem, byte_record_lem, query_record_lem, association_record_lem, capability_record_lem, meant_size, meant_bytes}
 
--- Rule A4: for each public call, by its name, any two answers that its contract allows are one, with what the room
+-- Rule A4: for each public call, by its name, and each conversion, by its two types, any two answers that its contract allows are one, with what the room
 -- holds afterwards.
 pub record Firmness : Type 0 where
   pub address_numbers : (answer : Result RecordRead Refusal) (length : ℕ)
@@ -40,6 +43,11 @@ pub record Firmness : Type 0 where
   pub write_meant : (meant : Result Record Refusal) (out : List ℕ) → Firm {A = Result ℕ Refusal × List ℕ} (λ o.
       (answered o.0 ≡ meant_size (answered meant) (length out))
       × (o.1 ≡ leaves (meant_size (answered meant) (length out)) (meant_bytes (answered meant)) out))
+  pub ashlar_query_from_link_metric_query : (query : LinkMetricQuery) → Firm (λ r. r ≡ crossed_query query)
+  pub ashlar_association_from_client_association : (association : ClientAssociation)
+      → Firm (λ r. r ≡ crossed_association association)
+  pub ashlar_capability_from_profile2_ap_capability : (capability : Profile2ApCapability)
+      → Firm (λ r. r ≡ crossed_capability capability)
 
 -- What a C caller means is written as the first bytes of the value s, under this code, unless 7 refuses it.
 pub record WrittenOf (code : ℕ) (s : List ℕ) (consumed : ℕ) (meant : Answer Record) : Type 0 where

@@ -10,6 +10,8 @@ firmness = record {
   applied_numbers = λ size taken. by_equation _;
   where_numbers = λ place. by_equation _;
   row_numbers = λ seat. by_equation _;
+  ashlar_heard_from_heard = λ heard. by_equation _;
+  ashlar_heard_from_refusal = λ refusal. by_equation _;
 }
 
 pub claims : Claims

@@ -35,6 +35,9 @@ firmness = record {
   rx_pair_at = λ s at. by_equation _;
   put_tx_pair = λ pair out. both _ _ (by_answer _) (by_equation _);
   put_rx_pair = λ pair out. both _ _ (by_answer _) (by_equation _);
+  u8_from_link_kind = λ kind. by_equation _;
+  ashlar_tx_pair_from_tx_pair = λ read. by_equation _;
+  ashlar_rx_pair_from_rx_pair = λ read. by_equation _;
 }
 
 same_report : AnyOrder

@@ -1,6 +1,6 @@
 -- What is claimed of this crate's calls and definitions; proofs/Claims.antt proves it.
-use Rattle.std.specs.Prelude.{◌≡◌, true, ℕ, length, take, drop, Result}
-use mathlib.Core.List.{List, [], ◌∷◌, ◌++◌, flatten, Permᴰ}
+use Rattle.std.specs.Prelude.{◌≡◌, true, ℕ, [], length, take, drop, Result}
+use mathlib.Core.List.{List, ◌∷◌, ◌++◌, flatten, Permᴰ}
 use Rattle.numbers.specs.Bytes.{AllBytes}
 use Rattle.numbers.specs.Numbers.{Answer, gives, answered}
 use Rattle.numbers.specs.Firmness.{Firm}
@@ -9,17 +9,20 @@ use Rattle.layouts.specs.declared.Span.{Span}
 use Rattle.layouts.specs.Access.{locate_entry}
 use Rattle.numbers.specs.declared.Refusal.{Refusal}
 use Rattle.framing.specs.Tlv.{leaves}
+use Rattle.fields.specs.Answers.{crossing}
 use Rattle.fields.specs.Writing.{put_size, made_bytes}
 use Rattle.links.specs.declared.LinkKind.{LinkKind}
 use Rattle.links.specs.declared.LinkKind.TheVariants.{Tx, Rx}
 use Rattle.links.specs.declared.LinkReport.{LinkReport}
+use Rattle.links.specs.declared.TxPair.{TxPair}
+use Rattle.links.specs.declared.RxPair.{RxPair}
 use Rattle.links.specs.declared.AshlarTxPair.{AshlarTxPair}
 use Rattle.links.specs.declared.AshlarRxPair.{AshlarRxPair}
-use Rattle.links.specs.Pairs.{link_code, pairs_in, tx_pair_of, rx_pair_of, tx_numbers_lem, tx_pair_at_lem, rx_numbers_lem, rx_pair_at_lem}
+use Rattle.links.specs.Pairs.{link_code, pairs_in, tx_pair_of, rx_pair_of, tx_fields_lem, rx_fields_lem, tx_numbers_lem, tx_pair_at_lem, rx_numbers_lem, rx_pair_at_lem}
 use Rattle.links.specs.Writing.{tx_bytes, rx_bytes, tx_made, rx_made}
 use Rattle.links.specs.Reports.{report_if_few, report_of, some_value_gives_lem, merged}
 
--- Rule A4, for each public call by its name: any two answers that its contract allows are one.
+-- Rule A4, for each public call by its name, and each conversion by its two types: any two answers that its contract allows are one.
 pub record Firmness : Type 0 where
   pub report : (kind : LinkKind) (value : List ℕ) → Firm (λ r. answered r ≡ report_of kind value)
   pub merge : (one other : LinkReport) → Firm (λ r. answered r ≡ merged one other)
@@ -35,6 +38,11 @@ pub record Firmness : Type 0 where
       → Firm {A = Result ℕ Refusal × List ℕ} (λ o.
       (answered o.0 ≡ put_size (rx_made pair) (length out))
       × (o.1 ≡ leaves (put_size (rx_made pair) (length out)) (made_bytes (rx_made pair)) out))
+  pub u8_from_link_kind : (kind : LinkKind) → Firm (λ code. code ≡ link_code kind)
+  pub ashlar_tx_pair_from_tx_pair : (read : Result TxPair Refusal)
+      → Firm (λ numbers. numbers ≡ crossing tx_numbers_lem (tx_fields_lem []) (answered read))
+  pub ashlar_rx_pair_from_rx_pair : (read : Result RxPair Refusal)
+      → Firm (λ numbers. numbers ≡ crossing rx_numbers_lem (rx_fields_lem []) (answered read))
 
 -- Rules Q3 and E11: at the start of the entry that a number leads to stands the pair with this number.
 pub record FoundAs {A B : Type 0} (numbers : ℕ → A → B) (asked : Answer A) (at : B) : Type 0 where

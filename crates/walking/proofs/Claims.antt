@@ -16,6 +16,8 @@ firmness = record {
   step = λ p at. by_telling stepped_of stepped_one (step_at p at);
   walk = λ p. by_answer_at (counted (walk_of p));
   walk_into = λ list p. both _ _ (by_answer_at (listed (length list) (walk_of p))) (by_equation (filled (listed (length list) (walk_of p)) (walk_of p).items list));
+  payload_error_from_unwalked = λ stopped. by_equation _;
+  payload_error_from_refusal = λ refusal. by_equation _;
 }
 
 pub claims : Claims

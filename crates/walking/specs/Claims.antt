@@ -7,19 +7,23 @@ use Rattle.framing.specs.declared.TlvRead.{TlvRead}
 use Rattle.framing.specs.Tlv.{read_tlv_lem, tlv_bytes}
 use Rattle.framing.specs.Claims.{number_in}
 use Rattle.numbers.specs.Bytes.{AllBytes}
+use Rattle.numbers.specs.declared.Refusal.{Refusal}
+use Rattle.walking.specs.declared.PayloadError.{PayloadError}
 use Rattle.walking.specs.declared.Tlv.{Tlv}
 use Rattle.walking.specs.declared.Unwalked.{Unwalked}
 use Rattle.walking.specs.declared.WalkCount.{WalkCount}
 use Rattle.walking.specs.Pieces.{pieces}
 use Rattle.walking.specs.Walk.{is_marker_lem, answered_at, stepped_of, step_at, walk_of, counted, no_tlv, offset_at, listed, filled}
 
--- Rule A4, for each public call by its name: any two outcomes that its contract allows are one.
+-- Rule A4, for each public call by its name, and each conversion by its two types: any two outcomes that its contract allows are one.
 pub record Firmness : Type 0 where
   pub step : (p : List ℕ) (at : ℕ) → Firm (λ s. stepped_of s ≡ step_at p at)
   pub walk : (p : List ℕ) → Firm (λ w. answered_at w ≡ counted (walk_of p))
   -- the answer, and what the list holds
   pub walk_into : (list : List Tlv) (p : List ℕ)
       → Firm {A = Result WalkCount Unwalked × List Tlv} (λ o. (answered_at o.0 ≡ listed (length list) (walk_of p)) × (o.1 ≡ filled (listed (length list) (walk_of p)) (walk_of p).items list))
+  pub payload_error_from_unwalked : (stopped : Unwalked) → Firm (λ error. error ≡ PayloadError.Unwalked stopped)
+  pub payload_error_from_refusal : (refusal : Refusal) → Firm (λ error. error ≡ PayloadError.Refused refusal)
 
 -- the TLV of a record, with its value from the payload
 abbrev pub tlv_of_lem : List ℕ → Tlv → List ℕ
