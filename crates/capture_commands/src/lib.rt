@@ -1,10 +1,12 @@
 // The commands of captures (part G of docs/RULES.md): H and F, which write, and R, which reads.
 #![tactic(auto)]
 
-ghost use Rattle.std.specs.Prelude.{◌≤◌, IfSome};
+ghost use Rattle.std.specs.Prelude.{◌≡◌, ◌≤◌, ◌++◌, take, drop, IfSome};
+ghost use Rattle.numbers.specs.Numbers.{answered};
+ghost use Rattle.captures.specs.Reading.{frames_counted, capture_in, with_room_lem, frames_left};
 
 use answer_lines::Answers;
-use captures::Frame;
+use captures::{Frame, FrameCount};
 use command_lines::Line;
 use numbers::Refusal;
 use pushing::Fragment;
@@ -61,11 +63,19 @@ fn put_read(file: &[u8], f: Frame, text: &mut Answers) {
     table_commands::put_fragment(fragment, captures::payload(file, f), text);
 }
 
+// Reads a capture into the first `room` elements of the list.
+fn list_frames(list: &mut [Frame; LISTED], room: usize, file: &[u8]) -> Result<FrameCount, Refusal>
+    requires { room ≤ 40 }
+    ensures { (answered result ≡ frames_counted (with_room_lem room (capture_in file.now)))
+        × (list.new ≡ frames_left (with_room_lem room (capture_in file.now)) (take room list.old) ++ drop room list.old) }
+{
+    captures::frames_into(&mut list[..room], file)
+}
+
 // R: the frames of a capture, in a list of so many elements (rule G8), and how many frames were passed over.
 fn put_capture(line: &Line, file: &[u8], text: &mut Answers) -> Result<(), Refusal> {
     let mut list = [captures::no_frame(); LISTED];
-    let room = line.size(1).min(LISTED);
-    let count = captures::frames_into(&mut list[..room], file)?;
+    let count = list_frames(&mut list, line.size(1).min(LISTED), file)?;
     text.put_ok();
     text.put_next(count.handed as u64);
     text.put_next(count.passed_over as u64);

@@ -1,4 +1,7 @@
 // The commands of the walk: k and g, and L into a list of a stated length.
+ghost use Rattle.std.specs.Prelude.{◌≡◌, ◌≤◌, ◌++◌, take, drop};
+ghost use Rattle.walking.specs.Walk.{answered_at, walk_of, listed, filled};
+
 use answer_lines::Answers;
 use walking::{Tlv, Unwalked, WalkCount};
 
@@ -15,6 +18,15 @@ const UNFILLED: [Tlv; LISTED] = [Tlv {
     offset: usize::MAX,
 }; LISTED];
 
+// Walks the payload into the first `room` elements of the list (rule W5).
+fn list_tlvs(list: &mut [Tlv; LISTED], room: usize, payload: &[u8]) -> Result<WalkCount, Unwalked>
+    requires { room ≤ 498 }
+    ensures { (answered_at result ≡ listed room (walk_of payload.now))
+        × (list.new ≡ filled (listed room (walk_of payload.now)) (walk_of payload.now).items (take room list.old) ++ drop room list.old) }
+{
+    walking::walk_into(&mut list[..room], payload)
+}
+
 // TLVs of a payload, one after the other, and where the next one stands. If there is none, that is the payload's end,
 // after the padding.
 #[derive(Clone, Copy)]
@@ -27,10 +39,10 @@ struct Part<'a> {
 // of the first TLV that has no element (rule W5).
 fn first_part<'a>(list: &'a mut [Tlv; LISTED], bytes: &[u8]) -> Part<'a> {
     let mut end = bytes.len();
-    let mut walked = walking::walk_into(list, bytes);
+    let mut walked = list_tlvs(list, LISTED, bytes);
     if let Err(unwalked) = walked {
         end = unwalked.at;
-        walked = walking::walk_into(list, command_lines::part(bytes, 0, end));
+        walked = list_tlvs(list, LISTED, command_lines::part(bytes, 0, end));
     }
     let count = walked.map_or(0, |walked| walked.count);
     Part {
@@ -97,8 +109,7 @@ pub(crate) fn walk(data: &[u8], text: &mut Answers) -> Result<(), Unwalked> {
 // The same from what a list of so many elements holds after the walk; 14 is among the refusals.
 fn put_listed(data: &[u8], room: usize, text: &mut Answers) -> Result<(), Unwalked> {
     let mut list = UNFILLED;
-    let lent = room.min(LISTED);
-    let walked = walking::walk_into(&mut list[..lent], data)?;
+    let walked = list_tlvs(&mut list, room.min(LISTED), data)?;
     let tlvs = &list[..walked.count.min(LISTED)];
     put_counts(walked, text);
     if walked.count <= SHOWN {
