@@ -1,12 +1,12 @@
 // Texts and names in quotes.
 use answer_lines::Answers;
-use std::fmt::Write;
 
 // Bytes that a terminal shows as they are stand so; any other one in hex.
 fn put_shown(text: &mut Answers, b: u8) {
     match b {
         b'"' | b'\\' | 0..=0x1F | 0x7F..=0xFF => {
-            let _ = write!(text, "\\x{b:02x}");
+            text.put(b"\\x");
+            text.put_hex(u64::from(b), 2);
         }
         _ => text.put_byte(b),
     }

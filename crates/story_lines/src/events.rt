@@ -1,5 +1,5 @@
 // What the events of a message do (rule H7), and where each station is (rule H9).
-use crate::tlv_names::TlvName;
+use crate::tlv_names::put_tlv_name;
 use crate::tlvs::{TlvRead, tlvs_of};
 use answer_lines::Answers;
 use field_lines::Address;
@@ -99,9 +99,10 @@ pub(crate) fn put_events(rt: &impl Print, text: &mut Answers, message: &[u8], se
 // What each TLV of a message says, by its fields.
 pub(crate) fn put_fields(rt: &impl Print, text: &mut Answers, message: &[u8]) {
     for TlvRead { tlv, value } in tlvs_of(message) {
-        let name = TlvName(tlv.tlv_type);
         text.with_room(rt);
-        let _ = write!(text, "    {name}:");
+        text.put(b"    ");
+        put_tlv_name(text, tlv.tlv_type);
+        text.put(b":");
         field_lines::put_said(rt, text, tlv.tlv_type, value);
     }
 }

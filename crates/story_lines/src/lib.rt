@@ -21,7 +21,7 @@ use stations::Stations;
 use std::fmt;
 use std::fmt::Write;
 use table::Table;
-use tlv_names::TlvName;
+use tlv_names::put_tlv_name;
 use tlvs::{TlvRead, tlvs_of};
 
 // How many messages and losses some lines say (rule H9).
@@ -181,12 +181,11 @@ fn put_tlvs(rt: &impl Print, text: &mut Answers, message: &[u8]) {
         text.put(b"nothing");
     }
     for TlvRead { tlv, value: _ } in tlvs_of(message) {
-        let name = TlvName(tlv.tlv_type);
         text.with_room(rt);
         if 0 < tlv.offset {
             text.put(b", ");
         }
-        let _ = write!(text, "{name}");
+        put_tlv_name(text, tlv.tlv_type);
     }
 }
 

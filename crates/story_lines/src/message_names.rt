@@ -9,7 +9,7 @@ impl fmt::Display for MessageName {
     fn fmt<W: fmt::Write>(&self, f: &mut fmt::Formatter<W>) -> fmt::Result {
         let message_type = self.0;
         match name_of(message_type) {
-            Some(name) => write!(f, "{name}"),
+            Some(name) => f.write_str(name),
             None => write!(f, "message type 0x{message_type:04x}"),
         }
     }

@@ -1,16 +1,14 @@
 // The names of TLVs (IEEE 1905.1, 6.4, IEEE 1905.1a, and Multi-AP, 17.2).
-use std::fmt;
+use answer_lines::Answers;
 
-// The name of a TLV type, or the number of one that has no name here.
-#[derive(Clone, Copy)]
-pub(crate) struct TlvName(pub u8);
-
-impl fmt::Display for TlvName {
-    fn fmt<W: fmt::Write>(&self, f: &mut fmt::Formatter<W>) -> fmt::Result {
-        let tlv_type = self.0;
-        match name_of(tlv_type) {
-            Some(name) => write!(f, "{name}"),
-            None => write!(f, "TLV 0x{tlv_type:02x}"),
+// The name of a TLV type, or the number of one that has no name here. A message may have hundreds of TLVs: so a name goes
+// straight to the text, and no format stands in between.
+pub(crate) fn put_tlv_name(text: &mut Answers, tlv_type: u8) {
+    match name_of(tlv_type) {
+        Some(name) => text.put(name.as_bytes()),
+        None => {
+            text.put(b"TLV 0x");
+            text.put_hex(u64::from(tlv_type), 2);
         }
     }
 }
