@@ -34,7 +34,15 @@ fn digit(order: u64, k: u64) -> u64
 fn turns(order: u64, n: u64, sender: u64) -> usize
     ensures { result ≤ n }
 {
-    (0..n).filter(|k| digit(order, *k) == sender).count()
+    let mut rest = order;
+    let mut found = 0;
+    for _ in 0..n {
+        if rest % 3 == sender {
+            found += 1;
+        }
+        rest /= 3;
+    }
+    found
 }
 
 // An answer as a number, and the bytes of its message folded into it.
