@@ -188,22 +188,24 @@ def in_words(kind):
 
 def conversions(crate):
     """The public conversions, `impl From`, each as a function under the name of its two types; by name. Its contract is
-    the law that it gives. What a type that is not public is made of, or made into, no caller sees."""
-    found = {}
-    own = {}
+    the law that it gives. What a type that is not public is made of, or made into, no caller sees. One that can't be
+    read is an error, so that none is passed over."""
+    seen, found = {}, {}
     for path in sorted(glob.glob("crates/*/src/**/*.rt", recursive=True)):
-        for seen, name in re.findall(r"(?m)^(pub(?:\(crate\))? |)(?:struct|enum) (\w+)", text(path)):
-            if path.startswith(f"crates/{crate}/") or name not in own:
-                own[name] = seen == "pub "
+        for how, name in re.findall(r"(?m)^(pub(?:\(crate\))? |)(?:struct|enum) (\w+)", text(path)):
+            seen[name] = seen.get(name, False) or how == "pub "
     for path in sorted(glob.glob(f"crates/{crate}/src/**/*.rt", recursive=True)):
         source = text(path)
-        for m in re.finditer(r"(?m)^impl From<(.+)> for (\w+) \{$", source):
-            if not all(own.get(kind, True) for kind in re.findall(r"\w+", f"{m.group(1)} {m.group(2)}")):
+        read = list(re.finditer(r"(?m)^impl From<(.+)> for (\w+) \{$", source))
+        if len(read) != len(re.findall(r"(?m)^\s*impl\b[^{;]*\b(?:Try)?From<", source)):
+            raise ValueError(f"{path}: a conversion can't be read")
+        for m in read:
+            if not all(seen.get(kind, True) for kind in re.findall(r"\w+", f"{m.group(1)} {m.group(2)}")):
                 continue
             name = f"{in_words(m.group(2))}_from_{in_words(m.group(1))}"
             law = re.compile(r"\s*ghost from_gives = \{ λ (\w+) (\w+)\. (.*) \};\n").match(source, m.end())
-            if not law:
-                raise ValueError(f"{path}: the law of {name} can't be read")
+            if not law or name in found:
+                raise ValueError(f"{path}: the law of {name} can't be read, or another has its name")
             given, made, says = law.groups()
             found[name] = Function(name, path, [(given, "value")], "value", [re.sub(rf"\b{made}\b", "result", says)])
     return found
