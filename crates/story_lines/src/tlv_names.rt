@@ -1,8 +1,8 @@
 // The names of TLVs (IEEE 1905.1, 6.4, IEEE 1905.1a, and Multi-AP, 17.2).
 use answer_lines::Answers;
 
-// The name of a TLV type, or the number of one that has no name here. A message may have hundreds of TLVs: so a name goes
-// straight to the text, and no format stands in between.
+// The name of a TLV type, or the number of one that has no name here. A message may have hundreds of TLVs: so a name
+// goes straight to the text, and no format stands in between.
 pub(crate) fn put_tlv_name(text: &mut Answers, tlv_type: u8) {
     match name_of(tlv_type) {
         Some(name) => text.put(name.as_bytes()),
